@@ -1,0 +1,6 @@
+-- The cause of a failed call: the count of faults of the object that was handed in rose in that call.
+use Rattle.std.specs.Prelude.{ℕ, ◌+◌, ◌-◌, ◌^◌, ◌≤◌, min}
+
+-- A count went up, or stands at the greatest 64-bit number, above which it cannot go.
+abbrev pub Rose : ℕ → ℕ → Type 0
+Rose before now = min (before + 1) (2 ^ 64 - 1) ≤ now

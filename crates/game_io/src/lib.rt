@@ -1,0 +1,41 @@
+//! The outside as the core sees it: where bytes come from, where they go, and files.
+//!
+//! Each of `Source`, `Sink` and `Disk` has a count of faults that never falls, and may tell its contents.
+//! A call fails only where the count rose in it, and what an object tells changes only as the call says.
+//! The memory forms tell all that they hold and fail at the calls that they were told to; the adapters
+//! over std's writers and files tell nothing. It stands on `base`.
+#![tactic(auto)]
+
+mod disk;
+mod disk_error;
+mod failed;
+mod failing_call;
+mod file_disk;
+mod mem_disk;
+mod mem_sink;
+mod mem_source;
+mod schedule;
+mod sink;
+mod source;
+mod std_sink;
+mod stored_file;
+mod sure_disk;
+mod sure_sink;
+mod sure_source;
+#[cfg(test)]
+mod tests;
+
+pub use disk::Disk;
+pub use disk_error::DiskError;
+pub use failed::Failed;
+pub use failing_call::{FailingCall, Leaves};
+pub use file_disk::FileDisk;
+pub use mem_disk::MemDisk;
+pub use mem_sink::MemSink;
+pub use mem_source::MemSource;
+pub use sink::Sink;
+pub use source::Source;
+pub use std_sink::StdSink;
+pub use sure_disk::SureDisk;
+pub use sure_sink::SureSink;
+pub use sure_source::SureSource;

@@ -1,0 +1,95 @@
+ghost use Rattle.std.specs.Prelude.{◌≡◌, ℕ, List, [], ◌∷◌, Some, Option, OnOk, OnErr, IfSome, IfNone, IsSome, IsErr, Err};
+ghost use Rattle.std.specs.Option.{option_map};
+ghost use Rattle.game_io.specs.declared.disk_error.DiskError.TheVariants.{Failed};
+ghost use Rattle.game_io.specs.Disk.{Reads, Writes, OnFailed};
+ghost use Rattle.game_io.specs.Plan.{faults_of, leaves_at, called};
+ghost use Rattle.game_io.specs.Memory.{PlannedFiles, files_of};
+
+use crate::disk::Disk;
+use crate::disk_error::DiskError;
+use crate::failing_call::FailingCall;
+use crate::schedule::Schedule;
+use crate::sure_disk::SureDisk;
+use base::NoMemory;
+use std::alloc::Global;
+use std::marker::Model;
+
+/// Files in memory, and a disk in which chosen calls fail. Reads and writes are numbered together.
+#[derive(Drop)]
+pub struct MemDisk {
+    disk: SureDisk,
+    schedule: Schedule,
+}
+
+impl Model for MemDisk {
+    ghost Value = { PlannedFiles };
+
+    ghost view = { λ d. record { list = d.disk; plan = d.schedule } };
+}
+
+impl MemDisk {
+    /// No files, and the calls of `read_file` and `write_file` that are to fail.
+    pub fn new(alloc: Global, failing: Vec<FailingCall>) -> Self
+        ensures list { result.list ≡ [] }
+        ensures plan { result.plan ≡ record { calls = 0; failing = failing.items; unplanned = 0 } }
+    {
+        MemDisk {
+            disk: SureDisk::new(alloc),
+            schedule: Schedule::new(failing),
+        }
+    }
+
+    /// The bytes of the file of that name, where it is there.
+    pub fn file(&self, name: &str) -> Option<&[u8]>
+        ensures { option_map (λ bytes. bytes.now) result ≡ files_of self.now.list name.now }
+    {
+        self.disk.file(name)
+    }
+
+    /// Gives the file of that name these bytes. This counts as no call.
+    pub fn add(&mut self, alloc: Global, name: &str, bytes: &[u8]) -> Result<(), NoMemory>
+        ensures ok { OnOk result (self.new.list ≡ record { name = name.now; content = Some bytes.now } ∷ self.old.list) }
+        ensures err { OnErr result (self.new.list ≡ self.old.list) }
+        ensures plan { self.new.plan ≡ self.old.plan }
+    {
+        self.disk.add(alloc, name, bytes)
+    }
+}
+
+impl Disk for MemDisk {
+    ghost files = { λ d. Some (files_of d.list) };
+
+    ghost faults = { λ d. faults_of d.plan };
+
+    fn faults(&self) -> u64 {
+        self.schedule.faults()
+    }
+
+    fn read_file(&mut self, alloc: Global, name: &str, limit: u32) -> Result<Vec<u8>, DiskError>
+        ensures reads { Reads (Some (files_of self.old.list)) (Some (files_of self.new.list)) (faults_of self.old.plan) (faults_of self.new.plan) name.now limit result }
+        ensures planned { IsSome (leaves_at self.old.plan.calls self.old.plan.failing) → IsSome (files_of self.old.list name.now) → result ≡ Err Failed }
+        ensures other { IfNone (leaves_at self.old.plan.calls self.old.plan.failing) (OnFailed result ⊥) }
+        ensures plan { self.new.plan ≡ called self.old.plan }
+    {
+        let failing = self.schedule.next();
+        if failing.is_some() && self.disk.file(name).is_some() {
+            return Err(DiskError::Failed);
+        }
+        self.disk.read_file(alloc, name, limit)
+    }
+
+    fn write_file(&mut self, alloc: Global, name: &str, bytes: &[u8]) -> Result<(), DiskError>
+        ensures writes { Writes (Some (files_of self.old.list)) (Some (files_of self.new.list)) (faults_of self.old.plan) (faults_of self.new.plan) name.now bytes.now result }
+        ensures planned { IfSome (leaves_at self.old.plan.calls self.old.plan.failing) (λ _. IsErr result) }
+        ensures other { IfNone (leaves_at self.old.plan.calls self.old.plan.failing) (OnFailed result ⊥) }
+        ensures plan { self.new.plan ≡ called self.old.plan }
+    {
+        match self.schedule.next() {
+            None => self.disk.write_file(alloc, name, bytes),
+            Some(leaves) => match self.disk.leave(alloc, name, bytes, leaves) {
+                Ok(()) => Err(DiskError::Failed),
+                Err(_) => Err(DiskError::NoMemory),
+            },
+        }
+    }
+}

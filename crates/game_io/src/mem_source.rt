@@ -1,0 +1,58 @@
+ghost use Rattle.std.specs.Prelude.{◌≡◌, ℕ, List, Some, is_err, is_some};
+ghost use Rattle.game_io.specs.Source.{Takes};
+ghost use Rattle.game_io.specs.Plan.{faults_of, leaves_at, called};
+ghost use Rattle.game_io.specs.Memory.{PlannedBytes};
+
+use crate::failed::Failed;
+use crate::failing_call::FailingCall;
+use crate::schedule::Schedule;
+use crate::source::Source;
+use crate::sure_source::SureSource;
+use std::marker::Model;
+
+/// A source of given bytes in which chosen calls of `take` fail.
+#[derive(Drop)]
+pub struct MemSource {
+    source: SureSource,
+    schedule: Schedule,
+}
+
+impl Model for MemSource {
+    ghost Value = { PlannedBytes };
+
+    ghost view = { λ s. record { bytes = s.source; plan = s.schedule } };
+}
+
+impl MemSource {
+    /// A source of these bytes, and the calls of `take` that are to fail.
+    pub fn new(bytes: Vec<u8>, failing: Vec<FailingCall>) -> Self
+        ensures bytes { result.bytes ≡ bytes.items }
+        ensures plan { result.plan ≡ record { calls = 0; failing = failing.items; unplanned = 0 } }
+    {
+        MemSource {
+            source: SureSource::new(bytes),
+            schedule: Schedule::new(failing),
+        }
+    }
+}
+
+impl Source for MemSource {
+    ghost left = { λ s. Some s.bytes };
+
+    ghost faults = { λ s. faults_of s.plan };
+
+    fn faults(&self) -> u64 {
+        self.schedule.faults()
+    }
+
+    fn take(&mut self, into: &mut [u8]) -> Result<usize, Failed>
+        ensures takes { Takes (Some self.old.bytes) (Some self.new.bytes) (faults_of self.old.plan) (faults_of self.new.plan) into.new result }
+        ensures planned { is_err result ≡ is_some (leaves_at self.old.plan.calls self.old.plan.failing) }
+        ensures plan { self.new.plan ≡ called self.old.plan }
+    {
+        if self.schedule.next().is_some() {
+            return Err(Failed);
+        }
+        self.source.take(into)
+    }
+}

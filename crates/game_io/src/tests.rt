@@ -1,0 +1,191 @@
+//! Each call that fails in turn, and the adapters over a writer and over real files.
+use super::*;
+use std::alloc::{AllocError, Global};
+use std::io::Write;
+use std::test::Fail;
+use std::{env, fs, io, process};
+
+/// The one call of this number is to fail.
+fn failing(alloc: Global, call: u32, leaves: Leaves) -> Result<Vec<FailingCall>, AllocError> {
+    Ok(vec![in alloc; FailingCall { call, leaves }]?)
+}
+
+/// Puts `ab`, `cde` and `f`, and answers the count of faults.
+fn put_three(sink: &mut impl Sink) -> u64 {
+    for piece in ["ab", "cde", "f"] {
+        let _ = sink.put(piece.as_bytes());
+    }
+    sink.faults()
+}
+
+/// Takes two bytes at a time, five times.
+fn take_five(source: &mut impl Source, alloc: Global) -> Result<Vec<u8>, AllocError> {
+    let mut taken = Vec::new(alloc);
+    let mut room = [0u8; 2];
+    for _ in 0..5 {
+        if let Ok(count) = source.take(&mut room) {
+            taken.extend_from_slice(&room[..count])?;
+        }
+    }
+    Ok(taken)
+}
+
+/// The letter for what a call answered: `m` missing, `f` failed, `l` too long, `n` no memory, and `done` for `Ok`.
+fn letter<T: Drop>(answer: Result<T, DiskError>, done: char) -> char {
+    match answer {
+        Ok(_) => done,
+        Err(DiskError::Missing) => 'm',
+        Err(DiskError::Failed) => 'f',
+        Err(DiskError::TooLong) => 'l',
+        Err(DiskError::NoMemory) => 'n',
+    }
+}
+
+/// Writes `b`, and reads at most three bytes of `a`.
+fn write_and_read(disk: &mut impl Disk, alloc: Global) -> (char, char) {
+    let written = disk.write_file(alloc, "b", b"new");
+    let read = disk.read_file(alloc, "a", 3);
+    (letter(written, 'w'), letter(read, 'r'))
+}
+
+/// A disk with the files `a` and `b`, in which one call is to fail.
+fn failing_disk(alloc: Global, call: u32, leaves: Leaves) -> Result<MemDisk, AllocError> {
+    let mut disk = MemDisk::new(alloc, failing(alloc, call, leaves)?);
+    disk.add(alloc, "a", b"old")?;
+    disk.add(alloc, "b", b"before")?;
+    Ok(disk)
+}
+
+/// What the file `b` holds, or `none`.
+fn held(disk: &MemDisk) -> &[u8] {
+    match disk.file("b") {
+        Some(bytes) => bytes,
+        None => b"none",
+    }
+}
+
+#[test]
+fn chosen_puts_fail(rt: HostRuntime) -> Result<(), Fail> {
+    let rows = [
+        (0, Leaves::Old, "cdef"),
+        (1, Leaves::Nothing, "abf"),
+        (1, Leaves::Front(2), "abcdf"),
+        (2, Leaves::Front(9), "abcdef"),
+    ];
+    for (call, leaves, want) in rows {
+        let mut sink = MemSink::new(rt.alloc(), failing(rt.alloc(), call, leaves)?);
+        assert_eq!(rt; put_three(&mut sink), 1);
+        assert_eq!(rt; sink.bytes(), want.as_bytes());
+    }
+    assert_eq!(rt; put_three(&mut SureSink), 0);
+    Ok(())
+}
+
+#[test]
+fn chosen_takes_fail(rt: HostRuntime) -> Result<(), Fail> {
+    for call in 0..5 {
+        let bytes = b"abcde".to_vec(rt.alloc())?;
+        let mut source = MemSource::new(bytes, failing(rt.alloc(), call, Leaves::Old)?);
+        let taken = take_five(&mut source, rt.alloc())?;
+        assert_eq!(rt;
+            (taken.as_slice(), source.faults()),
+            (b"abcde".as_slice(), 1)
+        );
+    }
+    let mut source = SureSource::new(b"abcde".to_vec(rt.alloc())?);
+    let taken = take_five(&mut source, rt.alloc())?;
+    assert_eq!(rt;
+        (taken.as_slice(), source.faults()),
+        (b"abcde".as_slice(), 0)
+    );
+    Ok(())
+}
+
+#[test]
+fn chosen_calls_of_a_disk_fail(rt: HostRuntime) -> Result<(), Fail> {
+    let rows = [
+        (0, Leaves::Old, "before", ('f', 'r')),
+        (0, Leaves::Nothing, "none", ('f', 'r')),
+        (0, Leaves::Front(0), "", ('f', 'r')),
+        (0, Leaves::Front(2), "ne", ('f', 'r')),
+        (1, Leaves::Old, "new", ('w', 'f')),
+    ];
+    for (call, leaves, left, answers) in rows {
+        let mut disk = failing_disk(rt.alloc(), call, leaves)?;
+        assert_eq!(rt; write_and_read(&mut disk, rt.alloc()), answers);
+        assert_eq!(rt; held(&disk), left.as_bytes());
+        assert_eq!(rt; disk.faults(), 1);
+    }
+    Ok(())
+}
+
+#[test]
+fn a_sure_disk_answers_by_its_files(rt: HostRuntime) -> Result<(), Fail> {
+    let mut disk = SureDisk::new(rt.alloc());
+    assert_eq!(rt; write_and_read(&mut disk, rt.alloc()), ('w', 'm'));
+    disk.add(rt.alloc(), "a", b"four")?;
+    assert_eq!(rt; write_and_read(&mut disk, rt.alloc()), ('w', 'l'));
+    disk.add(rt.alloc(), "a", b"two")?;
+    assert_eq!(rt; write_and_read(&mut disk, rt.alloc()), ('w', 'r'));
+    Ok(())
+}
+
+/// A writer that takes two bytes at a time, and fails at one of its calls.
+#[derive(Drop)]
+struct Halting {
+    calls: u64,
+    fails_at: u64,
+}
+
+impl Halting {
+    fn next(&mut self) -> io::Result<()> {
+        let call = self.calls;
+        self.calls = call.wrapping_add(1);
+        if call == self.fails_at {
+            return Err(io::Error::from(io::ErrorKind::BrokenPipe));
+        }
+        Ok(())
+    }
+}
+
+impl Write for Halting {
+    fn write(&mut self, buf: &[u8]) -> io::Result<usize> {
+        self.next()?;
+        Ok(buf.len().min(2))
+    }
+
+    fn flush(&mut self) -> io::Result<()> {
+        self.next()
+    }
+}
+
+#[test]
+fn a_writer_that_fails_is_counted(rt: HostRuntime) {
+    // The puts of `ab`, `cde` and `f` are two, three and two calls.
+    for fails_at in 0..8 {
+        let mut sink = StdSink::new(Halting { calls: 0, fails_at });
+        assert_eq!(rt; put_three(&mut sink), u64::from(fails_at < 7));
+    }
+}
+
+#[test]
+fn real_files_are_read_and_written(rt: HostRuntime) -> Result<(), Fail> {
+    let folder = env::temp_dir(&rt)?;
+    let id = process::id(rt.process());
+    let name = format!(in rt.alloc(); "{}/game_io-{id}", folder.as_path().display())?;
+    let mut disk = FileDisk::new(&rt);
+    let answers = [
+        letter(disk.read_file(rt.alloc(), &name, 3), 'r'),
+        letter(disk.write_file(rt.alloc(), &name, b"four"), 'w'),
+        letter(disk.read_file(rt.alloc(), &name, 3), 'r'),
+        letter(disk.read_file(rt.alloc(), &name, 4), 'r'),
+        letter(disk.read_file(rt.alloc(), "/", 3), 'r'),
+        letter(disk.write_file(rt.alloc(), "/", b"x"), 'w'),
+    ];
+    assert_eq!(rt; answers, ['m', 'w', 'l', 'r', 'f', 'f']);
+    assert_eq!(rt; disk.faults(), 4);
+    let written = fs::read(&rt, &name)?;
+    assert_eq!(rt; written.as_slice(), b"four".as_slice());
+    fs::remove_file(&rt, &name)?;
+    Ok(())
+}

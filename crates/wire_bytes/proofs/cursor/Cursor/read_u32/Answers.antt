@@ -1,0 +1,7 @@
+use Rattle.wire_bytes.specs.Field.{field_number}
+use Rattle.wire_bytes.specs.Read.{reads_enough}
+use Rattle.wire_bytes.proofs.cursor.Cursor.read_u32.Goals as goal
+
+pub returns : goal.returns
+unfolding field_number
+returns c = reads_enough 4 c.args.self.now c.take.new.self c.in_ok-field.field.now c.read_u32.result c.in_ok-field.ensures.ok c.read_u32.ensures
