@@ -1,0 +1,13 @@
+pub mod BlankSteps
+pub mod BlankEnds
+pub mod Cuts
+pub mod Escapes
+pub mod Utf8Tests
+pub mod TreeSteps
+pub mod GrowSteps
+pub mod LineSteps
+pub mod ParseSteps
+pub mod PrintSteps
+pub mod EscapeLaws
+pub mod ReadAgain
+pub mod LinesReadable

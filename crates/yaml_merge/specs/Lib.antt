@@ -1,0 +1,4 @@
+pub mod Merging
+pub mod Resolving
+pub mod Nodes
+pub mod Belongs
