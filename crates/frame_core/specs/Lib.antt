@@ -1,0 +1,7 @@
+pub mod Column
+pub mod Stored
+pub mod Ready
+pub mod World
+pub mod Tick
+pub mod Grows
+pub mod Agreed

@@ -1,0 +1,214 @@
+ghost use Rattle.std.specs.Prelude.{◌≡◌, ◌<◌, ◌≤◌, length, replicate, IfOk, OnOk, OnErr, slice_set};
+ghost use Rattle.std.specs.Option.{option_copied};
+ghost use Rattle.frame_core.specs.Column.{column_of, length_of, entry_at, put_answer, put_column, no_column, leave_answer, left_column};
+ghost use Rattle.frame_core.specs.Ready.{ready_at, frame_at};
+
+use crate::column::StoredColumn;
+use crate::leaving::Leaving;
+use crate::put::Put;
+use crate::ready::Ready;
+use base::NoMemory;
+use game_orders::{Entry, Frame, MAX_CLIENTS, MAX_FRAMES};
+use std::alloc::Global;
+use std::marker::Model;
+
+/// The columns of a match, one for each client by rising number. They only grow.
+#[derive(Drop)]
+pub struct Columns {
+    held: Vec<StoredColumn>,
+}
+
+impl Model for Columns {
+    ghost use Rattle.std.specs.Prelude.{List, ◌≤◌, length};
+    ghost use Rattle.frame_core.specs.Column.{Column};
+    ghost use Rattle.game_orders.specs.declared.limits.TheConstants.{MAX_CLIENTS};
+
+    ghost Value = { List Column };
+
+    ghost view = { λ columns. columns.held.items };
+
+    ghost invariant = { λ columns. (1 ≤ length columns.held.items) × (length columns.held.items ≤ MAX_CLIENTS) };
+}
+
+impl Columns {
+    /// The empty columns of 1 to `MAX_CLIENTS` clients.
+    pub fn create(alloc: Global, clients: u8) -> Result<Columns, NoMemory>
+        requires least { 1 ≤ clients }
+        requires most { clients ≤ MAX_CLIENTS }
+        ensures { IfOk result (λ columns. columns ≡ replicate clients no_column) }
+    {
+        let mut held = Vec::new(alloc);
+        for _client in 0..clients {
+            held.push(StoredColumn::new(alloc))?;
+        }
+        Ok(Columns { held })
+    }
+
+    /// The number of clients, 1 to `MAX_CLIENTS`.
+    pub fn clients(&self) -> u8
+        ensures value { result ≡ length self.now }
+        ensures least { 1 ≤ result }
+        ensures most { result ≤ MAX_CLIENTS }
+    {
+        self.held.len() as u8
+    }
+
+    /// The number of plays of client `c`, at most `MAX_FRAMES`.
+    pub fn plays(&self, c: u8) -> u32
+        requires { c < length self.now }
+        ensures value { result ≡ length_of (column_of self.now c) }
+        ensures limit { result ≤ MAX_FRAMES }
+    {
+        self.held[c as usize].plays()
+    }
+
+    /// Whether client `c` has left. Its departure stands at the frame that is its number of plays.
+    pub fn left(&self, c: u8) -> bool
+        requires { c < length self.now }
+        ensures { result ≡ (column_of self.now c).left }
+    {
+        self.held[c as usize].left()
+    }
+
+    /// The entry of client `c` that stands at frame `n`. None exactly where neither a play nor the departure stands
+    /// at `n`.
+    pub fn entry(&self, c: u8, n: u32) -> Option<&Entry>
+        requires { c < length self.now }
+        ensures { option_copied result ≡ entry_at (column_of self.now c) n }
+    {
+        self.held[c as usize].entry(n)
+    }
+
+    /// Puts an entry of client `c` at frame `n`. The first case that fits decides:
+    ///
+    /// 1. An entry stands at `n`: `Repeat` if it is the same, else `Conflict` with the one that stands.
+    /// 2. The client left before `n`: `Left` with the frame.
+    /// 3. `n` is above the number of plays: `Ahead` with that number.
+    /// 4. The entry is a play and `n` is `MAX_FRAMES`: `Full`.
+    /// 5. `Fixed`: the entry is added. No other case changes anything.
+    pub fn put(&mut self, c: u8, n: u32, e: Entry) -> Result<Put, NoMemory>
+        requires { c < length self.old }
+        ensures answer { IfOk result (λ put. put ≡ put_answer (column_of self.old c) n e) }
+        ensures after { OnOk result (self.new ≡ slice_set self.old c (put_column (column_of self.old c) n e)) }
+        ensures err { OnErr result (self.new ≡ self.old) }
+    {
+        self.held[c as usize].put(n, e)
+    }
+
+    /// Lets client `c` leave: its departure stands at the frame that is its number of plays. `Already` exactly where
+    /// it has left, and then nothing changes.
+    pub fn leave(&mut self, c: u8) -> Leaving
+        requires { c < length self.old }
+        ensures answer { result ≡ leave_answer (column_of self.old c) }
+        ensures after { self.new ≡ slice_set self.old c (left_column (column_of self.old c)) }
+    {
+        self.held[c as usize].leave()
+    }
+
+    /// Whether frame `n` is ready. `NotYet` with the least client that has neither a play at `n` nor left at or before
+    /// it; else `Over` where no client has a play at `n`.
+    pub fn ready(&self, n: u32) -> Ready
+        ensures value { result ≡ ready_at self.now n }
+        ensures limit { result ≡ Ready.Yes → n < MAX_FRAMES }
+    {
+        let mut played = false;
+        for (c, column) in self.held.iter().enumerate() {
+            let Some(entry) = column.has(n) else {
+                return Ready::NotYet(c as u8);
+            };
+            played |= entry.is_play();
+        }
+        if played { Ready::Yes } else { Ready::Over }
+    }
+
+    /// The agreed frame `n`: the play of each client that has one there, and a Leave for each that left.
+    pub fn frame(&self, n: u32) -> Frame
+        requires { ready_at self.now n ≡ Ready.Yes }
+        ensures { result ≡ frame_at self.now n }
+    {
+        let mut frame = Frame::empty();
+        for column in self.held.iter() {
+            frame.push(column.has(n).map_or(Entry::Leave, Entry::copy));
+        }
+        frame
+    }
+
+    /// Exchanges column `c` with column `d` of the other columns. All other columns stay.
+    pub fn swap_column(&mut self, c: u8, other: &mut Columns, d: u8)
+        requires mine { c < length self.old }
+        requires theirs { d < length other.old }
+        ensures here { self.new ≡ slice_set self.old c (column_of other.old d) }
+        ensures there { other.new ≡ slice_set other.old d (column_of self.old c) }
+    {
+        std::mem::swap(&mut self.held[c as usize], &mut other.held[d as usize]);
+    }
+}
+
+#[cfg(test)]
+mod tests {
+    use super::*;
+    use game_orders::{Order, Orders};
+    use std::process::Abort;
+    use std::test::Fail;
+
+    fn donation() -> Entry {
+        let mut orders = Orders::empty();
+        let _ = orders.try_push(Order::Donate { to: 1, amount: 1 });
+        Entry::Play(orders)
+    }
+
+    fn empty_play() -> Entry {
+        Entry::Play(Orders::empty())
+    }
+
+    fn put(rt: &impl Abort, columns: &mut Columns, c: u8, n: u32, e: Entry) -> Result<Put, Fail> {
+        assert!(rt; c < columns.clients());
+        Ok(columns.put(c, n, e)?)
+    }
+
+    fn leave(rt: &impl Abort, columns: &mut Columns, c: u8) -> Leaving {
+        assert!(rt; c < columns.clients());
+        columns.leave(c)
+    }
+
+    #[test]
+    fn two_clients(rt: HostRuntime) -> Result<(), Fail> {
+        let mut columns = Columns::create(rt.alloc(), 2)?;
+        assert_eq!(rt; put(&rt, &mut columns, 0, 0, empty_play())?, Put::Fixed);
+        assert_eq!(rt; put(&rt, &mut columns, 0, 0, empty_play())?, Put::Repeat);
+        assert_eq!(rt;
+            put(&rt, &mut columns, 0, 0, donation())?,
+            Put::Conflict(empty_play())
+        );
+        assert_eq!(rt; put(&rt, &mut columns, 0, 2, Entry::Leave)?, Put::Ahead(1));
+        assert_eq!(rt; leave(&rt, &mut columns, 0), Leaving::Fixed(1));
+        assert_eq!(rt; leave(&rt, &mut columns, 0), Leaving::Already(1));
+        assert_eq!(rt;
+            put(&rt, &mut columns, 0, 1, empty_play())?,
+            Put::Conflict(Entry::Leave)
+        );
+        assert_eq!(rt; put(&rt, &mut columns, 0, 5, Entry::Leave)?, Put::Left(1));
+        assert_eq!(rt; columns.ready(0), Ready::NotYet(1));
+        assert_eq!(rt; leave(&rt, &mut columns, 1), Leaving::Fixed(0));
+        assert_eq!(rt; columns.ready(0), Ready::Yes);
+        assert_eq!(rt; columns.ready(1), Ready::Over);
+        Ok(())
+    }
+
+    #[test]
+    fn a_full_column(rt: HostRuntime) -> Result<(), Fail> {
+        let mut columns = Columns::create(rt.alloc(), 1)?;
+        for n in 0..MAX_FRAMES {
+            assert_eq!(rt; put(&rt, &mut columns, 0, n, empty_play())?, Put::Fixed);
+        }
+        assert_eq!(rt;
+            put(&rt, &mut columns, 0, MAX_FRAMES, empty_play())?,
+            Put::Full
+        );
+        assert_eq!(rt;
+            put(&rt, &mut columns, 0, MAX_FRAMES, Entry::Leave)?,
+            Put::Fixed
+        );
+        Ok(())
+    }
+}

@@ -1,0 +1,10 @@
+use crate::cash_list::CashList;
+
+/// What a report says of a world beside its hash.
+#[derive(Debug, Drop)]
+pub struct Summary {
+    /// The number of actors.
+    pub actors: u32,
+    /// The cash of each client, by rising number.
+    pub cash: CashList,
+}

@@ -1,0 +1,3 @@
+pub mod Decided
+pub mod Order
+pub mod Entry

@@ -1,0 +1,14 @@
+/// The greatest number of clients of one match. There is at least 1.
+pub const MAX_CLIENTS: u8 = 8;
+
+/// The greatest number of frames that a client plays. Frames are numbered from 0.
+pub const MAX_FRAMES: u32 = 65_536;
+
+/// The greatest number of orders of one client for one frame.
+pub const MAX_ORDERS: u8 = 16;
+
+/// The room of a [`crate::Frame`].
+pub(crate) const FRAME_ROOM: usize = MAX_CLIENTS as usize;
+
+/// The room of an [`crate::Orders`].
+pub(crate) const ORDERS_ROOM: usize = MAX_ORDERS as usize;

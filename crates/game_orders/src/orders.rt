@@ -1,0 +1,157 @@
+ghost use Rattle.std.specs.Prelude.{◌≡◌, ◌+◌, ◌<◌, ◌≤◌, ◌↔◌, [], ◌∷◌, ◌++◌, length, IsTrue, OnErr, slice_get};
+ghost use Rattle.std.specs.Option.{option_copied};
+ghost use Rattle.std.specs.Bool.{OnTrue, OnFalse};
+
+use crate::limits::{MAX_ORDERS, ORDERS_ROOM};
+use crate::order::Order;
+use arrayvec::ArrayVec;
+use std::marker::Model;
+
+/// The orders of one client for one frame: at most [`MAX_ORDERS`], in the order in which they are applied.
+#[derive(Debug, Drop)]
+pub struct Orders {
+    held: ArrayVec<Order, ORDERS_ROOM>,
+}
+
+impl Model for Orders {
+    ghost use Rattle.std.specs.Prelude.{List, ◌≤◌, length};
+    ghost use Rattle.game_orders.specs.declared.order.Order.{Order};
+    ghost use Rattle.game_orders.specs.declared.limits.TheConstants.{MAX_ORDERS};
+
+    ghost Value = { List Order };
+
+    ghost view = { λ orders. orders.held.items };
+
+    ghost invariant = { λ orders. length orders.held.items ≤ MAX_ORDERS };
+}
+
+impl Orders {
+    /// No orders.
+    pub fn empty() -> Orders
+        ensures { result ≡ [] }
+    {
+        Orders {
+            held: ArrayVec::new(),
+        }
+    }
+
+    /// Adds an order last. False exactly where [`MAX_ORDERS`] are there, and then nothing changes.
+    pub fn try_push(&mut self, o: Order) -> bool
+        ensures room { IsTrue result ↔ (length self.old < MAX_ORDERS) }
+        ensures added { OnTrue result (self.new ≡ self.old ++ o ∷ []) }
+        ensures full { OnFalse result (self.new ≡ self.old) }
+    {
+        if self.held.len() < ORDERS_ROOM {
+            self.held.push(o);
+            true
+        } else {
+            false
+        }
+    }
+
+    /// The number of orders, at most [`MAX_ORDERS`].
+    pub fn len(&self) -> usize
+        ensures value { result ≡ length self.now }
+        ensures limit { result ≤ MAX_ORDERS }
+    {
+        let _held = &self.held;
+        self.held.len()
+    }
+
+    /// True where there is none.
+    pub fn is_empty(&self) -> bool
+        ensures { IsTrue result ↔ (self.now ≡ []) }
+    {
+        self.held.is_empty()
+    }
+
+    /// The i-th order, from 0. None exactly where `i` is the length or more.
+    pub fn get(&self, i: usize) -> Option<&Order>
+        ensures { option_copied result ≡ slice_get self.now i }
+    {
+        self.held.as_slice().get(i)
+    }
+
+    /// The same orders once more.
+    pub fn copy(&self) -> Orders
+        ensures { result ≡ self.now }
+    {
+        let mut held = ArrayVec::new();
+        for order in self.held.as_slice() {
+            held.push(*order);
+        }
+        Orders { held }
+    }
+}
+
+impl PartialEq for Orders {
+    ghost use Rattle.game_orders.specs.Order.{same_orders, orders_decides};
+    ghost use Rattle.game_orders.specs.Decided.{decided_per};
+
+    ghost eq = { same_orders };
+
+    ghost laws = { decided_per same_orders orders_decides };
+
+    fn eq(&self, other: &Orders) -> bool {
+        self.held.as_slice() == other.held.as_slice()
+    }
+}
+
+impl Eq for Orders {
+    ghost use Rattle.game_orders.specs.Order.{same_orders, orders_decides};
+    ghost use Rattle.game_orders.specs.Decided.{decided_equiv};
+
+    ghost laws = { decided_equiv same_orders orders_decides };
+}
+
+#[cfg(test)]
+mod tests {
+    use super::*;
+    use crate::{Entry, Frame};
+    use std::process::Abort;
+
+    fn orders_of(rt: &impl Abort, amounts: &[u32]) -> Orders {
+        let mut orders = Orders::empty();
+        for amount in amounts {
+            assert!(rt;
+                orders.try_push(Order::Donate {
+                    to: 1,
+                    amount: *amount
+                })
+            );
+        }
+        orders
+    }
+
+    #[test]
+    fn at_most_sixteen(rt: HostRuntime) {
+        let mut orders = orders_of(&rt, &[0, 1, 2, 3, 4, 5, 6, 7, 8, 9, 10, 11, 12, 13, 14, 15]);
+        assert_eq!(rt; orders.len(), 16);
+        assert!(rt; !orders.try_push(Order::Donate { to: 1, amount: 16 }));
+        assert_eq!(rt; orders.len(), 16);
+        assert!(rt; matches!(orders.get(15), Some(Order::Donate { to: 1, amount: 15 })));
+        assert!(rt; orders.get(16).is_none());
+        assert!(rt; orders.copy() == orders && !orders.is_empty());
+    }
+
+    #[test]
+    fn entries_of_a_frame(rt: HostRuntime) {
+        let mut frame = Frame::empty();
+        assert!(rt; frame.is_empty());
+        frame.push(Entry::Play(orders_of(&rt, &[7])));
+        frame.push(Entry::Leave);
+        assert_eq!(rt; frame.len(), 2);
+        assert!(rt;
+            frame
+                .get(0)
+                .is_some_and(|e| e.is_play() && *e == Entry::Play(orders_of(&rt, &[7])))
+        );
+        assert!(rt;
+            frame
+                .get(0)
+                .is_some_and(|e| *e != Entry::Play(orders_of(&rt, &[8])))
+        );
+        assert!(rt; frame.get(1).is_some_and(|e| e.copy() == Entry::Leave));
+        assert!(rt; frame.get(2).is_none());
+    }
+}
