@@ -1,0 +1,5 @@
+pub mod Flags
+pub mod World
+pub mod Order
+pub mod Tick
+pub mod Keeps

@@ -1,0 +1,37 @@
+ghost use Rattle.std.specs.Prelude.{◌≡◌};
+
+use crate::gone::Gone;
+use crate::purse::Purse;
+
+/// All that a match has brought about so far.
+#[derive(Debug, Drop)]
+pub struct World {
+    /// The number of ticks so far.
+    pub tick: u32,
+    /// The seed of the match's random words.
+    pub seed: u32,
+    /// The number of random words drawn so far.
+    pub drawn: u64,
+    /// The id that the next new actor gets. Ids begin at 1.
+    pub next_id: u32,
+    /// The cash of each client, by rising number.
+    pub cash: Purse,
+    /// Whether each client has departed, by rising number.
+    pub gone: Gone,
+}
+
+impl World {
+    /// The same world once more.
+    pub fn copy(&self) -> World
+        ensures { result ≡ self.now }
+    {
+        World {
+            tick: self.tick,
+            seed: self.seed,
+            drawn: self.drawn,
+            next_id: self.next_id,
+            cash: self.cash.copy(),
+            gone: self.gone.copy(),
+        }
+    }
+}

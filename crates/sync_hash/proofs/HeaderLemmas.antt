@@ -1,0 +1,33 @@
+-- How the bytes of a world's header are fed to the hash part by part.
+use Rattle.std.proofs.Common.{◌≡◌, ℕ, zero, suc, ◌<◌, ◌≤◌, Bool, true, List, [], ◌∷◌, ◌++◌, length, drop, get_or, refl, arith}
+use Rattle.std.specs.List.{zip, flat_map}
+use Rattle.byteorder.specs.Endian.{little_bytes}
+use Rattle.sync_hash.specs.Fnv.{fnv_step, fnv_from}
+use Rattle.sync_hash.specs.WorldHash.{client_bytes, flag_byte}
+
+-- The bytes of client c and then those of the clients after it are the bytes of the clients from c on.
+pub client_more :
+    (hash c : ℕ) (cash : List ℕ) (gone : List Bool) → c < length cash → length gone ≡ length cash →
+    fnv_from (fnv_from (fnv_from hash (little_bytes 4 (get_or cash c 0))) (flag_byte (get_or gone c true) ∷ [])) (flat_map client_bytes (drop (suc c) (zip cash gone)))
+    ≡ fnv_from hash (flat_map client_bytes (drop c (zip cash gone)))
+client_more hash c [] gone there same = absurd (omega arith)
+client_more hash c (x ∷ xs) [] there same = absurd cc
+client_more hash zero (x ∷ xs) (g ∷ gs) there same = refl
+client_more hash (suc c) (x ∷ xs) (g ∷ gs) there same = client_more hash c xs gs (omega arith) (omega arith)
+
+-- Behind the last client no bytes are left.
+pub clients_end :
+    (hash c : ℕ) (cash : List ℕ) (gone : List Bool) → length cash ≤ c →
+    fnv_from hash (flat_map client_bytes (drop c (zip cash gone))) ≡ hash
+clients_end hash zero [] gone all = refl
+clients_end hash (suc c) [] gone all = refl
+clients_end hash zero (x ∷ xs) [] all = refl
+clients_end hash (suc c) (x ∷ xs) [] all = refl
+clients_end hash zero (x ∷ xs) (g ∷ gs) all = absurd (omega arith)
+clients_end hash (suc c) (x ∷ xs) (g ∷ gs) all = clients_end hash c xs gs (omega arith)
+
+-- What two parts make of a number is what the second makes of what the first made.
+pub fnv_from-append :
+    (hash : ℕ) (front back : List ℕ) → fnv_from hash (front ++ back) ≡ fnv_from (fnv_from hash front) back
+fnv_from-append hash [] back = refl
+fnv_from-append hash (byte ∷ front) back = fnv_from-append (fnv_step hash byte) front back

@@ -1,0 +1,135 @@
+ghost use Rattle.std.specs.Prelude.{◌≡◌, ◌≤◌, length, IfOk};
+ghost use Rattle.tick_core.specs.Game.{game_clients, game_start};
+ghost use Rattle.game_orders.specs.declared.limits.TheConstants.{MAX_CLIENTS};
+
+use crate::game::Game;
+use crate::maker::GameMaker;
+use base::NoMemory;
+use frame_core::{Maker, Sim};
+use game_model::{Gone, Purse, World};
+use game_orders::{Entry, Frame, MAX_CLIENTS, Order, Orders};
+use std::alloc::Global;
+use std::process::Abort;
+use std::test::Fail;
+
+fn donate(to: u8, amount: u32) -> Order {
+    Order::Donate { to, amount }
+}
+
+fn play(list: &[Order]) -> Entry {
+    let mut orders = Orders::empty();
+    for order in list {
+        let _pushed = orders.try_push(*order);
+    }
+    Entry::Play(orders)
+}
+
+fn frame_of_two(first: Entry, second: Entry) -> Frame
+    ensures { length result ≡ 2 }
+{
+    let mut frame = Frame::empty();
+    frame.push(first);
+    frame.push(second);
+    frame
+}
+
+/// A game of two clients that begin with this cash.
+fn game_of_two(cash: u32) -> Game
+    ensures clients { game_clients result ≡ 2 }
+    ensures fresh { result.steps ≡ 0 }
+{
+    Game {
+        world: World {
+            tick: 0,
+            seed: 1,
+            drawn: 0,
+            next_id: 1,
+            cash: Purse::create(2, cash),
+            gone: Gone::create(2),
+        },
+        steps: 0,
+    }
+}
+
+/// Asserts the cash and the hash of any world.
+fn assert_told<S: Sim>(rt: &impl Abort, world: &S, cash: &[u32], hash: u64) {
+    let summary = world.summary();
+    assert_eq!(rt; summary.actors, 0);
+    assert_eq!(rt; summary.cash.as_slice(), cash);
+    assert_eq!(rt; world.hash(), hash);
+}
+
+fn made<M: Maker>(maker: &M, alloc: Global, seed: u32, clients: u8) -> Result<M::World, NoMemory>
+    requires least { 1 ≤ clients }
+    requires most { clients ≤ MAX_CLIENTS }
+    ensures world { IfOk result (λ w. w ≡ M.made maker.now seed clients) }
+{
+    maker.make(alloc, seed, clients)
+}
+
+/// The opening world of one client and the world after a frame without orders.
+#[test]
+fn a_frame_without_orders(rt: HostRuntime) -> Result<(), Fail> {
+    let mut game = made(&GameMaker, rt.alloc(), 5489, 1)?;
+    assert_told(&rt, &game, &[1000], 0xe284_473b_a232_41b0);
+    let mut frame = Frame::empty();
+    frame.push(play(&[]));
+    game.step(&frame);
+    assert_told(&rt, &game, &[1000], 0x2844_b966_ff57_8f05);
+    assert_eq!(rt; game.clients(), 1);
+    Ok(())
+}
+
+/// Donations above the cash and to oneself have no effect, and the later client gives some back.
+#[test]
+fn donations_of_one_frame(rt: HostRuntime) -> Result<(), Fail> {
+    let mut game = game_of_two(1000);
+    assert_told(&rt, &game, &[1000, 1000], 0xfcf7_6e38_ea96_4cd7);
+    let first = play(&[donate(1, 1001), donate(0, 5), donate(1, 400)]);
+    game.step(&frame_of_two(first, play(&[donate(0, 100)])));
+    assert_told(&rt, &game, &[700, 1300], 0x22cd_e662_5a60_8f61);
+    Ok(())
+}
+
+/// A client whose Leave stands in the same frame receives nothing.
+#[test]
+fn a_departure_comes_before_the_orders(rt: HostRuntime) -> Result<(), Fail> {
+    let mut game = game_of_two(1000);
+    game.step(&frame_of_two(play(&[donate(1, 400)]), Entry::Leave));
+    assert_told(&rt, &game, &[1000, 1000], 0x7163_dacd_7c91_f1bf);
+    let world = game.snapshot(rt.alloc())?;
+    assert_eq!(rt;
+        (world.tick, world.seed, world.drawn, world.next_id),
+        (1, 1, 0, 1)
+    );
+    assert_eq!(rt; world.cash.as_slice(), [1000, 1000].as_slice());
+    assert_eq!(rt; world.gone.as_slice(), [false, true].as_slice());
+    Ok(())
+}
+
+/// A donation lifts its receiver to the greatest cash and no further.
+#[test]
+fn a_donation_stops_at_the_greatest_cash(rt: HostRuntime) -> Result<(), Fail> {
+    let mut game = game_of_two(1_500_000_000);
+    assert_told(
+        &rt,
+        &game,
+        &[1_500_000_000, 1_500_000_000],
+        0x7f0f_96b7_20ee_893d,
+    );
+    game.step(&frame_of_two(play(&[donate(1, 500_000_001)]), play(&[])));
+    assert_told(
+        &rt,
+        &game,
+        &[1_500_000_000, 1_500_000_000],
+        0x9a60_39d1_bc0c_a626,
+    );
+    game.step(&frame_of_two(play(&[donate(1, 500_000_000)]), play(&[])));
+    assert_told(
+        &rt,
+        &game,
+        &[1_000_000_000, 2_000_000_000],
+        0x2abe_9483_b540_5e62,
+    );
+    Ok(())
+}
