@@ -1,0 +1,39 @@
+//! Packets between the clients of a match and its server.
+//!
+//! [`Up`] is what a client sends: its greeting, the orders that it sealed for a frame, a report of its world's
+//! hash, and its farewell. Packets are plain values; two are equal exactly where they are the same.
+#![tactic(auto)]
+
+mod up;
+
+pub use up::Up;
+
+#[cfg(test)]
+mod tests {
+    use super::*;
+    use game_orders::{Order, Orders};
+
+    #[test]
+    fn equal_exactly_where_the_same(rt: HostRuntime) {
+        let mut orders = Orders::empty();
+        assert!(rt; orders.try_push(Order::Donate { to: 1, amount: 50 }));
+        let packets = [
+            Up::Hello {
+                version: 1,
+                rules: 0,
+            },
+            Up::Orders { frame: 0, orders },
+            Up::Orders {
+                frame: 0,
+                orders: Orders::empty(),
+            },
+            Up::Sync { frame: 0, hash: 0 },
+            Up::Bye,
+        ];
+        for (i, packet) in packets.iter().enumerate() {
+            for (j, other) in packets.iter().enumerate() {
+                assert_eq!(rt; packet.copy() == *other, i == j, "packets {i} and {j}");
+            }
+        }
+    }
+}

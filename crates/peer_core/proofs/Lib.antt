@@ -1,0 +1,4 @@
+pub mod Places
+pub mod Within
+pub mod Each
+pub mod Least

@@ -1,0 +1,10 @@
+-- The frame so far and what the clients that are left have make up the whole frame.
+use Rattle.std.proofs.Common.{◌≡◌, ◌-◌, ◌++◌, length}
+use Rattle.frame_core.specs.Ready.{frame_of}
+use Rattle.peer_core.specs.Triples.{each_of, frame_by}
+use Rattle.peer_core.proofs.triples.frame_from.Given as goal
+
+abbrev pub invariant-loop-c : goal.invariant-loop-c
+invariant-loop-c l =
+    (l.frame ++ frame_of (each_of l.triples l.c (l.clients - l.c) l.n) ≡ frame_by l.triples l.clients l.n)
+    × (length l.frame ≡ l.c)

@@ -1,0 +1,5 @@
+pub mod Triples
+pub mod Kept
+pub mod Peer
+pub mod Faithful
+pub mod Once

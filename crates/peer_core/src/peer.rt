@@ -1,0 +1,359 @@
+ghost use Rattle.std.specs.Prelude.{◌≡◌, ◌+◌, ◌<◌, ◌≤◌, IfOk, OnOk, OnErr};
+ghost use Rattle.peer_core.specs.Triples.{delivery_of, ready_by};
+ghost use Rattle.frame_core.specs.Tick.{tick_answer};
+ghost use Rattle.peer_core.specs.Peer.{fresh_peer, delivered_peer, seal_answer, sealed_peer, ticked_peer, report_of};
+
+use crate::delivered::Delivered;
+use crate::limits::MAX_LAG;
+use crate::report::Report;
+use crate::seal_fault::SealFault;
+use crate::triple::Triple;
+use crate::triples::{deliver_to, frame_from, left, readiness};
+use base::NoMemory;
+use frame_core::{Ready, Sim, TickAnswer};
+use game_orders::{Entry, MAX_CLIENTS, MAX_FRAMES};
+use std::alloc::Global;
+use std::marker::Model;
+
+/// One client of a match, with its own world.
+#[derive(Drop)]
+pub struct Peer<S: Sim> {
+    me: u8,
+    clients: u8,
+    lag: u8,
+    triples: Vec<Triple>,
+    ticked: u32,
+    sealed: u32,
+    sim: S,
+}
+
+impl<S: Sim> Model for Peer<S> {
+    ghost use Rattle.std.specs.Prelude.{◌≡◌, ◌+◌, ◌<◌, ◌≤◌, true};
+    ghost use Rattle.std.specs.List.{list_all};
+    ghost use Rattle.game_orders.specs.declared.limits.TheConstants.{MAX_CLIENTS, MAX_FRAMES};
+    ghost use Rattle.peer_core.specs.declared.limits.TheConstants.{MAX_LAG};
+    ghost use Rattle.peer_core.specs.Triples.{is_within};
+    ghost use Rattle.peer_core.specs.Peer.{PeerState};
+
+    ghost Value = { PeerState S };
+
+    ghost view = { λ p. record { me = p.me; clients = p.clients; lag = p.lag; triples = p.triples.items; ticked = p.ticked; sealed = p.sealed; world = p.sim } };
+
+    ghost invariant = { λ p. (S.clients_of p.sim ≡ p.clients) × (S.steps p.sim ≡ p.ticked) × (p.me < p.clients) × (p.clients ≤ MAX_CLIENTS) × (1 ≤ p.lag) × (p.lag ≤ MAX_LAG) × (p.ticked ≤ MAX_FRAMES) × (p.sealed ≤ MAX_FRAMES) × (p.sealed ≤ p.ticked + p.lag) × (list_all is_within p.triples.items ≡ true) };
+}
+
+impl<S: Sim> Peer<S> {
+    /// A peer of 1 to `MAX_CLIENTS` clients with a lag of 1 to [`MAX_LAG`] frames, over a world of as many clients
+    /// that has made no step. `me` is its own number, below the clients.
+    pub fn create(alloc: Global, me: u8, clients: u8, lag: u8, sim: S) -> Result<Peer<S>, NoMemory>
+        requires own { me < clients }
+        requires most { clients ≤ MAX_CLIENTS }
+        requires least_lag { 1 ≤ lag }
+        requires most_lag { lag ≤ MAX_LAG }
+        requires world { S.clients_of sim ≡ clients }
+        requires fresh { S.steps sim ≡ 0 }
+        ensures { IfOk result (λ peer. peer ≡ fresh_peer me clients lag sim) }
+    {
+        Ok(Peer {
+            me,
+            clients,
+            lag,
+            triples: Vec::new(alloc),
+            ticked: 0,
+            sealed: 0,
+            sim,
+        })
+    }
+
+    /// The peer's own number, below the clients.
+    pub fn me(&self) -> u8
+        ensures value { result ≡ self.now.me }
+        ensures limit { result < self.now.clients }
+    {
+        self.me
+    }
+
+    /// The number of clients, 1 to `MAX_CLIENTS`.
+    pub fn clients(&self) -> u8
+        ensures value { result ≡ self.now.clients }
+        ensures least { 1 ≤ result }
+        ensures most { result ≤ MAX_CLIENTS }
+    {
+        self.clients
+    }
+
+    /// How many frames the peer may seal ahead of its ticked ones, 1 to [`MAX_LAG`].
+    pub fn lag(&self) -> u8
+        ensures value { result ≡ self.now.lag }
+        ensures least { 1 ≤ result }
+        ensures most { result ≤ MAX_LAG }
+    {
+        self.lag
+    }
+
+    /// The number of frames that the peer has ticked, at most `MAX_FRAMES`.
+    pub fn ticked(&self) -> u32
+        ensures value { result ≡ self.now.ticked }
+        ensures limit { result ≤ MAX_FRAMES }
+    {
+        self.ticked
+    }
+
+    /// The number of frames that the peer has sealed, at most `MAX_FRAMES`.
+    pub fn sealed(&self) -> u32
+        ensures value { result ≡ self.now.sealed }
+        ensures limit { result ≤ MAX_FRAMES }
+        ensures lag { result ≤ self.now.ticked + self.now.lag }
+    {
+        self.sealed
+    }
+
+    /// The peer's world.
+    pub fn sim(&self) -> &S
+        ensures { result.now ≡ self.now.world }
+    {
+        &self.sim
+    }
+
+    /// Delivers the agreed entry of client `c`, below the clients, at frame `n`. The first case that fits decides:
+    ///
+    /// 1. `n` is above `MAX_FRAMES`, or it is `MAX_FRAMES` and the entry is a play: `Beyond`.
+    /// 2. The same entry of `c` is kept at `n`: `Repeat`.
+    /// 3. Another entry of `c` is kept at `n`: `Conflict` with that one.
+    /// 4. The departure of `c` is kept before `n`, or the entry is a departure and some entry of `c` is kept after
+    ///    `n`: `Past` with the frame of the departure, or with the least such frame.
+    /// 5. `Kept`: the entry is kept, also where frames before it are missing. No other case changes anything.
+    pub fn deliver(&mut self, c: u8, n: u32, e: Entry) -> Result<Delivered, NoMemory>
+        requires { c < self.old.clients }
+        ensures answer { IfOk result (λ answer. answer ≡ delivery_of self.old.triples c n e) }
+        ensures after { OnOk result (self.new ≡ delivered_peer self.old c n e) }
+        ensures err { OnErr result (self.new ≡ self.old) }
+    {
+        deliver_to(&mut self.triples, c, n, e)
+    }
+
+    /// Seals the peer's next frame, whose number is the count of sealed frames so far. Refused, in this order:
+    /// `LeftAlready` exactly where the peer's own departure has reached it, `MatchFull` exactly where it has sealed
+    /// `MAX_FRAMES` frames, `TooEarly` exactly where it has sealed as many frames ahead of its ticked ones as its
+    /// lag says. A refusal changes nothing.
+    pub fn seal(&mut self) -> Result<u32, SealFault>
+        ensures answer { result ≡ seal_answer self.old.triples self.old.me self.old.lag self.old.ticked self.old.sealed }
+        ensures after { self.new ≡ sealed_peer self.old }
+    {
+        if left(&self.triples, self.me) {
+            return Err(SealFault::LeftAlready);
+        }
+        if self.sealed == MAX_FRAMES {
+            return Err(SealFault::MatchFull);
+        }
+        if self.sealed == self.ticked + u32::from(self.lag) {
+            return Err(SealFault::TooEarly);
+        }
+        let frame = self.sealed;
+        self.sealed += 1;
+        Ok(frame)
+    }
+
+    /// Ticks the next frame, whose number is the count of ticked frames, if it is ready: if each client's play at
+    /// it, or its departure at or before it, has reached the peer. `NotYet` names the least client of which neither
+    /// has; `Over` is answered where no client has a play at it. Only `Ticked` changes anything: the world makes one
+    /// step by the frame, and the count grows by one.
+    pub fn tick(&mut self) -> TickAnswer
+        ensures answer { result ≡ tick_answer (ready_by self.old.triples self.old.clients self.old.ticked) self.old.ticked }
+        ensures after { self.new ≡ ticked_peer S.after self.old }
+    {
+        let frame = self.ticked;
+        match readiness(&self.triples, self.clients, frame) {
+            Ready::Yes => {
+                self.sim
+                    .step(&frame_from(&self.triples, self.clients, frame));
+                self.ticked += 1;
+                TickAnswer::Ticked(frame)
+            }
+            Ready::NotYet(c) => TickAnswer::NotYet(c),
+            Ready::Over => TickAnswer::Over,
+        }
+    }
+
+    /// The last ticked frame and the hash of the world after it. None exactly before the first tick.
+    pub fn report(&self) -> Option<Report>
+        ensures { result ≡ report_of S.hash_of self.now }
+    {
+        if self.ticked == 0 {
+            return None;
+        }
+        Some(Report {
+            frame: self.ticked - 1,
+            hash: self.sim.hash(),
+        })
+    }
+}
+
+#[cfg(test)]
+mod tests {
+    use super::*;
+    use frame_core::{CashList, Summary};
+    use game_orders::{Frame, Order, Orders};
+    use std::process::Abort;
+    use std::test::Fail;
+
+    /// A world of two clients that tells its steps, and whether client 0 played in the last one.
+    #[derive(Drop)]
+    struct Tally {
+        steps: u32,
+        played: bool,
+    }
+
+    impl Sim for Tally {
+        ghost use Rattle.std.specs.Prelude.{◌+◌, ◌*◌, [], slice_get, if◌then◌else◌, false};
+        ghost use Rattle.std.specs.Option.{option_map, unwrap_or};
+        ghost use Rattle.game_orders.specs.Entry.{is_play};
+
+        ghost clients_of = { λ w. 2 };
+
+        ghost steps = { λ w. w.steps };
+
+        ghost after = { λ w frame. record { steps = w.steps + 1; played = unwrap_or (option_map is_play (slice_get frame 0)) false } };
+
+        ghost hash_of = { λ w. w.steps * 2 + (if w.played then 1 else 0) };
+
+        ghost summary_of = { λ w. record { actors = 0; cash = [] } };
+
+        fn clients(&self) -> u8 {
+            2
+        }
+
+        fn step(&mut self, f: &Frame) {
+            self.steps += 1;
+            self.played = match f.get(0) {
+                Some(entry) => entry.is_play(),
+                None => false,
+            };
+        }
+
+        fn hash(&self) -> u64 {
+            u64::from(self.steps) * 2 + if self.played { 1 } else { 0 }
+        }
+
+        fn summary(&self) -> Summary {
+            Summary {
+                actors: 0,
+                cash: CashList::empty(),
+            }
+        }
+    }
+
+    fn peer(rt: &HostRuntime) -> Result<Peer<Tally>, Fail> {
+        let sim = Tally {
+            steps: 0,
+            played: false,
+        };
+        Ok(Peer::create(rt.alloc(), 0, 2, 2, sim)?)
+    }
+
+    fn play() -> Entry {
+        Entry::Play(Orders::empty())
+    }
+
+    fn donation() -> Entry {
+        let mut orders = Orders::empty();
+        let _ = orders.try_push(Order::Donate { to: 1, amount: 1 });
+        Entry::Play(orders)
+    }
+
+    fn deliver(
+        rt: &impl Abort,
+        peer: &mut Peer<Tally>,
+        c: u8,
+        n: u32,
+        e: Entry,
+    ) -> Result<Delivered, Fail> {
+        assert!(rt; c < peer.clients());
+        Ok(peer.deliver(c, n, e)?)
+    }
+
+    /// A call with the answer that is wanted.
+    #[derive(Drop)]
+    enum Call {
+        Seal(Result<u32, SealFault>),
+        Tick(TickAnswer),
+        Deliver(u8, u32, Entry, Delivered),
+        Tell(Option<Report>),
+    }
+
+    #[test]
+    fn ticks_what_reached_it(rt: HostRuntime) -> Result<(), Fail> {
+        let mut peer = peer(&rt)?;
+        let calls = [
+            Call::Seal(Ok(0)),
+            Call::Seal(Ok(1)),
+            Call::Seal(Err(SealFault::TooEarly)),
+            Call::Tick(TickAnswer::NotYet(0)),
+            Call::Deliver(0, 0, play(), Delivered::Kept),
+            Call::Tick(TickAnswer::NotYet(1)),
+            Call::Deliver(1, 1, play(), Delivered::Kept),
+            Call::Tick(TickAnswer::NotYet(1)),
+            Call::Deliver(1, 0, play(), Delivered::Kept),
+            Call::Deliver(1, 0, play(), Delivered::Repeat),
+            Call::Deliver(1, 0, donation(), Delivered::Conflict(play())),
+            Call::Tell(None),
+            Call::Tick(TickAnswer::Ticked(0)),
+            Call::Tell(Some(Report { frame: 0, hash: 3 })),
+            Call::Seal(Ok(2)),
+            Call::Seal(Err(SealFault::TooEarly)),
+            Call::Deliver(1, 2, Entry::Leave, Delivered::Kept),
+            Call::Deliver(1, 3, play(), Delivered::Past(2)),
+            Call::Deliver(0, 1, Entry::Leave, Delivered::Kept),
+            Call::Seal(Err(SealFault::LeftAlready)),
+            Call::Tick(TickAnswer::Ticked(1)),
+            Call::Tell(Some(Report { frame: 1, hash: 4 })),
+            Call::Tick(TickAnswer::Over),
+        ];
+        for call in calls {
+            match call {
+                Call::Seal(want) => assert_eq!(rt; peer.seal(), want),
+                Call::Tick(want) => assert_eq!(rt; peer.tick(), want),
+                Call::Deliver(c, n, e, want) => assert_eq!(rt;
+                    deliver(&rt, &mut peer, c, n, e)?,
+                    want,
+                    "client {c} at {n}"
+                ),
+                Call::Tell(want) => assert_eq!(rt; peer.report(), want),
+            }
+        }
+        assert_eq!(rt; (peer.me(), peer.clients(), peer.lag()), (0, 2, 2));
+        assert_eq!(rt; (peer.ticked(), peer.sealed(), peer.sim().steps), (2, 3, 2));
+        Ok(())
+    }
+
+    #[test]
+    fn deliveries_by_their_case(rt: HostRuntime) -> Result<(), Fail> {
+        let mut peer = peer(&rt)?;
+        let deliveries = [
+            (1, 9, play(), Delivered::Kept),
+            (1, 7, play(), Delivered::Kept),
+            (1, 3, Entry::Leave, Delivered::Past(7)),
+            (1, 7, Entry::Leave, Delivered::Conflict(play())),
+            (1, 8, Entry::Leave, Delivered::Past(9)),
+            (1, MAX_FRAMES, play(), Delivered::Beyond),
+            (1, MAX_FRAMES + 1, Entry::Leave, Delivered::Beyond),
+            (1, MAX_FRAMES, Entry::Leave, Delivered::Kept),
+            (1, MAX_FRAMES, Entry::Leave, Delivered::Repeat),
+            (0, 7, donation(), Delivered::Kept),
+            (0, 8, Entry::Leave, Delivered::Kept),
+            (0, 8, play(), Delivered::Conflict(Entry::Leave)),
+            (0, 9, play(), Delivered::Past(8)),
+            (0, 9, Entry::Leave, Delivered::Past(8)),
+            (0, 7, donation(), Delivered::Repeat),
+            (0, 6, play(), Delivered::Kept),
+        ];
+        for (c, n, e, want) in deliveries {
+            assert_eq!(rt;
+                deliver(&rt, &mut peer, c, n, e)?,
+                want,
+                "client {c} at {n}"
+            );
+        }
+        Ok(())
+    }
+}

@@ -1,0 +1,12 @@
+use game_orders::Entry;
+
+/// An agreed entry with its place.
+#[derive(Debug, Drop, PartialEq, Eq)]
+pub struct Triple {
+    /// The client whose entry it is.
+    pub client: u8,
+    /// The frame at which it stands.
+    pub frame: u32,
+    /// The play or the departure.
+    pub entry: Entry,
+}

@@ -1,0 +1,334 @@
+ghost use Rattle.std.specs.Prelude.{◌≡◌, ◌<◌, ◌≤◌, length, IfOk, OnOk, OnErr};
+ghost use Rattle.frame_core.specs.Column.{column_of, leave_answer};
+ghost use Rattle.frame_core.specs.Ready.{ready_at};
+ghost use Rattle.frame_core.specs.Tick.{tick_answer};
+ghost use Rattle.server_core.specs.Server.{fresh_server, board_of, answer_to, told_server, left_server, ticked_server};
+
+use crate::board::Board;
+use crate::up_answer::UpAnswer;
+use base::NoMemory;
+use frame_core::{Columns, Leaving, Ready, Sim, TickAnswer};
+use game_orders::{Entry, MAX_CLIENTS, MAX_FRAMES};
+use order_packets::Up;
+use std::alloc::Global;
+use std::marker::Model;
+
+/// The server of a match, with its own world.
+#[derive(Drop)]
+pub struct Server<S: Sim> {
+    columns: Columns,
+    board: Board,
+    ticked: u32,
+    sim: S,
+}
+
+impl<S: Sim> Model for Server<S> {
+    ghost use Rattle.std.specs.Prelude.{◌≡◌, ◌≤◌, length};
+    ghost use Rattle.game_orders.specs.declared.limits.TheConstants.{MAX_FRAMES};
+    ghost use Rattle.server_core.specs.Server.{ServerState};
+
+    ghost Value = { ServerState S };
+
+    ghost view = { λ s. record { columns = s.columns; reports = s.board.reports; ticked = s.ticked; marks = s.board.wanted; world = s.sim } };
+
+    ghost invariant = { λ s. (S.clients_of s.sim ≡ length s.columns) × (S.steps s.sim ≡ s.ticked) × (length s.board.reports ≡ length s.columns) × (s.ticked ≤ MAX_FRAMES) × (length s.board.wanted ≡ s.ticked) };
+}
+
+impl<S: Sim> Server<S> {
+    /// The server of a match of 1 to `MAX_CLIENTS` clients, over a world of as many clients that has made no step.
+    pub fn create(alloc: Global, clients: u8, sim: S) -> Result<Server<S>, NoMemory>
+        requires least { 1 ≤ clients }
+        requires most { clients ≤ MAX_CLIENTS }
+        requires world { S.clients_of sim ≡ clients }
+        requires fresh { S.steps sim ≡ 0 }
+        ensures { IfOk result (λ server. server ≡ fresh_server clients sim) }
+    {
+        Ok(Server {
+            columns: Columns::create(alloc, clients)?,
+            board: Board::create(alloc, clients)?,
+            ticked: 0,
+            sim,
+        })
+    }
+
+    /// Takes a packet of client `c`, below the clients. Orders are put as a play into the client's column, a report
+    /// comes to the board, a farewell lets the client leave, and a greeting is `Ignored`.
+    pub fn up(&mut self, c: u8, p: &Up) -> Result<UpAnswer, NoMemory>
+        requires { c < length self.old.columns }
+        ensures answer { IfOk result (λ answer. answer ≡ answer_to self.old.columns self.old.reports c p.now) }
+        ensures after { OnOk result (self.new ≡ told_server self.old c p.now) }
+        ensures err { OnErr result (self.new ≡ self.old) }
+    {
+        match p {
+            Up::Hello { .. } => Ok(UpAnswer::Ignored),
+            Up::Orders { frame, orders } => {
+                let put = self.columns.put(c, *frame, Entry::Play(orders.copy()))?;
+                Ok(UpAnswer::Entry(put))
+            }
+            Up::Sync { frame, hash } => {
+                let reported = self.board.reported(c, *frame, *hash)?;
+                Ok(UpAnswer::Report(reported))
+            }
+            Up::Bye => Ok(UpAnswer::Bye(self.columns.leave(c))),
+        }
+    }
+
+    /// Lets client `c`, below the clients, leave. `Already` exactly where it has left, and then nothing changes.
+    pub fn drop_client(&mut self, c: u8) -> Leaving
+        requires { c < length self.old.columns }
+        ensures answer { result ≡ leave_answer (column_of self.old.columns c) }
+        ensures after { self.new ≡ left_server self.old c }
+    {
+        self.columns.leave(c)
+    }
+
+    /// Ticks the next frame, whose number is the count of ticked frames, if it is ready by the columns. `NotYet` names
+    /// the least client that has neither a play at it nor left at or before it; `Over` is answered where no client has
+    /// a play at it. Only `Ticked` changes anything: the world makes one step by the agreed frame, the count grows by
+    /// one, and the world's hash is the next mark.
+    pub fn tick(&mut self) -> Result<TickAnswer, NoMemory>
+        ensures answer { IfOk result (λ answer. answer ≡ tick_answer (ready_at self.old.columns self.old.ticked) self.old.ticked) }
+        ensures after { OnOk result (self.new ≡ ticked_server S.after S.hash_of self.old) }
+        ensures err { OnErr result (self.new ≡ self.old) }
+    {
+        let frame = self.ticked;
+        match self.columns.ready(frame) {
+            Ready::Yes => {
+                // the mark's room is taken first, since the step can't be taken back
+                self.board.wanted(0)?;
+                self.sim.step(&self.columns.frame(frame));
+                self.board.settle(self.sim.hash());
+                self.ticked += 1;
+                Ok(TickAnswer::Ticked(frame))
+            }
+            Ready::NotYet(c) => Ok(TickAnswer::NotYet(c)),
+            Ready::Over => Ok(TickAnswer::Over),
+        }
+    }
+
+    /// The number of frames that the server has ticked, at most `MAX_FRAMES`.
+    pub fn ticked(&self) -> u32
+        ensures value { result ≡ self.now.ticked }
+        ensures limit { result ≤ MAX_FRAMES }
+    {
+        self.ticked
+    }
+
+    /// The columns that the server agreed.
+    pub fn columns(&self) -> &Columns
+        ensures { result.now ≡ self.now.columns }
+    {
+        &self.columns
+    }
+
+    /// The hash of the server's world after each ticked frame.
+    pub fn marks(&self) -> &[u64]
+        ensures value { result.now ≡ self.now.marks }
+        ensures count { length result.now ≡ self.now.ticked }
+    {
+        self.board.marks()
+    }
+
+    /// The board: what the clients reported, and the marks as what is wanted.
+    pub fn board(&self) -> &Board
+        ensures value { result.now ≡ board_of self.now }
+        ensures clients { length result.now.reports ≡ length self.now.columns }
+    {
+        &self.board
+    }
+
+    /// The server's world.
+    pub fn sim(&self) -> &S
+        ensures { result.now ≡ self.now.world }
+    {
+        &self.sim
+    }
+}
+
+#[cfg(test)]
+mod tests {
+    use super::*;
+    use crate::alarm::Alarm;
+    use crate::reported::Reported;
+    use frame_core::{CashList, Put, Summary};
+    use game_orders::{Frame, Orders};
+    use std::process::Abort;
+    use std::test::Fail;
+
+    /// A world of two clients that tells its steps, and whether client 0 played in the last one.
+    #[derive(Drop)]
+    struct Tally {
+        steps: u32,
+        played: bool,
+    }
+
+    impl Sim for Tally {
+        ghost use Rattle.std.specs.Prelude.{◌+◌, ◌*◌, [], slice_get, if◌then◌else◌, false};
+        ghost use Rattle.std.specs.Option.{option_map, unwrap_or};
+        ghost use Rattle.game_orders.specs.Entry.{is_play};
+
+        ghost clients_of = { λ w. 2 };
+
+        ghost steps = { λ w. w.steps };
+
+        ghost after = { λ w frame. record { steps = w.steps + 1; played = unwrap_or (option_map is_play (slice_get frame 0)) false } };
+
+        ghost hash_of = { λ w. w.steps * 2 + (if w.played then 1 else 0) };
+
+        ghost summary_of = { λ w. record { actors = 0; cash = [] } };
+
+        fn clients(&self) -> u8 {
+            2
+        }
+
+        fn step(&mut self, f: &Frame) {
+            self.steps += 1;
+            self.played = match f.get(0) {
+                Some(entry) => entry.is_play(),
+                None => false,
+            };
+        }
+
+        fn hash(&self) -> u64 {
+            u64::from(self.steps) * 2 + if self.played { 1 } else { 0 }
+        }
+
+        fn summary(&self) -> Summary {
+            Summary {
+                actors: 0,
+                cash: CashList::empty(),
+            }
+        }
+    }
+
+    /// A call with the answer that is wanted.
+    #[derive(Drop)]
+    enum Call {
+        Up(u8, Up, UpAnswer),
+        Drop(u8, Leaving),
+        Tick(TickAnswer),
+        Alarm(u8, Option<Alarm>),
+    }
+
+    fn orders(frame: u32) -> Up {
+        Up::Orders {
+            frame,
+            orders: Orders::empty(),
+        }
+    }
+
+    fn answer(rt: &impl Abort, server: &mut Server<Tally>, call: Call) -> Result<(), Fail> {
+        match call {
+            Call::Up(c, packet, want) => {
+                assert!(rt; c < server.columns().clients());
+                assert_eq!(rt; server.up(c, &packet)?, want);
+            }
+            Call::Drop(c, want) => {
+                assert!(rt; c < server.columns().clients());
+                assert_eq!(rt; server.drop_client(c), want);
+            }
+            Call::Tick(want) => assert_eq!(rt; server.tick()?, want),
+            Call::Alarm(c, want) => {
+                assert!(rt; c < server.board().clients());
+                assert_eq!(rt; server.board().alarm(c), want);
+            }
+        }
+        Ok(())
+    }
+
+    #[test]
+    fn two_clients(rt: HostRuntime) -> Result<(), Fail> {
+        let sim = Tally {
+            steps: 0,
+            played: false,
+        };
+        let mut server = Server::create(rt.alloc(), 2, sim)?;
+        let calls = [
+            Call::Up(
+                0,
+                Up::Hello {
+                    version: 1,
+                    rules: 0,
+                },
+                UpAnswer::Ignored,
+            ),
+            Call::Up(0, orders(0), UpAnswer::Entry(Put::Fixed)),
+            Call::Up(0, orders(0), UpAnswer::Entry(Put::Repeat)),
+            Call::Up(0, orders(2), UpAnswer::Entry(Put::Ahead(1))),
+            Call::Up(
+                1,
+                Up::Sync { frame: 1, hash: 9 },
+                UpAnswer::Report(Reported::Kept),
+            ),
+            Call::Up(
+                1,
+                Up::Sync { frame: 0, hash: 3 },
+                UpAnswer::Report(Reported::Kept),
+            ),
+            Call::Up(
+                1,
+                Up::Sync { frame: 0, hash: 8 },
+                UpAnswer::Report(Reported::Repeat),
+            ),
+            Call::Up(
+                1,
+                Up::Sync {
+                    frame: MAX_FRAMES,
+                    hash: 3,
+                },
+                UpAnswer::Report(Reported::Beyond),
+            ),
+            Call::Tick(TickAnswer::NotYet(1)),
+            Call::Alarm(1, None),
+            Call::Up(1, Up::Bye, UpAnswer::Bye(Leaving::Fixed(0))),
+            Call::Drop(1, Leaving::Already(0)),
+            Call::Tick(TickAnswer::Ticked(0)),
+            Call::Alarm(1, None),
+            Call::Up(0, orders(1), UpAnswer::Entry(Put::Fixed)),
+            Call::Tick(TickAnswer::Ticked(1)),
+            Call::Alarm(
+                1,
+                Some(Alarm {
+                    frame: 1,
+                    got: 9,
+                    want: 5,
+                }),
+            ),
+            Call::Tick(TickAnswer::NotYet(0)),
+            Call::Drop(0, Leaving::Fixed(2)),
+            Call::Tick(TickAnswer::Over),
+            Call::Up(
+                0,
+                Up::Sync { frame: 1, hash: 1 },
+                UpAnswer::Report(Reported::Kept),
+            ),
+            Call::Alarm(
+                0,
+                Some(Alarm {
+                    frame: 1,
+                    got: 1,
+                    want: 5,
+                }),
+            ),
+            Call::Up(
+                0,
+                Up::Sync { frame: 0, hash: 2 },
+                UpAnswer::Report(Reported::Kept),
+            ),
+            Call::Alarm(
+                0,
+                Some(Alarm {
+                    frame: 0,
+                    got: 2,
+                    want: 3,
+                }),
+            ),
+        ];
+        for call in calls {
+            answer(&rt, &mut server, call)?;
+        }
+        assert_eq!(rt; *server.marks(), *[3, 5].as_slice());
+        assert_eq!(rt; (server.ticked(), server.sim().steps), (2, 2));
+        Ok(())
+    }
+}
