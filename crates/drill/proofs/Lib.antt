@@ -1,0 +1,9 @@
+pub mod StageLemmas
+pub mod WordLemmas
+pub mod LineLemmas
+pub mod EventLemmas
+pub mod HappenLemmas
+pub mod OpeningLemmas
+pub mod RunLemmas
+pub mod DrillLemmas
+pub mod OrderLemmas

@@ -1,0 +1,68 @@
+-- The opening of a drill is whole, sound, and the record's opening.
+use Rattle.std.proofs.Common.{◌≡◌, ℕ, zero, suc, ◌+◌, List, [], ◌∷◌, length, map, replicate, refl, ap}
+use Rattle.std.specs.List.{AllByRecursion}
+use Rattle.game_orders.specs.declared.entry.Entry.{Entry}
+use Rattle.frame_core.specs.Column.{Column, no_column}
+use Rattle.peer_core.specs.Peer.{fresh_peer}
+use Rattle.server_core.specs.Served.{fresh_served}
+use Rattle.peer_core.specs.Faithful.{IsFaithful, fresh_faithful}
+use Rattle.server_core.specs.Server.{fresh_server}
+use Rattle.drill.specs.Opening.{fresh_peers}
+use Rattle.drill.specs.Record.{nothing_reached, opening}
+use Rattle.drill.specs.Stage.{reached_of, progress_of, AreNumbered, IsWhole, IsSound}
+
+-- One peer more.
+pub fresh_step :
+    {W : Type 0} (clients lag : ℕ) (world : W) (me n k : ℕ) → n ≡ suc k →
+    fresh_peers clients lag world me n ≡ fresh_peer me clients lag world ∷ fresh_peers clients lag world (me + 1) k
+fresh_step clients lag world me n k is = ap (fresh_peers clients lag world me) is
+
+length-fresh : {W : Type 0} (clients lag : ℕ) (world : W) (me n : ℕ) → length (fresh_peers clients lag world me n) ≡ n
+length-fresh clients lag world me zero = refl
+length-fresh clients lag world me (suc n) = ap suc (length-fresh clients lag world (me + 1) n)
+
+length-copies : {X : Type 0} (n : ℕ) (x : X) → length (replicate n x) ≡ n
+length-copies zero x = refl
+length-copies (suc n) x = ap suc (length-copies n x)
+
+numbered-fresh : {W : Type 0} (clients lag : ℕ) (world : W) (me n : ℕ) → AreNumbered clients lag me (fresh_peers clients lag world me n)
+numbered-fresh clients lag world me zero = tt
+numbered-fresh clients lag world me (suc n) =
+    (record { own = refl; all = refl; ahead = refl }, numbered-fresh clients lag world (me + 1) n)
+
+reached-fresh : {W : Type 0} (clients lag : ℕ) (world : W) (me n : ℕ) → map reached_of (fresh_peers clients lag world me n) ≡ replicate n nothing_reached
+reached-fresh clients lag world me zero = refl
+reached-fresh clients lag world me (suc n) = ap (λ rest. nothing_reached ∷ rest) (reached-fresh clients lag world (me + 1) n)
+
+faithful-fresh :
+    {W : Type 0} (after : W → List Entry → W) (start : W) (columns : List Column) (clients lag me n : ℕ) →
+    AllByRecursion (IsFaithful after start columns) (fresh_peers clients lag start me n)
+faithful-fresh after start columns clients lag me zero = tt
+faithful-fresh after start columns clients lag me (suc n) =
+    (fresh_faithful after start columns me clients lag, faithful-fresh after start columns clients lag (me + 1) n)
+
+pub opening_whole :
+    {W : Type 0} (clients lag : ℕ) (world : W) → IsWhole clients lag [] (fresh_server clients world) (fresh_peers clients lag world 0 clients)
+opening_whole clients lag world =
+    record {
+      senders = tt;
+      columned = length-copies clients no_column;
+      boarded = length-copies clients [];
+      counted = length-fresh clients lag world 0 clients;
+      numbered = numbered-fresh clients lag world 0 clients;
+    }
+
+pub opening_sound :
+    {W : Type 0} (after : W → List Entry → W) (hash : W → ℕ) (start : W) (clients lag : ℕ) →
+    IsSound after hash start (fresh_server clients start) (fresh_peers clients lag start 0 clients)
+opening_sound after hash start clients lag =
+    record {
+      served = fresh_served after hash start clients;
+      each = faithful-fresh after start (replicate clients no_column) clients lag 0 clients;
+    }
+
+pub opening_progress :
+    {W : Type 0} (clients lag : ℕ) (world : W) →
+    progress_of [] (fresh_server clients world) (fresh_peers clients lag world 0 clients) ≡ opening clients
+opening_progress clients lag world =
+    ap (λ peers. let first = opening clients in record first { peers = peers }) (reached-fresh clients lag world 0 clients)

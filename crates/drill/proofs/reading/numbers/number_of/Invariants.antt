@@ -1,0 +1,13 @@
+-- The bytes so far are digits, and the value is theirs.
+use Rattle.std.proofs.Common.{◌≡◌, ◌<◌, ◌^◌, true, take}
+use Rattle.std.specs.List.{list_all}
+use Rattle.drill.specs.Lines.{is_digit, value_of}
+use Rattle.drill.proofs.reading.numbers.number_of.Given as goal
+
+abbrev pub invariant-loop-byte : goal.invariant-loop-byte
+invariant-loop-byte l =
+    record {
+      digits : list_all is_digit (take l.byte-index l.word) ≡ true;
+      value : l.value ≡ value_of (take l.byte-index l.word);
+      bound : l.value < 10 ^ l.byte-index;
+    }

@@ -1,0 +1,5 @@
+-- One digit less is left at each call.
+use Rattle.drill.proofs.text.+add_hex.Given as goal
+
+abbrev pub decreases-add_hex : goal.decreases-add_hex
+decreases-add_hex l = l.digits

@@ -1,0 +1,11 @@
+pub mod Event
+pub mod Text
+pub mod Record
+pub mod Report
+pub mod Stage
+pub mod Lines
+pub mod Reading
+pub mod Opening
+pub mod Closing
+pub mod Run
+pub mod Left

@@ -1,0 +1,130 @@
+-- The printed words of a report.
+use Rattle.std.specs.Prelude.{ℕ, zero, suc, ◌+◌, ◌/◌, ◌%◌, nat_lt, if◌then◌else◌, Bool, true, false, List, [], ◌∷◌, ◌++◌, codes}
+use Rattle.std.specs.Fmt.{decimal}
+use Rattle.frame_core.specs.declared.put.Put.{Put}
+use Rattle.frame_core.specs.declared.put.Put.TheVariants.{Fixed, Repeat, Conflict, Left, Ahead, Full}
+use Rattle.frame_core.specs.declared.tick_answer.TickAnswer.{TickAnswer}
+use Rattle.frame_core.specs.declared.tick_answer.TickAnswer.TheVariants.{Ticked, NotYet, Over}
+use Rattle.frame_core.specs.declared.summary.Summary.{Summary}
+use Rattle.frame_core.specs.declared.leaving.Leaving.{Leaving}
+use Rattle.frame_core.specs.declared.leaving.Leaving.TheVariants.{Already, Fixed as FixedAt}
+use Rattle.server_core.specs.declared.reported.Reported.{Reported as ReportAnswer}
+use Rattle.server_core.specs.declared.reported.Reported.TheVariants.{Kept as First, Repeat as Second, Beyond as TooFar}
+use Rattle.server_core.specs.declared.alarm.Alarm.{Alarm}
+use Rattle.peer_core.specs.declared.seal_fault.SealFault.{SealFault}
+use Rattle.peer_core.specs.declared.seal_fault.SealFault.TheVariants.{TooEarly, LeftAlready, MatchFull}
+use Rattle.drill.specs.declared.outcome.Outcome.{Outcome}
+use Rattle.drill.specs.declared.outcome.Outcome.TheVariants.{Sealed, NotSealed, NoPacket, Entered, Reported, Leaves, Ignored, NoEntry, Arrived, Repeated, Ticking, ReportSent, NoFrame, ByeSent}
+
+-- A digit 0 to 15, in lower case.
+abbrev pub hex_digit : ℕ → ℕ
+hex_digit digit = if nat_lt digit 10 then 48 + digit else 87 + digit
+
+-- The last so many hexadecimal digits of a number, the highest first.
+abbrev pub hex_from : ℕ → ℕ → List ℕ
+hex_from zero n = []
+hex_from (suc digits) n = hex_from digits (n / 16) ++ hex_digit (n % 16) ∷ []
+
+-- A hash is printed as 16 digits.
+unfoldable pub hash_text : ℕ → List ℕ
+hash_text hash = hex_from 16 hash
+
+-- A client's frame behind a word.
+abbrev pub place_text : List ℕ → ℕ → ℕ → List ℕ
+place_text word client frame = word ++ codes " " ++ decimal client ++ codes " " ++ decimal frame
+
+-- Why a peer could not seal.
+abbrev pub seal_fault_text : SealFault → List ℕ
+seal_fault_text TooEarly = codes "too early"
+seal_fault_text LeftAlready = codes "left already"
+seal_fault_text MatchFull = codes "match full"
+
+-- What a column answered to orders.
+abbrev pub put_text : ℕ → ℕ → Put → List ℕ
+put_text client frame Fixed = place_text (codes "entry") client frame
+put_text client frame Repeat = place_text (codes "repeat") client frame
+put_text client frame (Conflict kept) = place_text (codes "conflict") client frame
+put_text client frame (Left at) = place_text (codes "left") client at
+put_text client frame (Ahead length) = place_text (codes "ahead") client frame ++ codes " " ++ decimal length
+put_text client frame Full = codes "full " ++ decimal client
+
+-- What the board answered to a report.
+abbrev pub reported_text : ℕ → ℕ → ReportAnswer → List ℕ
+reported_text client frame First = place_text (codes "report") client frame
+reported_text client frame Second = place_text (codes "report repeated") client frame
+reported_text client frame TooFar = place_text (codes "report beyond") client frame
+
+-- What a column answered to a departure.
+abbrev pub leaving_text : ℕ → Leaving → List ℕ
+leaving_text client (FixedAt at) = place_text (codes "leave") client at
+leaving_text client (Already at) = place_text (codes "already") client at
+
+-- What the tick of a peer or of the server answered.
+abbrev pub tick_text : TickAnswer → List ℕ
+tick_text (Ticked frame) = codes "ticked " ++ decimal frame
+tick_text (NotYet client) = codes "not yet " ++ decimal client
+tick_text Over = codes "over"
+
+-- The result of an event.
+abbrev pub outcome_text : Outcome → List ℕ
+outcome_text (Sealed frame) = codes "sealed " ++ decimal frame
+outcome_text (NotSealed fault) = seal_fault_text fault
+outcome_text NoPacket = codes "no packet"
+outcome_text (Entered client frame put) = put_text client frame put
+outcome_text (Reported client frame reported) = reported_text client frame reported
+outcome_text (Leaves client leaving) = leaving_text client leaving
+outcome_text Ignored = codes "ignored"
+outcome_text NoEntry = codes "no entry"
+outcome_text (Arrived client frame) = place_text (codes "kept") client frame
+outcome_text (Repeated client frame) = place_text (codes "repeat") client frame
+outcome_text (Ticking answer) = tick_text answer
+outcome_text (ReportSent frame) = codes "sent " ++ decimal frame
+outcome_text NoFrame = codes "no frame"
+outcome_text ByeSent = codes "bye"
+
+-- The line of the event of this number.
+unfoldable pub event_line : ℕ → Outcome → List ℕ
+event_line number outcome = decimal number ++ codes " " ++ outcome_text outcome ++ codes "\n"
+
+-- The lines of the events from this number on.
+abbrev pub event_lines : ℕ → List Outcome → List ℕ
+event_lines number [] = []
+event_lines number (outcome ∷ rest) = event_line number outcome ++ event_lines (number + 1) rest
+
+-- The cash of each client, each behind a space.
+abbrev pub cash_text : List ℕ → List ℕ
+cash_text [] = []
+cash_text (cash ∷ rest) = codes " " ++ decimal cash ++ cash_text rest
+
+-- A world's hash, its number of actors and the cash of its clients.
+unfoldable pub world_text : {W : Type 0} → (W → ℕ) → (W → Summary) → W → List ℕ
+world_text hash summary world =
+    codes " hash " ++ hash_text (hash world) ++ codes " actors " ++ decimal (summary world).actors
+    ++ codes " cash" ++ cash_text (summary world).cash ++ codes "\n"
+
+-- Whether a client is in the match still.
+abbrev pub state_text : Bool → List ℕ
+state_text true = codes " left\n"
+state_text false = codes " playing\n"
+
+-- The line of a client's column: its number of plays, and whether the client left.
+unfoldable pub column_line : ℕ → ℕ → Bool → List ℕ
+column_line client length left = codes "column " ++ decimal client ++ codes " " ++ decimal length ++ state_text left
+
+-- The front of a peer's line: its counts of ticked and sealed frames.
+unfoldable pub peer_head : ℕ → ℕ → ℕ → List ℕ
+peer_head peer ticked sealed = codes "peer " ++ decimal peer ++ codes " frames " ++ decimal ticked ++ codes " sealed " ++ decimal sealed
+
+-- The front of the server's line: its count of ticked frames.
+unfoldable pub server_head : ℕ → List ℕ
+server_head ticked = codes "server frames " ++ decimal ticked
+
+-- The line of a client's alarm: the frame, the hash that the client reported and the one that was wanted.
+unfoldable pub alarm_line : ℕ → Alarm → List ℕ
+alarm_line client alarm =
+    codes "alarm " ++ decimal client ++ codes " frame " ++ decimal alarm.frame ++ codes " got " ++ hash_text alarm.got
+    ++ codes " want " ++ hash_text alarm.want ++ codes "\n"
+
+-- The last line of a report.
+unfoldable pub end_line : List ℕ
+end_line = codes "end\n"

@@ -1,0 +1,10 @@
+use order_packets::Up;
+
+/// A packet that was sent up.
+#[derive(Debug, Drop)]
+pub struct Sent {
+    /// The client that sent it.
+    pub client: u8,
+    /// The packet.
+    pub packet: Up,
+}

@@ -1,0 +1,225 @@
+ghost use Rattle.std.specs.Prelude.{◌≡◌, ◌<◌, ◌≤◌, ◌++◌, List, string_bytes, OnOk, length};
+ghost use Rattle.drill.specs.Text.{hex_digit, hex_from, hash_text, place_text, seal_fault_text, put_text, reported_text, leaving_text, tick_text, outcome_text, event_line, cash_text, world_text, column_line, peer_head, server_head, alarm_line, end_line};
+
+use crate::outcome::Outcome;
+use base::NoMemory;
+use frame_core::{Leaving, Put, Sim, TickAnswer};
+use peer_core::SealFault;
+use server_core::{Alarm, Reported};
+use std::fmt::Write;
+
+/// Adds the line of the event of this number.
+#[tactic(auto, unfolding(crate::specs::Text::event_line))]
+pub(crate) fn add_event_line(
+    text: &mut String,
+    number: u32,
+    outcome: &Outcome,
+) -> Result<(), NoMemory>
+    ensures { OnOk result (string_bytes text.new ≡ string_bytes text.old ++ event_line number outcome.now) }
+{
+    write!(text, "{number} ")?;
+    add_outcome(text, outcome)?;
+    writeln!(text)
+}
+
+/// Adds the result of an event.
+fn add_outcome(text: &mut String, outcome: &Outcome) -> Result<(), NoMemory>
+    ensures { OnOk result (string_bytes text.new ≡ string_bytes text.old ++ outcome_text outcome.now) }
+{
+    match outcome {
+        Outcome::Sealed(frame) => write!(text, "sealed {frame}"),
+        Outcome::NotSealed(fault) => add_seal_fault(text, fault),
+        Outcome::NoPacket => write!(text, "no packet"),
+        Outcome::Entered { client, frame, put } => add_put(text, *client, *frame, put),
+        Outcome::Reported {
+            client,
+            frame,
+            reported,
+        } => add_reported(text, *client, *frame, reported),
+        Outcome::Leaves { client, leaving } => add_leaving(text, *client, leaving),
+        Outcome::Ignored => write!(text, "ignored"),
+        Outcome::NoEntry => write!(text, "no entry"),
+        Outcome::Arrived { client, frame } => write!(text, "kept {client} {frame}"),
+        Outcome::Repeated { client, frame } => write!(text, "repeat {client} {frame}"),
+        Outcome::Ticking(answer) => add_tick(text, answer),
+        Outcome::ReportSent(frame) => write!(text, "sent {frame}"),
+        Outcome::NoFrame => write!(text, "no frame"),
+        Outcome::ByeSent => write!(text, "bye"),
+    }
+}
+
+/// Adds why a peer could not seal.
+fn add_seal_fault(text: &mut String, fault: &SealFault) -> Result<(), NoMemory>
+    ensures { OnOk result (string_bytes text.new ≡ string_bytes text.old ++ seal_fault_text fault.now) }
+{
+    match fault {
+        SealFault::TooEarly => write!(text, "too early"),
+        SealFault::LeftAlready => write!(text, "left already"),
+        SealFault::MatchFull => write!(text, "match full"),
+    }
+}
+
+/// Adds what a column answered to orders.
+fn add_put(text: &mut String, client: u8, frame: u32, put: &Put) -> Result<(), NoMemory>
+    ensures { OnOk result (string_bytes text.new ≡ string_bytes text.old ++ put_text client frame put.now) }
+{
+    match put {
+        Put::Fixed => write!(text, "entry {client} {frame}"),
+        Put::Repeat => write!(text, "repeat {client} {frame}"),
+        Put::Conflict(_) => write!(text, "conflict {client} {frame}"),
+        Put::Left(at) => write!(text, "left {client} {at}"),
+        Put::Ahead(length) => write!(text, "ahead {client} {frame} {length}"),
+        Put::Full => write!(text, "full {client}"),
+    }
+}
+
+/// Adds what the board answered to a report.
+fn add_reported(
+    text: &mut String,
+    client: u8,
+    frame: u32,
+    reported: &Reported,
+) -> Result<(), NoMemory>
+    ensures { OnOk result (string_bytes text.new ≡ string_bytes text.old ++ reported_text client frame reported.now) }
+{
+    match reported {
+        Reported::Kept => write!(text, "report {client} {frame}"),
+        Reported::Repeat => write!(text, "report repeated {client} {frame}"),
+        Reported::Beyond => write!(text, "report beyond {client} {frame}"),
+    }
+}
+
+/// Adds what a column answered to a departure.
+fn add_leaving(text: &mut String, client: u8, leaving: &Leaving) -> Result<(), NoMemory>
+    ensures { OnOk result (string_bytes text.new ≡ string_bytes text.old ++ leaving_text client leaving.now) }
+{
+    match leaving {
+        Leaving::Fixed(at) => write!(text, "leave {client} {at}"),
+        Leaving::Already(at) => write!(text, "already {client} {at}"),
+    }
+}
+
+/// Adds what a tick answered.
+fn add_tick(text: &mut String, answer: &TickAnswer) -> Result<(), NoMemory>
+    ensures { OnOk result (string_bytes text.new ≡ string_bytes text.old ++ tick_text answer.now) }
+{
+    match answer {
+        TickAnswer::Ticked(frame) => write!(text, "ticked {frame}"),
+        TickAnswer::NotYet(client) => write!(text, "not yet {client}"),
+        TickAnswer::Over => write!(text, "over"),
+    }
+}
+
+/// Adds the line of a client's column.
+#[tactic(auto, unfolding(crate::specs::Text::column_line))]
+pub(crate) fn add_column_line(
+    text: &mut String,
+    client: u8,
+    length: u32,
+    left: bool,
+) -> Result<(), NoMemory>
+    ensures { OnOk result (string_bytes text.new ≡ string_bytes text.old ++ column_line client length left) }
+{
+    write!(text, "column {client} {length}")?;
+    if left {
+        writeln!(text, " left")
+    } else {
+        writeln!(text, " playing")
+    }
+}
+
+/// Adds the front of a peer's line.
+#[tactic(auto, unfolding(crate::specs::Text::peer_head))]
+pub(crate) fn add_peer_head(
+    text: &mut String,
+    peer: u8,
+    ticked: u32,
+    sealed: u32,
+) -> Result<(), NoMemory>
+    ensures { OnOk result (string_bytes text.new ≡ string_bytes text.old ++ peer_head peer ticked sealed) }
+{
+    write!(text, "peer {peer} frames {ticked} sealed {sealed}")
+}
+
+/// Adds the front of the server's line.
+#[tactic(auto, unfolding(crate::specs::Text::server_head))]
+pub(crate) fn add_server_head(text: &mut String, ticked: u32) -> Result<(), NoMemory>
+    ensures { OnOk result (string_bytes text.new ≡ string_bytes text.old ++ server_head ticked) }
+{
+    write!(text, "server frames {ticked}")
+}
+
+/// Adds the line of a client's alarm.
+#[tactic(auto, unfolding(crate::specs::Text::alarm_line))]
+pub(crate) fn add_alarm_line(text: &mut String, client: u8, alarm: Alarm) -> Result<(), NoMemory>
+    ensures { OnOk result (string_bytes text.new ≡ string_bytes text.old ++ alarm_line client alarm) }
+{
+    let frame = alarm.frame;
+    write!(text, "alarm {client} frame {frame} got ")?;
+    add_hash(text, alarm.got)?;
+    write!(text, " want ")?;
+    add_hash(text, alarm.want)?;
+    writeln!(text)
+}
+
+/// Adds the last line of a report.
+#[tactic(auto, unfolding(crate::specs::Text::end_line))]
+pub(crate) fn add_end_line(text: &mut String) -> Result<(), NoMemory>
+    ensures { OnOk result (string_bytes text.new ≡ string_bytes text.old ++ end_line) }
+{
+    writeln!(text, "end")
+}
+
+/// Adds the rest of a line that shows a world.
+#[tactic(auto, unfolding(crate::specs::Text::world_text))]
+pub(crate) fn add_world<S: Sim>(text: &mut String, world: &S) -> Result<(), NoMemory>
+    ensures { OnOk result (string_bytes text.new ≡ string_bytes text.old ++ world_text S.hash_of S.summary_of world.now) }
+{
+    let hash = world.hash();
+    let summary = world.summary();
+    let actors = summary.actors;
+    write!(text, " hash ")?;
+    add_hash(text, hash)?;
+    write!(text, " actors {actors} cash")?;
+    add_cash(text, summary.cash.as_slice())?;
+    writeln!(text)
+}
+
+/// Adds each amount behind a space.
+fn add_cash(text: &mut String, each: &[u32]) -> Result<(), NoMemory>
+    ensures { OnOk result (string_bytes text.new ≡ string_bytes text.old ++ cash_text each.now) }
+{
+    for cash in each {
+        write!(text, " {cash}")?;
+    }
+    Ok(())
+}
+
+/// Adds a hash, as 16 hexadecimal digits.
+#[tactic(auto, unfolding(crate::specs::Text::hash_text))]
+fn add_hash(text: &mut String, hash: u64) -> Result<(), NoMemory>
+    ensures { OnOk result (string_bytes text.new ≡ string_bytes text.old ++ hash_text hash) }
+{
+    add_hex(text, 16, hash)
+}
+
+/// Adds the last so many hexadecimal digits of a number.
+fn add_hex(text: &mut String, digits: u8, n: u64) -> Result<(), NoMemory>
+    ensures { OnOk result (string_bytes text.new ≡ string_bytes text.old ++ hex_from digits n) }
+{
+    if digits == 0 {
+        return Ok(());
+    }
+    add_hex(text, digits - 1, n / 16)?;
+    text.push(hex_char((n % 16) as u8))?;
+    Ok(())
+}
+
+/// A hexadecimal digit, in lower case.
+fn hex_char(digit: u8) -> char
+    requires { digit < 16 }
+    ensures value { result ≡ hex_digit digit }
+    ensures ascii { result < 128 }
+{
+    char::from(b"0123456789abcdef"[digit as usize])
+}
