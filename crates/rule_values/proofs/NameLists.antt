@@ -1,0 +1,88 @@
+-- Lists of names, part by part.
+use Rattle.std.proofs.Common.{◌≡◌, ℕ, ◌<◌, ◌≤◌, List, [], ◌∷◌, length, map, Bool, true, false, cond, ltb, ◌==◌, Option, Some, None, refl, sym, ap, ◌∙◌, arith, length-drop, ◌+◌, ◌-◌}
+use Rattle.std.proofs.lemmas.Bool.Decides.{nat_tests}
+use Rattle.std.proofs.lemmas.List.Splits.{slice_split_first, slice_split-cons_no}
+use Rattle.std.proofs.lemmas.Str.{chars-nil}
+use Rattle.std.specs.List.{filter, slice_split, onto_first, position_or_len, before_first, after_first}
+use Rattle.rule_values.specs.Blanks.{trimmed_front, trimmed_back, trimmed_of}
+use Rattle.rule_values.specs.NameList.{has_bytes, names_of, with_name}
+use Rattle.rule_values.specs.Parts.{parts_at}
+
+trimmed-nil : trimmed_of [] ≡ []
+unfolding trimmed_front trimmed_back
+trimmed-nil = rw chars-nil (rw chars-nil refl)
+
+-- The empty text has no names.
+pub no_names : names_of [] ≡ []
+unfolding names_of
+no_names = rw trimmed-nil refl
+
+pub none_left : (text : List ℕ) → length text ≡ 0 → names_of text ≡ []
+none_left [] empty = no_names
+none_left (b ∷ text) empty = absurd (omega arith)
+
+-- The test for a comma.
+abbrev is_comma : ℕ → Bool
+is_comma b = b == 44
+
+-- A list without a separator is one part.
+one-part-step :
+    (p : ℕ → Bool) (x : ℕ) (xs : List ℕ) (b : Bool) → p x ≡ b → length (x ∷ xs) ≤ position_or_len p (x ∷ xs) →
+    (length xs ≤ position_or_len p xs → slice_split p xs ≡ xs ∷ []) → slice_split p (x ∷ xs) ≡ (x ∷ xs) ∷ []
+one-part-step p x xs true e long more = let none = rw e at long in absurd (omega arith)
+one-part-step p x xs false e long more =
+    let rest = rw e at long in
+    slice_split-cons_no p x xs e ∙ ap (onto_first x) (more (omega arith))
+
+one-part : (p : ℕ → Bool) (xs : List ℕ) → length xs ≤ position_or_len p xs → slice_split p xs ≡ xs ∷ []
+one-part p [] long = refl
+one-part p (x ∷ xs) long = one-part-step p x xs (p x) refl long (one-part p xs)
+
+-- What a choice between parts and nothing was.
+parts-some :
+    (t : Bool) (p q : List ℕ × List ℕ) →
+    cond {A = Option (List ℕ × List ℕ)} t (Some p) None ≡ Some q → (t ≡ true) × (q ≡ p)
+parts-some true p q e = (refl, cc)
+parts-some false p q e = absurd (cc)
+
+parts-none : (t : Bool) (p : List ℕ × List ℕ) → cond {A = Option (List ℕ × List ℕ)} t (Some p) None ≡ None → t ≡ false
+parts-none true p e = absurd (cc)
+parts-none false p e = refl
+
+is-parts :
+    (c : ℕ) (text before after : List ℕ) → parts_at c text ≡ Some (before, after) →
+    (position_or_len (λ b. b == c) text < length text)
+    × (before ≡ before_first (λ b. b == c) text)
+    × (after ≡ after_first (λ b. b == c) text)
+unfolding parts_at
+is-parts c text before after cut =
+    let parts : List ℕ × List ℕ = (before_first (λ b. b == c) text, after_first (λ b. b == c) text) in
+    let is = parts-some (ltb (position_or_len (λ b. b == c) text) (length text)) parts (before, after) cut in
+    let found : ltb (position_or_len (λ b. b == c) text) (length text) ≡ true = is.0 in
+    (grind (arith, nat_tests), ap (λ q. q.0) is.1, ap (λ q. q.1) is.1)
+
+-- Where a comma stands, the names are the one before it and those behind it.
+pub names_at_comma :
+    (text before after : List ℕ) → parts_at 44 text ≡ Some (before, after) →
+    names_of text ≡ with_name (trimmed_of before) (names_of after)
+unfolding names_of
+names_at_comma text before after cut =
+    let is = is-parts 44 text before after cut in
+    ap (λ parts. filter has_bytes (map trimmed_of parts)) (slice_split_first is_comma text 0 is.0)
+    ∙ ap (λ part. with_name (trimmed_of part) (names_of (after_first is_comma text))) (sym is.1)
+    ∙ ap (λ rest. with_name (trimmed_of before) (names_of rest)) (sym is.2)
+
+-- Where none stands, the text is the one name.
+pub names_without_comma : (text : List ℕ) → parts_at 44 text ≡ None → names_of text ≡ with_name (trimmed_of text) (names_of [])
+unfolding names_of parts_at
+names_without_comma text none =
+    let no : ltb (position_or_len is_comma text) (length text) ≡ false = parts-none _ (before_first is_comma text, after_first is_comma text) none in
+    ap (λ parts. filter has_bytes (map trimmed_of parts)) (one-part is_comma text (grind (arith, nat_tests)))
+    ∙ ap (with_name (trimmed_of text)) (sym no_names)
+
+-- The part behind a separator is shorter than the text.
+pub after_shorter : (c : ℕ) (text before after : List ℕ) → parts_at c text ≡ Some (before, after) → length after < length text
+after_shorter c text before after cut =
+    let is = is-parts c text before after cut in
+    let behind : length after ≡ length text - (position_or_len (λ b. b == c) text + 1) = ap length is.2 ∙ length-drop _ text in
+    omega arith

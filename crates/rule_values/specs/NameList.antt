@@ -1,0 +1,20 @@
+-- Lists of names.
+use Rattle.std.specs.Prelude.{ℕ, Bool, List, ◌∷◌, map, length, nat_lt, ◌==◌, if◌then◌else◌}
+use Rattle.std.specs.List.{filter, slice_split}
+use Rattle.rule_values.specs.Blanks.{trimmed_of}
+use Rattle.rule_values.specs.declared.name_list.Names.{Names}
+
+abbrev pub has_bytes : List ℕ → Bool
+has_bytes text = nat_lt 0 (length text)
+
+-- The parts between commas (44), trimmed of blanks, without the empty ones.
+unfoldable pub names_of : List ℕ → List (List ℕ)
+names_of text = filter has_bytes (map trimmed_of (slice_split (λ b. b == 44) text))
+
+-- A name before others, where it is not empty.
+abbrev pub with_name : List ℕ → List (List ℕ) → List (List ℕ)
+with_name name names = if has_bytes name then name ∷ names else names
+
+-- The names that an iterator has still to give.
+abbrev pub names_left : Names → List (List ℕ)
+names_left it = names_of it.rest.now

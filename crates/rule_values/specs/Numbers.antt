@@ -1,0 +1,27 @@
+-- Numbers in decimal digits, and distances.
+use Rattle.std.specs.Prelude.{ℕ, ◌+◌, ◌*◌, Bool, ◌&&◌, nat_lt, nat_le, List, length, Option, Some, None, if◌then◌else◌}
+use Rattle.std.specs.Str.{all_ascii_digits}
+use Rattle.std.specs.Str.Parse.{digits_value}
+use Rattle.rule_values.specs.Parts.{parts_at}
+
+-- One to ten decimal digits.
+abbrev pub is_number : List ℕ → Bool
+is_number text = nat_lt 0 (length text) && nat_le (length text) 10 && all_ascii_digits text
+
+-- The number that the digits write.
+unfoldable pub number_of : List ℕ → Option ℕ
+number_of text = if is_number text then Some (digits_value 10 text) else None
+
+-- Cells of 1024 units, and units.
+abbrev pub cells_and_units : Option ℕ → Option ℕ → Option ℕ
+cells_and_units (Some cells) (Some units) = Some (1024 * cells + units)
+cells_and_units (Some cells) None = None
+cells_and_units None units = None
+
+-- A number of units where no `c` (99) stands, else a number before the first `c` and one behind it.
+abbrev pub dist_by : List ℕ → Option (List ℕ × List ℕ) → Option ℕ
+dist_by text None = number_of text
+dist_by text (Some parts) = cells_and_units (number_of parts.0) (number_of parts.1)
+
+unfoldable pub dist_of : List ℕ → Option ℕ
+dist_of text = dist_by text (parts_at 99 text)

@@ -1,0 +1,2 @@
+pub mod EarlierWords
+pub mod Renewals

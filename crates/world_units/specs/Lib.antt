@@ -1,0 +1,4 @@
+pub mod Angles
+pub mod Cells
+pub mod Directions
+pub mod Turning
