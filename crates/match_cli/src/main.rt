@@ -1,0 +1,42 @@
+//! The program `lockstep`: it reads its words, runs the command that they name over a disk, and prints the answer.
+//!
+//! `run` is the whole program over any disk and any sink. Its clause says what is printed and which status is
+//! answered, for every list of words and every content of the files. `main` hands it the real ones.
+#![tactic(auto)]
+
+mod command;
+mod print;
+mod request;
+mod statuses;
+
+use crate::statuses::OUT_OF_MEMORY;
+pub use command::run;
+use game_io::{FileDisk, StdSink};
+use std::io::ErrorKind;
+use std::process::ExitCode;
+use std::{env, io};
+
+/// The words of the command line. Words that are no text are an error, and are refused as no words are.
+fn words_of(rt: &HostRuntime) -> io::Result<Vec<String>> {
+    let mut words = Vec::new(rt.alloc());
+    for word in env::args(rt)? {
+        words.push(word)?;
+    }
+    Ok(words)
+}
+
+fn main(rt: HostRuntime) -> ExitCode {
+    let words = match words_of(&rt) {
+        Ok(words) => words,
+        Err(error) if error.kind() == ErrorKind::OutOfMemory => {
+            return ExitCode::from(OUT_OF_MEMORY);
+        }
+        Err(_) => Vec::new(rt.alloc()),
+    };
+    let mut disk = FileDisk::new(&rt);
+    let mut out = StdSink::new(io::writer(&rt));
+    ExitCode::from(run(rt.alloc(), &words, &mut disk, &mut out))
+}
+
+#[cfg(test)]
+mod tests;

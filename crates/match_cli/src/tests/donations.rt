@@ -1,0 +1,81 @@
+//! Drills with donations.
+
+/// What each shows, its script, and the report.
+pub(super) const ROWS: [(&str, &str, &str); 3] = [
+    (
+        "donations of one frame",
+        "match 2 2 1\n\
+         seal 0 donate 1 1001 ; donate 0 5 ; donate 1 400\n\
+         seal 1 donate 0 100\n\
+         up 0\n\
+         up 1\n\
+         tick server\n",
+        "0 sealed 0\n\
+         1 sealed 0\n\
+         2 entry 0 0\n\
+         3 entry 1 0\n\
+         4 ticked 0\n\
+         column 0 1 playing\n\
+         column 1 1 playing\n\
+         peer 0 frames 0 sealed 1 hash fcf76e38ea964cd7 actors 0 cash 1000 1000\n\
+         peer 1 frames 0 sealed 1 hash fcf76e38ea964cd7 actors 0 cash 1000 1000\n\
+         server frames 1 hash 22cde6625a608f61 actors 0 cash 700 1300\n\
+         end\n",
+    ),
+    (
+        "donation to a client that leaves",
+        "match 2 2 1\n\
+         seal 0 donate 1 400\n\
+         up 0\n\
+         drop 1\n\
+         tick server\n",
+        "0 sealed 0\n\
+         1 entry 0 0\n\
+         2 leave 1 0\n\
+         3 ticked 0\n\
+         column 0 1 playing\n\
+         column 1 0 left\n\
+         peer 0 frames 0 sealed 1 hash fcf76e38ea964cd7 actors 0 cash 1000 1000\n\
+         peer 1 frames 0 sealed 0 hash fcf76e38ea964cd7 actors 0 cash 1000 1000\n\
+         server frames 1 hash 7163dacd7c91f1bf actors 0 cash 1000 1000\n\
+         end\n",
+    ),
+    (
+        "drill of the local match",
+        "match 3 2 9\n\
+         seal 0 donate 1 10\n\
+         seal 1\n\
+         seal 2\n\
+         seal 0\n\
+         up 0\n\
+         up 1\n\
+         up 2\n\
+         up 3\n\
+         drop 0\n\
+         drop 1\n\
+         drop 2\n\
+         tick server\n\
+         tick server\n",
+        "0 sealed 0\n\
+         1 sealed 0\n\
+         2 sealed 0\n\
+         3 sealed 1\n\
+         4 entry 0 0\n\
+         5 entry 1 0\n\
+         6 entry 2 0\n\
+         7 entry 0 1\n\
+         8 leave 0 2\n\
+         9 leave 1 1\n\
+         10 leave 2 1\n\
+         11 ticked 0\n\
+         12 ticked 1\n\
+         column 0 2 left\n\
+         column 1 1 left\n\
+         column 2 1 left\n\
+         peer 0 frames 0 sealed 2 hash 0585fc97a81b1f87 actors 0 cash 1000 1000 1000\n\
+         peer 1 frames 0 sealed 1 hash 0585fc97a81b1f87 actors 0 cash 1000 1000 1000\n\
+         peer 2 frames 0 sealed 1 hash 0585fc97a81b1f87 actors 0 cash 1000 1000 1000\n\
+         server frames 2 hash 40558307518e13fb actors 0 cash 990 1010 1000\n\
+         end\n",
+    ),
+];

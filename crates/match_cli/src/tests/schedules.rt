@@ -1,0 +1,113 @@
+//! Drills of seals, packets, agreed entries and ticks.
+
+/// What each shows, its script, and the report.
+pub(super) const ROWS: [(&str, &str, &str); 6] = [
+    (
+        "match without events",
+        "match 1 2 5489\n",
+        "column 0 0 playing\n\
+         peer 0 frames 0 sealed 0 hash e284473ba23241b0 actors 0 cash 1000\n\
+         server frames 0 hash e284473ba23241b0 actors 0 cash 1000\n\
+         end\n",
+    ),
+    (
+        "one seal one tick",
+        "match 1 2 5489\n\
+         seal 0\n\
+         up 0\n\
+         down 0 0 0\n\
+         tick 0\n",
+        "0 sealed 0\n\
+         1 entry 0 0\n\
+         2 kept 0 0\n\
+         3 ticked 0\n\
+         column 0 1 playing\n\
+         peer 0 frames 1 sealed 1 hash 2844b966ff578f05 actors 0 cash 1000\n\
+         server frames 0 hash e284473ba23241b0 actors 0 cash 1000\n\
+         end\n",
+    ),
+    (
+        "own frame not back yet",
+        "match 1 2 1\n\
+         seal 0\n\
+         up 0\n\
+         tick 0\n\
+         down 0 0 0\n\
+         tick 0\n",
+        "0 sealed 0\n\
+         1 entry 0 0\n\
+         2 not yet 0\n\
+         3 kept 0 0\n\
+         4 ticked 0\n\
+         column 0 1 playing\n\
+         peer 0 frames 1 sealed 1 hash 812832320b2b6e66 actors 0 cash 1000\n\
+         server frames 0 hash d58d09c89f12778f actors 0 cash 1000\n\
+         end\n",
+    ),
+    (
+        "frames out of order and twice",
+        "match 1 2 1\n\
+         seal 0\n\
+         seal 0\n\
+         up 0\n\
+         up 1\n\
+         down 0 0 1\n\
+         down 0 0 1\n\
+         tick 0\n\
+         down 0 0 0\n\
+         down 0 0 0\n\
+         tick 0\n\
+         tick 0\n\
+         tick 0\n",
+        "0 sealed 0\n\
+         1 sealed 1\n\
+         2 entry 0 0\n\
+         3 entry 0 1\n\
+         4 kept 0 1\n\
+         5 repeat 0 1\n\
+         6 not yet 0\n\
+         7 kept 0 0\n\
+         8 repeat 0 0\n\
+         9 ticked 0\n\
+         10 ticked 1\n\
+         11 not yet 0\n\
+         column 0 2 playing\n\
+         peer 0 frames 2 sealed 2 hash c8e66d9483e411ed actors 0 cash 1000\n\
+         server frames 0 hash d58d09c89f12778f actors 0 cash 1000\n\
+         end\n",
+    ),
+    (
+        "packet ahead of its column",
+        "match 1 2 1\n\
+         seal 0\n\
+         seal 0\n\
+         up 1\n\
+         up 0\n\
+         up 1\n\
+         up 9\n",
+        "0 sealed 0\n\
+         1 sealed 1\n\
+         2 ahead 0 1 0\n\
+         3 entry 0 0\n\
+         4 entry 0 1\n\
+         5 no packet\n\
+         column 0 2 playing\n\
+         peer 0 frames 0 sealed 2 hash d58d09c89f12778f actors 0 cash 1000\n\
+         server frames 0 hash d58d09c89f12778f actors 0 cash 1000\n\
+         end\n",
+    ),
+    (
+        "seal no further than the lag",
+        "match 1 2 1\n\
+         seal 0\n\
+         seal 0\n\
+         seal 0\n",
+        "0 sealed 0\n\
+         1 sealed 1\n\
+         2 too early\n\
+         column 0 0 playing\n\
+         peer 0 frames 0 sealed 2 hash d58d09c89f12778f actors 0 cash 1000\n\
+         server frames 0 hash d58d09c89f12778f actors 0 cash 1000\n\
+         end\n",
+    ),
+];
