@@ -10,4 +10,5 @@ pub mod ParseSteps
 pub mod PrintSteps
 pub mod EscapeLaws
 pub mod ReadAgain
+pub mod ForestSteps
 pub mod LinesReadable

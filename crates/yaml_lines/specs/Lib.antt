@@ -6,3 +6,4 @@ pub mod Trees
 pub mod Grown
 pub mod Printed
 pub mod Readable
+pub mod Built

@@ -2,7 +2,9 @@
 use Rattle.std.specs.Prelude.{◌≡◌, ℕ, Bool, true, false, ◌&&◌, not, List, [], ◌∷◌, ◌==◌, map}
 use Rattle.yaml_lines.specs.Blanks.{begins_blank, ends_blank}
 use Rattle.yaml_lines.specs.Reading.{Words, ends_with, without_last}
+use Rattle.yaml_lines.specs.declared.forest.Forest.{Forest}
 use Rattle.yaml_lines.specs.Kept.{Kept}
+use Rattle.yaml_lines.specs.Trees.{trees_of, flat}
 
 -- The byte doesn't stand in the text.
 abbrev pub lacks : ℕ → List ℕ → Bool
@@ -31,6 +33,10 @@ pub record IsReadable (words : Words) : Type 0 where
 abbrev pub AllReadable : List Kept → Type 0
 AllReadable [] = Unit {0}
 AllReadable (node ∷ rest) = IsReadable node.words × AllReadable rest
+
+-- Lines can give the nodes of the forest.
+abbrev pub IsReadableForest : Forest → Type 0
+IsReadableForest forest = AllReadable (flat 0 (trees_of forest))
 
 -- What nodes say, wherever they stand.
 abbrev pub said : List Kept → List Words

@@ -1,4 +1,5 @@
 ghost use Rattle.std.specs.Prelude.{◌≡◌, ◌<◌, ◌≤◌, ◌+◌, ◌++◌, ◌∷◌, [], length, IfOk, IfErr, OnOk, MatchOption, None};
+ghost use Rattle.yaml_lines.specs.Built.{parsed};
 ghost use Rattle.yaml_lines.specs.Grown.{flat_grown, height};
 ghost use Rattle.yaml_lines.specs.Kept.{lines_of, kept_of, kept_lines, line_fault, allowed_after, first_line_fault, IsFault};
 ghost use Rattle.yaml_lines.specs.Readable.{AllReadable};
@@ -48,6 +49,7 @@ fn add_line(alloc: Global, grown: &mut Growing, place: Place, line: &[u8]) -> Re
 /// Reads a file: its kept lines as a forest, or its first line fault. `file` is the file's number.
 pub fn parse(alloc: Global, file: u16, bytes: &[u8]) -> Result<Forest, LineFault>
     ensures sound { OnOk result (first_line_fault file bytes.now ≡ None) }
+    ensures done { IfOk result (λ forest. parsed file bytes.now ≡ Ok (trees_of forest)) }
     ensures reads { IfOk result (λ forest. flat 0 (trees_of forest) ≡ kept_lines file bytes.now) }
     ensures readable { IfOk result (λ forest. AllReadable (flat 0 (trees_of forest))) }
     ensures fault { IfErr result (λ fault. IsFault fault (first_line_fault file bytes.now)) }

@@ -1,5 +1,6 @@
 use Rattle.std.proofs.Common.{arith}
 use Rattle.yaml_lines.proofs.ParseSteps.{line_within, kept_step, fault_step}
+use Rattle.yaml_lines.proofs.ForestSteps.{parsed-end}
 use Rattle.yaml_lines.proofs.LinesReadable.{nodes_readable}
 use Rattle.yaml_lines.proofs.parsing.parse.Goals as goal
 
@@ -17,3 +18,7 @@ loop-text-preserved c =
 pub returns-clause-readable : goal.returns-clause-readable
 returns-clause-readable c =
     nodes_readable c.args.file c.loop-text.line c.args.bytes.now c.loop-text.rest.now _ _ c.in_default.ensures (c.in_ok-forest.ensures {u = tt}) c.loop-text.invariant.kept
+
+pub returns-clause-done : goal.returns-clause-done
+returns-clause-done c =
+    parsed-end c.args.file c.loop-text.line _ c.args.bytes.now c.loop-text.rest.now _ _ c.in_default.ensures (c.in_ok-forest.ensures {u = tt}) c.loop-text.invariant.kept c.loop-text.invariant.fault
