@@ -1,5 +1,11 @@
+pub mod LevelLaws
+pub mod LevelSteps
 pub mod JoinSteps
 pub mod SizeSteps
 pub mod StepSteps
-pub mod ListSteps
 pub mod TopSteps
+pub mod NodeSteps
+pub mod ListSteps
+pub mod RemoveSteps
+pub mod FileSteps
+pub mod ReadableSteps

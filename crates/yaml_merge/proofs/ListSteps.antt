@@ -1,5 +1,5 @@
 -- One node of a list that is being resolved.
-use Rattle.std.proofs.Common.{◌≡◌, ℕ, zero, suc, ◌+◌, ◌-◌, ◌*◌, ◌<◌, List, length, drop, get_or, refl, sym, ap, ◌∙◌, arith, Ok, Err}
+use Rattle.std.proofs.Common.{◌≡◌, ℕ, zero, suc, ◌+◌, ◌-◌, ◌*◌, ◌<◌, List, length, drop, get_or, refl, sym, ap, ◌∙◌, arith, inl, inr, Ok, Err}
 use Rattle.std.proofs.lemmas.List.{drop_more}
 use Rattle.yaml_lines.specs.declared.forest.Node.{Node}
 use Rattle.yaml_lines.specs.declared.forest.Forest.{Forest}
@@ -10,7 +10,7 @@ use Rattle.yaml_lines.proofs.TreeSteps.{trees_out, before_out}
 use Rattle.yaml_merge.specs.declared.fault.MergeFault.{MergeFault}
 use Rattle.yaml_merge.specs.declared.TheConstants.{MAX_LIST_NODES}
 use Rattle.yaml_merge.specs.Merging.{joined, children_at}
-use Rattle.yaml_merge.specs.Resolving.{Outcome, after, within, taken_in, resolved_list}
+use Rattle.yaml_merge.specs.Resolving.{Outcome, after, within, taken_in, resolved_list, IsFault}
 
 -- The measure falls where a parent is looked into.
 pub falls : (free s c n : ℕ) → 0 < free → c < s → 4 * ((free - 1) * (s + 1) + c) + 3 < 4 * (free * (s + 1) + n) + 1
@@ -49,13 +49,20 @@ resolved_step free room tops path nodes at node start next kept all h n t w e =
     ∙ ap (λ o. after o rest) w)
     ∙ e
 
-pub resolved_fault : (free room : ℕ) (tops : Trees) (path : List (List ℕ)) (nodes : List Node) (at : ℕ) (node : Node) (start : Trees) (fault : MergeFault) (all : Outcome) →
+resolved_fault : (free room : ℕ) (tops : Trees) (path : List (List ℕ)) (nodes : List Node) (at : ℕ) (node : Node) (start : Trees) (fault : MergeFault) (all : Outcome) →
     at < length nodes → node ≡ get_or nodes at node →
     taken_in free room tops path (out-Node node).key (out-Node node).value (out-Node node).place (trees_of (out-Node node).children) start ≡ Err fault →
     resolved_list free (trees_of_nodes (drop at nodes)) room tops path start ≡ all → all ≡ Err fault
 resolved_fault free room tops path nodes at node start fault all h n t e =
     let rest = λ (list : Trees). resolved_list free (trees_of_nodes (drop (at + 1) nodes)) room tops path list in
     sym e ∙ resolved_at free room tops path nodes at node start h n ∙ ap (λ o. after (after o (within MAX_LIST_NODES (out-Node node).place)) rest) t
+
+pub resolved_faulted : (free room : ℕ) (tops : Trees) (path : List (List ℕ)) (nodes : List Node) (at : ℕ) (node : Node) (start : Trees) (fault : MergeFault) (all : Outcome) →
+    at < length nodes → node ≡ get_or nodes at node →
+    IsFault fault (taken_in free room tops path (out-Node node).key (out-Node node).value (out-Node node).place (trees_of (out-Node node).children) start) →
+    resolved_list free (trees_of_nodes (drop at nodes)) room tops path start ≡ all → IsFault fault all
+resolved_faulted free room tops path nodes at node start fault all h n (inl memory) e = inl memory
+resolved_faulted free room tops path nodes at node start fault all h n (inr t) e = inr (resolved_fault free room tops path nodes at node start fault all h n t e)
 
 pub resolved_large : (free room : ℕ) (tops : Trees) (path : List (List ℕ)) (nodes : List Node) (at : ℕ) (node : Node) (start next : Trees) (fault : MergeFault) (all : Outcome) →
     at < length nodes → node ≡ get_or nodes at node →
@@ -76,8 +83,6 @@ resolved_none free room tops path start = refl
 pub resolved_out : (free room : ℕ) (tops : Trees) (path : List (List ℕ)) (list : Forest) (start : Trees) →
     resolved_list free (trees_of list) room tops path start ≡ resolved_list free (trees_of_nodes (out-Forest list).nodes.items) room tops path start
 resolved_out free room tops path list start = ap (λ l. resolved_list free l room tops path start) (trees_out list)
-
-pub ruleset list_steps = (resolved_step, resolved_fault, resolved_large, resolved_none, resolved_out)
 
 -- A node joined to the list with its resolved children.
 pub join_done : (free room : ℕ) (tops : Trees) (path : List (List ℕ)) (key value : List ℕ) (place : Place) (children list old below next : Trees) →

@@ -1,96 +1,31 @@
--- One top-level node.
-use Rattle.std.proofs.Common.{◌≡◌, ℕ, ◌+◌, ◌-◌, ◌<◌, true, false, List, [], ◌∷◌, ◌++◌, map, length, drop, get_or, sym, ap, ◌∙◌, Ok, Err}
+-- The top-level nodes, found by their names.
+use Rattle.std.proofs.Common.{◌≡◌, ℕ, zero, suc, ◌<◌, true, false, List, [], ◌∷◌, length, get_or, refl, sym, ap, ◌∙◌, arith, Some, None}
 use Rattle.std.proofs.lemmas.Bool.{cond-true, cond-false}
-use Rattle.std.proofs.lemmas.List.{drop_more}
 use Rattle.yaml_lines.specs.declared.forest.Node.{Node}
-use Rattle.yaml_lines.specs.declared.forest.Forest.{Forest}
-use Rattle.yaml_lines.specs.declared.forest.Forest.TheViews.{out-Node, roll-Node}
-use Rattle.yaml_lines.specs.declared.place.Place.{Place}
-use Rattle.yaml_lines.specs.declared.TheConstants.{MAX_LEVELS}
-use Rattle.yaml_lines.specs.Trees.{Trees, none, more, trees_of, before, trees_of_nodes}
-use Rattle.yaml_lines.proofs.TreeSteps.{trees_out, trees_roll, before_out, before_roll}
-use Rattle.yaml_merge.specs.declared.fault.MergeFault.{MergeFault}
-use Rattle.yaml_merge.specs.declared.TheConstants.{MAX_PATH, MAX_FOREST_NODES}
-use Rattle.yaml_merge.specs.Merging.{merged_into, merged_files}
-use Rattle.yaml_merge.specs.Resolving.{Outcome, after, within, removes, resolved_list, added, resolved_tops}
+use Rattle.yaml_lines.specs.declared.forest.Forest.TheViews.{out-Node}
+use Rattle.yaml_lines.specs.Trees.{Trees, none, more, trees_of, trees_of_nodes}
+use Rattle.yaml_lines.proofs.TreeSteps.{before_out}
+use Rattle.yaml_merge.specs.Levels.{width, Lacks, Stands, children_from}
+use Rattle.yaml_merge.specs.Resolving.{removes, parent_of}
 
--- What is left after a removal is passed over.
-pub tops_past : (nodes : List Node) (at : ℕ) (d : Node) (tops done : Trees) → at < length nodes → removes (out-Node (get_or nodes at d)).key ≡ true →
-    resolved_tops (trees_of_nodes (drop at nodes)) tops done ≡ resolved_tops (trees_of_nodes (drop (at + 1) nodes)) tops done
-tops_past nodes at d tops kept h r =
-    ap (λ l. resolved_tops (trees_of_nodes l) tops kept) (drop_more nodes at d h)
-    ∙ ap (λ g. resolved_tops (g (trees_of_nodes (drop (at + 1) nodes))) tops kept) (before_out (get_or nodes at d))
-    ∙ cond-true _ _ _ r
+pub parent_none : (name : List ℕ) (tops : Trees) → removes name ≡ true → parent_of name tops ≡ None
+parent_none name none h = refl
+parent_none name (more key value place children rest) h = cond-true _ _ _ h
 
--- A node added last.
-pub added_last : (nodes : List Node) (key value : List ℕ) (place : Place) (children : Trees) (made : Node) →
-    before made ≡ (λ rest. more key value place children rest) → trees_of_nodes (nodes ++ made ∷ []) ≡ added key value place children (trees_of_nodes nodes)
-added_last [] key value place children made m = ap (λ g. g none) m
-added_last (first ∷ nodes) key value place children made m =
-    ap (before first) (added_last nodes key value place children made m)
-    ∙ ap (λ g. g (added key value place children (trees_of_nodes nodes))) (before_out first)
-    ∙ sym (ap (λ g. added key value place children (g (trees_of_nodes nodes))) (before_out first))
+pub parent_lost : (name : List ℕ) (tops : Trees) → removes name ≡ false → Lacks name tops → parent_of name tops ≡ None
+parent_lost name none r h = refl
+parent_lost name (more key value place children rest) r h = cond-false _ _ _ r ∙ cond-false _ _ _ h.0 ∙ parent_lost name rest r h.1
 
--- One more file.
-pub merge_file : (files : List Forest) (at : ℕ) (d : Forest) (list next all : Trees) → at < length files →
-    next ≡ merged_into (trees_of (get_or files at d)) list → merged_files (map trees_of (drop at files)) list ≡ all → merged_files (map trees_of (drop (at + 1) files)) next ≡ all
-merge_file files at d list next all h n e =
-    ap (merged_files (map trees_of (drop (at + 1) files))) n ∙ sym (ap (λ l. merged_files (map trees_of l) list) (drop_more files at d h)) ∙ e
+pub parent_found : (name : List ℕ) (at : ℕ) (tops : Trees) → removes name ≡ false → Stands name at tops → parent_of name tops ≡ Some (children_from at tops)
+parent_found name at none r h = absurd h
+parent_found name zero (more key value place children rest) r h = cond-false _ _ _ r ∙ cond-true _ _ _ h
+parent_found name (suc at) (more key value place children rest) r h = cond-false _ _ _ r ∙ cond-false _ _ _ h.0 ∙ parent_found name at rest r h.1
 
-pub ruleset top_steps = (tops_past, trees_roll, trees_out)
+pub width_nodes : (nodes : List Node) → width (trees_of_nodes nodes) ≡ length nodes
+width_nodes [] = refl
+width_nodes (node ∷ nodes) = ap (λ g. width (g (trees_of_nodes nodes))) (before_out node) ∙ ap suc (width_nodes nodes)
 
-tops_at : (nodes : List Node) (at : ℕ) (node : Node) (tops start : Trees) → at < length nodes → node ≡ get_or nodes at node → removes (out-Node node).key ≡ false →
-    resolved_tops (trees_of_nodes (drop at nodes)) tops start
-    ≡ after
-    (after (resolved_list (MAX_PATH - 1) (trees_of (out-Node node).children) (MAX_LEVELS - 1) tops ((out-Node node).key ∷ []) none)
-    (λ below. within MAX_FOREST_NODES (out-Node node).place (added (out-Node node).key (out-Node node).value (out-Node node).place below start)))
-    (λ next. resolved_tops (trees_of_nodes (drop (at + 1) nodes)) tops next)
-tops_at nodes at node tops start h n r =
-    let rest = trees_of_nodes (drop (at + 1) nodes) in
-    ap (λ l. resolved_tops (trees_of_nodes l) tops start) (drop_more nodes at node h)
-    ∙ sym (ap (λ x. resolved_tops (before x rest) tops start) n)
-    ∙ ap (λ g. resolved_tops (g rest) tops start) (before_out node)
-    ∙ cond-false _ _ _ r
-
-pub tops_next : (nodes : List Node) (at : ℕ) (node : Node) (tops start below next kept : Trees) (all : Outcome) → at < length nodes → node ≡ get_or nodes at node →
-    removes (out-Node node).key ≡ false →
-    resolved_list (MAX_PATH - 1) (trees_of (out-Node node).children) (MAX_LEVELS - 1) tops ((out-Node node).key ∷ []) none ≡ Ok below →
-    next ≡ added (out-Node node).key (out-Node node).value (out-Node node).place below start →
-    within MAX_FOREST_NODES (out-Node node).place next ≡ Ok kept →
-    resolved_tops (trees_of_nodes (drop at nodes)) tops start ≡ all → resolved_tops (trees_of_nodes (drop (at + 1) nodes)) tops kept ≡ all
-tops_next nodes at node tops start below next kept all h n r b x w e =
-    let o = out-Node node in
-    let rest : Trees → Outcome = λ t. resolved_tops (trees_of_nodes (drop (at + 1) nodes)) tops t in
-    sym (tops_at nodes at node tops start h n r
-    ∙ ap (λ u. after (after u (λ c. within MAX_FOREST_NODES o.place (added o.key o.value o.place c start))) rest) b
-    ∙ ap (λ t. after (within MAX_FOREST_NODES o.place t) rest) (sym x)
-    ∙ ap (λ u. after u rest) w)
-    ∙ e
-
-pub tops_large : (nodes : List Node) (at : ℕ) (node : Node) (tops start below next : Trees) (fault : MergeFault) (all : Outcome) → at < length nodes → node ≡ get_or nodes at node →
-    removes (out-Node node).key ≡ false →
-    resolved_list (MAX_PATH - 1) (trees_of (out-Node node).children) (MAX_LEVELS - 1) tops ((out-Node node).key ∷ []) none ≡ Ok below →
-    next ≡ added (out-Node node).key (out-Node node).value (out-Node node).place below start →
-    within MAX_FOREST_NODES (out-Node node).place next ≡ Err fault →
-    resolved_tops (trees_of_nodes (drop at nodes)) tops start ≡ all → all ≡ Err fault
-tops_large nodes at node tops start below next fault all h n r b x w e =
-    let o = out-Node node in
-    let rest : Trees → Outcome = λ t. resolved_tops (trees_of_nodes (drop (at + 1) nodes)) tops t in
-    sym e
-    ∙ tops_at nodes at node tops start h n r
-    ∙ ap (λ u. after (after u (λ c. within MAX_FOREST_NODES o.place (added o.key o.value o.place c start))) rest) b
-    ∙ ap (λ t. after (within MAX_FOREST_NODES o.place t) rest) (sym x)
-    ∙ ap (λ u. after u rest) w
-
-pub top_added : (start next : Forest) (nodes : List Node) (made : Node) (key value : List ℕ) (place : Place) (below : Trees) →
-    trees_of next ≡ trees_of_nodes (nodes ++ made ∷ []) → trees_of start ≡ trees_of_nodes nodes →
-    before made ≡ (λ rest. more key value place below rest) → trees_of next ≡ added key value place below (trees_of start)
-top_added start next nodes made key value place below n s m =
-    n ∙ added_last nodes key value place below made m ∙ ap (added key value place below) (sym s)
-
-pub top_made : (key value : List ℕ) (place : Place) (children : Forest) (k v : List ℕ) → key ≡ k → value ≡ v →
-    before (roll-Node (record { key = key; value = value; place = place; children = children })) ≡ (λ rest. more k v place (trees_of children) rest)
-top_made key value place children k v e f =
-    before_roll (record { key = key; value = value; place = place; children = children })
-    ∙ ap (λ x. (λ rest. more x value place (trees_of children) rest)) e
-    ∙ ap (λ x. (λ rest. more k x place (trees_of children) rest)) f
+pub children_nodes : (at : ℕ) (nodes : List Node) (d : Node) → at < length nodes → d ≡ get_or nodes at d → children_from at (trees_of_nodes nodes) ≡ trees_of (out-Node d).children
+children_nodes at [] d h e = absurd (omega arith)
+children_nodes zero (node ∷ nodes) d h e = ap (λ g. children_from 0 (g (trees_of_nodes nodes))) (before_out node) ∙ ap (λ n. trees_of (out-Node n).children) (sym e)
+children_nodes (suc at) (node ∷ nodes) d h e = ap (λ g. children_from (suc at) (g (trees_of_nodes nodes))) (before_out node) ∙ children_nodes at nodes d (omega arith) e

@@ -1,4 +1,6 @@
 pub mod Merging
 pub mod Resolving
 pub mod Nodes
-pub mod Belongs
+pub mod Codes
+pub mod Levels
+pub mod LevelFalls

@@ -1,66 +1,74 @@
-ghost use Rattle.std.specs.Prelude.{◌≡◌, ◌-◌, [], ◌∷◌, map, IfOk, IfErr, Ok};
-ghost use Rattle.yaml_lines.specs.Trees.{none, trees_of};
+ghost use Rattle.std.specs.Prelude.{◌≡◌, ◌-◌, [], ◌∷◌, map, All, IfOk, IfErr, Ok};
+ghost use Rattle.yaml_lines.specs.Readable.{IsReadableForest};
+ghost use Rattle.yaml_lines.specs.Trees.{none, more, trees_of, before};
 ghost use Rattle.yaml_lines.specs.declared.forest.Forest.TheViews.{out-Node};
 ghost use Rattle.yaml_merge.specs.Merging.{merged_files};
 ghost use Rattle.yaml_merge.specs.Resolving.{resolved_list, resolved_tops, removed_tops, resolved_files, IsFault};
 
 use crate::fault::MergeFault;
+use crate::level::Level;
 use crate::merging::merge;
+use crate::removing::remove_node;
 use crate::resolving::resolve_list;
-use crate::steps::{remove, removes, within};
+use crate::steps::removes;
+use crate::tops::Tops;
 use crate::{MAX_FOREST_NODES, MAX_PATH};
 use base::NoMemory;
 use std::alloc::Global;
 use yaml_lines::{Forest, MAX_LEVELS, Node};
 
 /// The resolved children of a top-level node.
-fn resolve_top(alloc: Global, tops: &Forest, node: &Node) -> Result<Forest, MergeFault>
-    ensures done { IfOk result (λ forest. resolved_list (MAX_PATH - 1) (trees_of (out-Node node.now).children) (MAX_LEVELS - 1) (trees_of tops.now) ((out-Node node.now).key ∷ []) none ≡ Ok (trees_of forest)) }
-    ensures fault { IfErr result (λ fault. IsFault fault (resolved_list (MAX_PATH - 1) (trees_of (out-Node node.now).children) (MAX_LEVELS - 1) (trees_of tops.now) ((out-Node node.now).key ∷ []) none)) }
+fn resolve_top(alloc: Global, tops: &Tops, node: &Node) -> Result<Level, MergeFault>
+    ensures done { IfOk result (λ level. resolved_list (MAX_PATH - 1) (trees_of (out-Node node.now).children) (MAX_LEVELS - 1) (trees_of tops.now.forest) ((out-Node node.now).key ∷ []) none ≡ Ok level) }
+    ensures fault { IfErr result (λ fault. IsFault fault (resolved_list (MAX_PATH - 1) (trees_of (out-Node node.now).children) (MAX_LEVELS - 1) (trees_of tops.now.forest) ((out-Node node.now).key ∷ []) none)) }
 {
     let mut path = Vec::new(alloc);
     path.push(node.key.copy(alloc)?)?;
-    let start = Forest {
-        nodes: Vec::new(alloc),
-    };
+    let start = Level::new(alloc);
+    let room = MAX_LEVELS - 1;
     resolve_list(
         alloc,
         tops,
         &node.children,
         MAX_PATH - 1,
-        MAX_LEVELS - 1,
+        room,
         &mut path,
         start,
     )
 }
 
-/// Resolves the top-level nodes that are no removals, in order.
-fn resolve_tops(alloc: Global, tops: &Forest) -> Result<Forest, MergeFault>
-    ensures done { IfOk result (λ forest. resolved_tops (trees_of tops.now) (trees_of tops.now) none ≡ Ok (trees_of forest)) }
-    ensures fault { IfErr result (λ fault. IsFault fault (resolved_tops (trees_of tops.now) (trees_of tops.now) none)) }
+/// A top-level node with its resolved children.
+fn top_node(alloc: Global, node: &Node, children: Level) -> Result<Node, NoMemory>
+    ensures { IfOk result (λ made. before made ≡ (λ rest. more (out-Node node.now).key (out-Node node.now).value (out-Node node.now).place children rest)) }
 {
-    let mut done = Forest {
-        nodes: Vec::new(alloc),
-    };
-    for node in &tops.nodes {
+    let Tops { forest, names: _ } = Tops::of(alloc, children)?;
+    Ok(Node {
+        key: node.key.copy(alloc)?,
+        value: node.value.copy(alloc)?,
+        place: node.place,
+        children: forest,
+    })
+}
+
+/// Resolves the top-level nodes that are no removals, in order.
+fn resolve_tops(alloc: Global, tops: &Tops) -> Result<Forest, MergeFault>
+    ensures done { IfOk result (λ forest. resolved_tops (trees_of tops.now.forest) (trees_of tops.now.forest) none ≡ Ok (trees_of forest)) }
+    ensures fault { IfErr result (λ fault. IsFault fault (resolved_tops (trees_of tops.now.forest) (trees_of tops.now.forest) none)) }
+{
+    let mut nodes = Vec::new(alloc);
+    let mut total = 0usize;
+    for node in &tops.forest.nodes {
         if removes(node.key.as_str().as_bytes()) {
             continue;
         }
         let children = resolve_top(alloc, tops, node)?;
-        let made = Node {
-            key: node.key.copy(alloc)?,
-            value: node.value.copy(alloc)?,
-            place: node.place,
-            children,
-        };
-        let Forest { mut nodes } = done;
-        nodes.push(made)?;
-        match within(MAX_FOREST_NODES, node.place, Forest { nodes }) {
-            Ok(kept) => done = kept,
-            Err(fault) => return Err(fault),
+        total = total.saturating_add(children.total()).saturating_add(1);
+        if total > MAX_FOREST_NODES {
+            return Err(MergeFault::TooLarge { place: node.place });
         }
+        nodes.push(top_node(alloc, node, children)?)?;
     }
-    Ok(done)
+    Ok(Forest { nodes })
 }
 
 /// Removes what the top-level removals name, in order.
@@ -71,7 +79,7 @@ fn remove_tops(tops: &Forest, list: Forest) -> Result<Forest, MergeFault>
     let mut done = list;
     for node in &tops.nodes {
         if let [b'-', key @ ..] = node.key.as_str().as_bytes() {
-            match remove(key, node.place, done) {
+            match remove_node(key, node.place, done) {
                 Ok(left) => done = left,
                 Err(fault) => return Err(fault),
             }
@@ -81,25 +89,26 @@ fn remove_tops(tops: &Forest, list: Forest) -> Result<Forest, MergeFault>
 }
 
 /// All files as one list.
-fn merge_files(alloc: Global, files: &[Forest]) -> Result<Forest, NoMemory>
-    ensures { IfOk result (λ forest. merged_files (map trees_of files.now) none ≡ trees_of forest) }
+fn merge_files(alloc: Global, files: &[Forest]) -> Result<Level, NoMemory>
+    ensures { IfOk result (λ level. merged_files (map trees_of files.now) none ≡ level) }
 {
-    let mut list = Forest {
-        nodes: Vec::new(alloc),
-    };
+    let mut list = Level::new(alloc);
     for file in files {
         list = merge(alloc, file, list)?;
     }
     Ok(list)
 }
 
-/// Merges the files in order, and resolves what their nodes inherit and remove.
+/// Merges the files in order, and resolves what their nodes inherit and remove. Where lines can give the nodes of all
+/// files, they can give those of the answer.
 #[tactic(auto, unfolding(crate::specs::Resolving::resolved_files))]
 pub fn resolve(alloc: Global, files: &[Forest]) -> Result<Forest, MergeFault>
     ensures done { IfOk result (λ forest. resolved_files (map trees_of files.now) ≡ Ok (trees_of forest)) }
+    ensures readable { All IsReadableForest files.now → IfOk result IsReadableForest }
     ensures fault { IfErr result (λ fault. IsFault fault (resolved_files (map trees_of files.now))) }
 {
-    let tops = merge_files(alloc, files)?;
+    let list = merge_files(alloc, files)?;
+    let tops = Tops::of(alloc, list)?;
     let done = resolve_tops(alloc, &tops)?;
-    remove_tops(&tops, done)
+    remove_tops(&tops.forest, done)
 }

@@ -6,11 +6,14 @@
 
 mod fault;
 mod files;
+mod level;
 mod merging;
+mod removing;
 mod resolving;
 mod sizes;
 mod steps;
 mod taken;
+mod tops;
 
 pub use fault::MergeFault;
 pub use files::resolve;

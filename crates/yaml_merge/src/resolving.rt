@@ -6,9 +6,10 @@ ghost use Rattle.yaml_merge.specs.Resolving.{after, parent_of, inherit_step, par
 
 use crate::MAX_LIST_NODES;
 use crate::fault::MergeFault;
-use crate::merging::{newer_value, take_node};
-use crate::steps::{in_path, inherit, inherits, parent_of, remove, removes, within};
+use crate::level::Level;
+use crate::steps::{in_path, inherit, inherits, removal, remove, within};
 use crate::taken::Taken;
+use crate::tops::Tops;
 use std::alloc::Global;
 use yaml_lines::{Forest, MAX_LEVELS, Node, Text};
 
@@ -17,32 +18,30 @@ use yaml_lines::{Forest, MAX_LEVELS, Node, Text};
 #[tactic(auto, using(crate::proofs::ListSteps::falls))]
 fn inherit_node(
     alloc: Global,
-    tops: &Forest,
+    tops: &Tops,
     node: &Node,
     free: usize,
     room: usize,
     path: &mut Vec<Text>,
-    list: Forest,
-) -> Result<Forest, MergeFault>
-    ensures taken { IfOk result (λ forest. inherit_step free room (out-Node node.now).place (out-Node node.now).value path.old.items (parents free (trees_of tops.now) path.old.items (out-Node node.now).value) (trees_of list) (parent_of (out-Node node.now).value (trees_of tops.now)) ≡ Ok (trees_of forest)) }
+    list: Level,
+) -> Result<Level, MergeFault>
+    ensures taken { IfOk result (λ level. inherit_step free room (out-Node node.now).place (out-Node node.now).value path.old.items (parents free (trees_of tops.now.forest) path.old.items (out-Node node.now).value) list (parent_of (out-Node node.now).value (trees_of tops.now.forest)) ≡ Ok level) }
     ensures path { OnOk result (path.new.items ≡ path.old.items) }
-    ensures fault { IfErr result (λ fault. IsFault fault (inherit_step free room (out-Node node.now).place (out-Node node.now).value path.old.items (parents free (trees_of tops.now) path.old.items (out-Node node.now).value) (trees_of list) (parent_of (out-Node node.now).value (trees_of tops.now)))) }
+    ensures fault { IfErr result (λ fault. IsFault fault (inherit_step free room (out-Node node.now).place (out-Node node.now).value path.old.items (parents free (trees_of tops.now.forest) path.old.items (out-Node node.now).value) list (parent_of (out-Node node.now).value (trees_of tops.now.forest)))) }
 {
     let place = node.place;
-    let name = node.value.as_str().as_bytes();
-    let Some(children) = parent_of(name, tops) else {
+    let name = node.value.as_str();
+    let Some(children) = tops.parent_of(name) else {
         return Err(MergeFault::NoParent { place });
     };
-    if in_path(name, path.as_slice()) {
+    if in_path(name.as_bytes(), path.as_slice()) {
         return Err(MergeFault::Cycle { place });
     }
     if free == 0 {
         return Err(MergeFault::TooDeep { place });
     }
     path.push(node.value.copy(alloc)?)?;
-    let start = Forest {
-        nodes: Vec::new(alloc),
-    };
+    let start = Level::new(alloc);
     let parent = resolve_list(alloc, tops, children, free - 1, MAX_LEVELS - 1, path, start)?;
     path.pop();
     inherit(alloc, room, place, list, parent)
@@ -52,42 +51,23 @@ fn inherit_node(
 #[cycle(resolving)]
 fn join_node(
     alloc: Global,
-    tops: &Forest,
+    tops: &Tops,
     node: &Node,
     free: usize,
     room: usize,
     path: &mut Vec<Text>,
-    list: Forest,
-) -> Result<Forest, MergeFault>
-    ensures taken { IfOk result (λ forest. after (resolved_list free (trees_of (out-Node node.now).children) (room - 1) (trees_of tops.now) path.old.items (children_at (out-Node node.now).key (trees_of list))) (λ children. Ok (joined (out-Node node.now).key (out-Node node.now).value (out-Node node.now).place (λ _. children) (trees_of list))) ≡ Ok (trees_of forest)) }
+    list: Level,
+) -> Result<Level, MergeFault>
+    ensures taken { IfOk result (λ level. after (resolved_list free (trees_of (out-Node node.now).children) (room - 1) (trees_of tops.now.forest) path.old.items (children_at (out-Node node.now).key list)) (λ children. Ok (joined (out-Node node.now).key (out-Node node.now).value (out-Node node.now).place (λ _. children) list)) ≡ Ok level) }
     ensures path { OnOk result (path.new.items ≡ path.old.items) }
-    ensures fault { IfErr result (λ fault. IsFault fault (after (resolved_list free (trees_of (out-Node node.now).children) (room - 1) (trees_of tops.now) path.old.items (children_at (out-Node node.now).key (trees_of list))) (λ children. Ok (joined (out-Node node.now).key (out-Node node.now).value (out-Node node.now).place (λ _. children) (trees_of list))))) }
+    ensures fault { IfErr result (λ fault. IsFault fault (after (resolved_list free (trees_of (out-Node node.now).children) (room - 1) (trees_of tops.now.forest) path.old.items (children_at (out-Node node.now).key list)) (λ children. Ok (joined (out-Node node.now).key (out-Node node.now).value (out-Node node.now).place (λ _. children) list)))) }
 {
-    let Forest { mut nodes } = list;
-    let Taken {
-        at,
-        key,
-        value,
-        children,
-    } = take_node(alloc, &mut nodes, &node.key)?;
-    let children = resolve_list(
-        alloc,
-        tops,
-        &node.children,
-        free,
-        room.saturating_sub(1),
-        path,
-        children,
-    )?;
-    let value = newer_value(alloc, value, &node.value)?;
-    let made = Node {
-        key,
-        value,
-        place: node.place,
-        children,
-    };
-    nodes.insert(at, made)?;
-    Ok(Forest { nodes })
+    let mut list = list;
+    let Taken { at, children } = list.take(alloc, &node.key, node.place)?;
+    let room = room.saturating_sub(1);
+    let children = resolve_list(alloc, tops, &node.children, free, room, path, children)?;
+    list.fill(alloc, at, &node.value, node.place, children)?;
+    Ok(list)
 }
 
 /// Takes one node into a list that is being resolved.
@@ -95,43 +75,42 @@ fn join_node(
 #[tactic(auto, unfolding(crate::specs::Resolving::taken_in, crate::specs::Resolving::node_step))]
 fn take_in(
     alloc: Global,
-    tops: &Forest,
+    tops: &Tops,
     node: &Node,
     free: usize,
     room: usize,
     path: &mut Vec<Text>,
-    list: Forest,
-) -> Result<Forest, MergeFault>
-    ensures taken { IfOk result (λ forest. taken_in free room (trees_of tops.now) path.old.items (out-Node node.now).key (out-Node node.now).value (out-Node node.now).place (trees_of (out-Node node.now).children) (trees_of list) ≡ Ok (trees_of forest)) }
+    list: Level,
+) -> Result<Level, MergeFault>
+    ensures taken { IfOk result (λ level. taken_in free room (trees_of tops.now.forest) path.old.items (out-Node node.now).key (out-Node node.now).value (out-Node node.now).place (trees_of (out-Node node.now).children) list ≡ Ok level) }
     ensures path { OnOk result (path.new.items ≡ path.old.items) }
-    ensures fault { IfErr result (λ fault. IsFault fault (taken_in free room (trees_of tops.now) path.old.items (out-Node node.now).key (out-Node node.now).value (out-Node node.now).place (trees_of (out-Node node.now).children) (trees_of list))) }
+    ensures fault { IfErr result (λ fault. IsFault fault (taken_in free room (trees_of tops.now.forest) path.old.items (out-Node node.now).key (out-Node node.now).value (out-Node node.now).place (trees_of (out-Node node.now).children) list)) }
 {
-    let key = node.key.as_str().as_bytes();
-    if inherits(key) {
+    let key = node.key.as_str();
+    if inherits(key.as_bytes()) {
         return inherit_node(alloc, tops, node, free, room, path, list);
     }
-    match key {
-        [b'-', removed @ ..] => remove(removed, node.place, list),
-        _ => join_node(alloc, tops, node, free, room, path, list),
+    match removal(key) {
+        Some(removed) => remove(removed, node.place, list),
+        None => join_node(alloc, tops, node, free, room, path, list),
     }
 }
 
 /// Takes the nodes of a list, in order, into a list that is there. The path may get `free` more names, and the nodes
 /// may take up `room` levels.
 #[cycle(resolving)]
-#[tactic(auto, using(crate::proofs::ListSteps::list_steps))]
 pub fn resolve_list(
     alloc: Global,
-    tops: &Forest,
+    tops: &Tops,
     list: &Forest,
     free: usize,
     room: usize,
     path: &mut Vec<Text>,
-    start: Forest,
-) -> Result<Forest, MergeFault>
-    ensures done { IfOk result (λ forest. resolved_list free (trees_of list.now) room (trees_of tops.now) path.old.items (trees_of start) ≡ Ok (trees_of forest)) }
+    start: Level,
+) -> Result<Level, MergeFault>
+    ensures done { IfOk result (λ level. resolved_list free (trees_of list.now) room (trees_of tops.now.forest) path.old.items start ≡ Ok level) }
     ensures path { OnOk result (path.new.items ≡ path.old.items) }
-    ensures fault { IfErr result (λ fault. IsFault fault (resolved_list free (trees_of list.now) room (trees_of tops.now) path.old.items (trees_of start))) }
+    ensures fault { IfErr result (λ fault. IsFault fault (resolved_list free (trees_of list.now) room (trees_of tops.now.forest) path.old.items start)) }
 {
     let mut done = start;
     for node in &list.nodes {

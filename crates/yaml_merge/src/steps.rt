@@ -1,14 +1,23 @@
-ghost use Rattle.std.specs.Prelude.{◌≡◌, ◌<◌, MatchOption, IfSome, IfOk, IfErr, Ok, Err, None, Some};
-ghost use Rattle.yaml_lines.specs.declared.forest.Forest.{size-Forest};
+ghost use Rattle.std.specs.Prelude.{◌≡◌, true, false, drop, MatchOption, IfOk, IfErr, Ok, Err};
+ghost use Rattle.std.specs.Str.{bytes_eq};
 ghost use Rattle.yaml_lines.specs.Trees.{trees_of};
 ghost use Rattle.yaml_merge.specs.Merging.{without};
-ghost use Rattle.yaml_merge.specs.Resolving.{inherits, removes, parent_of, in_path, within, inherited, removed, IsFault};
+ghost use Rattle.yaml_merge.specs.Resolving.{inherits, removes, in_path, within, inherited, removed, IsFault};
 
 use crate::fault::MergeFault;
-use crate::merging::{find, merge, same};
-use crate::sizes::{has_levels, room_after};
+use crate::level::Level;
+use crate::merging::merge;
+use crate::sizes::has_levels;
+use crate::tops::Tops;
 use std::alloc::Global;
-use yaml_lines::{Forest, Place, Text};
+use yaml_lines::{Place, Text};
+
+/// Whether two texts are the same.
+pub fn same(one: &[u8], other: &[u8]) -> bool
+    ensures { result ≡ bytes_eq one.now other.now }
+{
+    one == other
+}
 
 /// The key is `Inherits`, or begins with `Inherits@`.
 #[tactic(auto, unfolding(crate::specs::Resolving::inherits))]
@@ -28,21 +37,11 @@ pub fn removes(key: &[u8]) -> bool
     }
 }
 
-/// The children of the top-level node that a name names.
-#[tactic(auto, using(crate::proofs::StepSteps::parent_steps))]
-pub fn parent_of<'a>(name: &[u8], tops: &'a Forest) -> Option<&'a Forest>
-    ensures parent { MatchOption result (parent_of name.now (trees_of tops.now) ≡ None) (λ children. parent_of name.now (trees_of tops.now) ≡ Some (trees_of children.now)) }
-    ensures smaller { IfSome result (λ children. size-Forest children.now < size-Forest tops.now) }
+/// The key that a removal removes.
+pub fn removal(key: &str) -> Option<&str>
+    ensures { MatchOption result (removes key.now ≡ false) (λ removed. (removes key.now ≡ true) × (removed.now ≡ drop 1 key.now)) }
 {
-    if removes(name) {
-        return None;
-    }
-    for node in &tops.nodes {
-        if same(node.key.as_str().as_bytes(), name) {
-            return Some(&node.children);
-        }
-    }
-    None
+    key.strip_prefix('-')
 }
 
 /// Whether a name stands in the path.
@@ -59,28 +58,26 @@ pub fn in_path(name: &[u8], path: &[Text]) -> bool
 
 /// The list, where it isn't too large.
 #[tactic(auto, using(crate::proofs::StepSteps::within_steps))]
-pub fn within(limit: usize, place: Place, list: Forest) -> Result<Forest, MergeFault>
-    ensures kept { IfOk result (λ forest. within limit place (trees_of list) ≡ Ok (trees_of forest)) }
-    ensures fault { IfErr result (λ fault. within limit place (trees_of list) ≡ Err fault) }
+pub fn within(limit: usize, place: Place, list: Level) -> Result<Level, MergeFault>
+    ensures kept { IfOk result (λ level. within limit place list ≡ Ok level) }
+    ensures fault { IfErr result (λ fault. within limit place list ≡ Err fault) }
 {
-    match room_after(&list, limit) {
-        Some(_) => Ok(list),
-        None => Err(MergeFault::TooLarge { place }),
+    if list.total() > limit {
+        return Err(MergeFault::TooLarge { place });
     }
+    Ok(list)
 }
 
 /// The list without the node of a key.
-pub fn remove(key: &[u8], place: Place, list: Forest) -> Result<Forest, MergeFault>
-    ensures left { IfOk result (λ forest. removed place (without key.now (trees_of list)) ≡ Ok (trees_of forest)) }
-    ensures fault { IfErr result (λ fault. removed place (without key.now (trees_of list)) ≡ Err fault) }
+pub fn remove(key: &str, place: Place, list: Level) -> Result<Level, MergeFault>
+    ensures left { IfOk result (λ level. removed place (without key.now list) ≡ Ok level) }
+    ensures fault { IfErr result (λ fault. removed place (without key.now list) ≡ Err fault) }
 {
-    let Forest { mut nodes } = list;
-    match find(nodes.as_slice(), key) {
-        Some(at) => {
-            nodes.remove(at);
-            Ok(Forest { nodes })
-        }
-        None => Err(MergeFault::NothingToRemove { place }),
+    let mut list = list;
+    if list.remove(key) {
+        Ok(list)
+    } else {
+        Err(MergeFault::NothingToRemove { place })
     }
 }
 
@@ -90,14 +87,15 @@ pub fn inherit(
     alloc: Global,
     room: usize,
     place: Place,
-    list: Forest,
-    parent: Forest,
-) -> Result<Forest, MergeFault>
-    ensures taken { IfOk result (λ forest. inherited room place (trees_of list) (trees_of parent) ≡ Ok (trees_of forest)) }
-    ensures fault { IfErr result (λ fault. IsFault fault (inherited room place (trees_of list) (trees_of parent))) }
+    list: Level,
+    parent: Level,
+) -> Result<Level, MergeFault>
+    ensures taken { IfOk result (λ level. inherited room place list parent ≡ Ok level) }
+    ensures fault { IfErr result (λ fault. IsFault fault (inherited room place list parent)) }
 {
-    if !has_levels(&parent, room) {
+    let Tops { forest, names: _ } = Tops::of(alloc, parent)?;
+    if !has_levels(&forest, room) {
         return Err(MergeFault::TooDeep { place });
     }
-    Ok(merge(alloc, &parent, list)?)
+    Ok(merge(alloc, &forest, list)?)
 }

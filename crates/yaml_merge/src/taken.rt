@@ -1,14 +1,10 @@
-use yaml_lines::{Forest, Text};
+use crate::level::Level;
 
-/// A node that was taken out of a list, or one that isn't in it yet.
+/// The children that were taken out of a list under a key.
 #[derive(Drop)]
 pub struct Taken {
-    /// Where it belongs.
+    /// Where the node with the key stands.
     pub at: usize,
-    /// Its key.
-    pub key: Text,
-    /// Its value: empty where it is new.
-    pub value: Text,
     /// Its children: none where it is new.
-    pub children: Forest,
+    pub children: Level,
 }

@@ -4,4 +4,4 @@ use Rattle.yaml_merge.specs.Merging.{merged_files}
 use Rattle.yaml_merge.proofs.files.merge_files.Given as goal
 
 abbrev pub invariant-loop-file : goal.invariant-loop-file
-invariant-loop-file l = merged_files (map trees_of (drop l.file-index l.files)) (trees_of l.list) ≡ merged_files (map trees_of l.files) none
+invariant-loop-file l = merged_files (map trees_of (drop l.file-index l.files)) l.list ≡ merged_files (map trees_of l.files) none

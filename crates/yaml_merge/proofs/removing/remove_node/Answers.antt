@@ -3,8 +3,8 @@ use Rattle.yaml_lines.specs.declared.forest.Forest.TheViews.{out-Forest}
 use Rattle.yaml_lines.specs.Trees.{trees_of_nodes}
 use Rattle.yaml_lines.proofs.TreeSteps.{trees_roll}
 use Rattle.yaml_merge.specs.Nodes.{has_key, lacks_key}
-use Rattle.yaml_merge.proofs.StepSteps.{removed_at, removed_none}
-use Rattle.yaml_merge.proofs.steps.remove.Goals as goal
+use Rattle.yaml_merge.proofs.RemoveSteps.{removed_at, removed_none}
+use Rattle.yaml_merge.proofs.removing.remove_node.Goals as goal
 
 pub returns-in-Some-clause-left : goal.returns-in-Some-clause-left
 returns-in-Some-clause-left c =
