@@ -1,0 +1,89 @@
+use crate::trait_fields::{
+    Armament, Buildable, Harvester, Health, Mobile, Production, Refinery, Valued,
+};
+use crate::trait_value::TraitValue;
+use crate::traits::Trait;
+use yaml_lines::Text;
+
+/// A kind of actor: its name, and the traits that it has.
+#[derive(Drop)]
+pub struct Kind {
+    /// Its name, the key of its node.
+    pub name: Text,
+    /// Its hit points.
+    pub health: Option<Health>,
+    /// How it moves.
+    pub mobile: Option<Mobile>,
+    /// Whether it is a building.
+    pub building: bool,
+    /// How it gathers ore.
+    pub harvester: Option<Harvester>,
+    /// What it pays for ore.
+    pub refinery: Option<Refinery>,
+    /// What it builds.
+    pub production: Option<Production>,
+    /// How it is built.
+    pub buildable: Option<Buildable>,
+    /// What it costs. A kind without this trait costs 0.
+    pub valued: Option<Valued>,
+    /// How it shoots.
+    pub armament: Option<Armament>,
+}
+
+impl Kind {
+    ghost use Rattle.std.specs.Prelude.{◌≡◌};
+    ghost use Rattle.rule_traits.specs.Traits.{has_trait};
+    ghost use Rattle.rule_traits.specs.Typed.{plain_kind, with_trait};
+
+    /// Whether it has the trait.
+    pub fn has(&self, known: Trait) -> bool
+        ensures { result ≡ has_trait self.now known }
+    {
+        match known {
+            Trait::Health => self.health.is_some(),
+            Trait::Mobile => self.mobile.is_some(),
+            Trait::Building => self.building,
+            Trait::Harvester => self.harvester.is_some(),
+            Trait::Refinery => self.refinery.is_some(),
+            Trait::Production => self.production.is_some(),
+            Trait::Buildable => self.buildable.is_some(),
+            Trait::Valued => self.valued.is_some(),
+            Trait::Armament => self.armament.is_some(),
+        }
+    }
+
+    /// A kind without traits.
+    pub(crate) fn plain(name: Text) -> Kind
+        ensures { result ≡ plain_kind name }
+    {
+        Kind {
+            name,
+            health: None,
+            mobile: None,
+            building: false,
+            harvester: None,
+            refinery: None,
+            production: None,
+            buildable: None,
+            valued: None,
+            armament: None,
+        }
+    }
+
+    /// Gives it a trait, in place of the one that it had.
+    pub(crate) fn add(&mut self, value: TraitValue)
+        ensures { self.new ≡ with_trait self.old value }
+    {
+        match value {
+            TraitValue::Health(t) => self.health = Some(t),
+            TraitValue::Mobile(t) => self.mobile = Some(t),
+            TraitValue::Building => self.building = true,
+            TraitValue::Harvester(t) => self.harvester = Some(t),
+            TraitValue::Refinery(t) => self.refinery = Some(t),
+            TraitValue::Production(t) => self.production = Some(t),
+            TraitValue::Buildable(t) => self.buildable = Some(t),
+            TraitValue::Valued(t) => self.valued = Some(t),
+            TraitValue::Armament(t) => self.armament = Some(t),
+        }
+    }
+}
