@@ -1,0 +1,164 @@
+-- A walk over words that are all names.
+use Rattle.std.proofs.Common.{◌≡◌, ◌==◌, ◌∙◌, ap, ap₂, ℕ, Bool, true, false, List, [], ◌∷◌, ◌++◌, Some, None, codes, refl, append_assoc, arith}
+use Rattle.std.proofs.lemmas.List.Elements.{All-tail}
+use Rattle.std.specs.Prelude.{fold}
+use Rattle.std.specs.List.{All}
+use Rattle.clap.specs.Walk.{Held, Row, Rule, Text, Waiting, Walk, positional, reading_by, plain_word, subcommand_or_other, after_step, walked, walk_from, nothing_held, finished, settled, rows_after, Step, value, idle}
+use Rattle.clap.specs.Simple.{Shape, new_shape, filled, with_index}
+use Rattle.clap.specs.Kinds.{Kinds, or_else}
+use Rattle.clap.specs.Faults.{other_fault, turn_fault, walk_fault, settle_fault, defaults_fault, check_fault, level_fault, step_fault}
+use Rattle.clap.specs.declared.parser.matches.ValueSource.TheVariants.{CommandLine}
+use Rattle.clap.proofs.SimpleLemmas.{is_false}
+use Rattle.command_words.specs.Commands.{file_names}
+use Rattle.command_words.specs.Words.{is_plain}
+
+abbrev pub IsPlain : Text → Type 0
+IsPlain word = is_plain word ≡ true
+
+at_first : (word : Text) (words : List Text) → All IsPlain (word ∷ words) → IsPlain word
+at_first word words plain = plain 0 word (omega arith)
+
+-- A plain word is neither `--` nor an option.
+met : (c : List Rule) (waiting : Waiting) (position : ℕ) (word : Text) (h : Held) → is_plain word ≡ true
+    → subcommand_or_other c None waiting position word h ≡ plain_word c waiting word h
+met c waiting position [] h plain = refl
+met c waiting position (first ∷ []) h plain = by_hyphen (first == 45) refl
+  where
+    by_hyphen : (hyphen : Bool) → (first == 45) ≡ hyphen → subcommand_or_other c None waiting position (first ∷ []) h ≡ plain_word c waiting (first ∷ []) h
+    by_hyphen true is = simp is refl
+    by_hyphen false is = simp is refl
+met c waiting position (first ∷ second ∷ rest) h plain =
+    let other : (first == 45) ≡ false = is_false _ plain in
+    simp other refl
+
+quiet : (s : Shape) (word : Text) (h : Held) → is_plain word ≡ true → other_fault s None word h ≡ []
+quiet s [] h plain = refl
+quiet s (first ∷ []) h plain = by_hyphen (first == 45) refl
+  where
+    by_hyphen : (hyphen : Bool) → (first == 45) ≡ hyphen → other_fault s None (first ∷ []) h ≡ []
+    by_hyphen true is = simp is refl
+    by_hyphen false is = simp is refl
+quiet s (first ∷ second ∷ rest) h plain =
+    let other : (first == 45) ≡ false = is_false _ plain in
+    simp other refl
+
+-- The names as the parse has them, and a command that takes nothing else.
+abbrev pub names_rule : Rule
+names_rule = with_index 1 (filled file_names)
+
+abbrev pub names_shape : Text → Shape
+names_shape command = record (new_shape command) {
+  rules = names_rule ∷ [];
+  disable_help_flag = true;
+  disable_help_subcommand = true;
+  disable_version_flag = true;
+  is_built = true;
+}
+
+abbrev pub found_names : List Text → List Row
+found_names [] = []
+found_names (name ∷ names) = record {
+  id = codes "names";
+  values = name ∷ names;
+  count = None;
+  source = Some CommandLine;
+  reading = reading_by names_rule;
+} ∷ []
+
+-- The walk behind a name, which is still held back.
+abbrev behind : List Text → Text → Walk
+behind before last = record {
+  held = record { rows = found_names before; pending = Some (codes "names", last ∷ []); skip = 0 };
+  waiting = positional;
+  position = 1;
+  is_trailing = false;
+  stopped = None;
+}
+
+first_name : (word : Text) → is_plain word ≡ true → walked (names_rule ∷ []) [] (walk_from nothing_held) word ≡ behind [] word
+unfolding walked
+first_name word plain = ap (λ (m : Held × Step). after_step (names_rule ∷ []) word (walk_from nothing_held) m.0 m.1) (met (names_rule ∷ []) idle 1 word nothing_held plain)
+
+to_next : (before : List Text) (last word : Text) → after_step (names_rule ∷ []) word (behind before last) (behind before last).held value ≡ behind (before ++ last ∷ []) word
+to_next [] last word = refl
+to_next (name ∷ names) last word = refl
+
+next_name : (before : List Text) (last word : Text) → is_plain word ≡ true → walked (names_rule ∷ []) [] (behind before last) word ≡ behind (before ++ last ∷ []) word
+unfolding walked
+next_name before last word plain =
+    ap (λ (m : Held × Step). after_step (names_rule ∷ []) word (behind before last) m.0 m.1) (met (names_rule ∷ []) positional 1 word (behind before last).held plain)
+    ∙ to_next before last word
+
+first_quiet : (command word : Text) → is_plain word ≡ true → turn_fault (names_shape command) [] (walk_from nothing_held) word ≡ []
+first_quiet command word plain =
+    ap₂ (λ (kinds : Kinds) (m : Held × Step). or_else kinds (step_fault (names_shape command) 1 m.0 m.1))
+    (quiet (names_shape command) word nothing_held plain) (met (names_rule ∷ []) idle 1 word nothing_held plain)
+
+next_quiet : (command : Text) (before : List Text) (last word : Text) → is_plain word ≡ true → turn_fault (names_shape command) [] (behind before last) word ≡ []
+next_quiet command before last word plain =
+    ap₂ (λ (kinds : Kinds) (m : Held × Step). or_else kinds (step_fault (names_shape command) 1 m.0 m.1))
+    (quiet (names_shape command) word (behind before last).held plain) (met (names_rule ∷ []) positional 1 word (behind before last).held plain)
+
+-- Where the walk ends: behind the last of the names.
+record EndsBehind (names : List Text) (end : Walk) : Type 0 where
+  before : List Text
+  last : Text
+  all : before ++ last ∷ [] ≡ names
+  is : end ≡ behind before last
+
+ends : (before : List Text) (last : Text) (names : List Text) → All IsPlain names
+    → EndsBehind (before ++ last ∷ names) (fold (walked (names_rule ∷ []) []) (behind before last) names)
+ends before last [] plain = record { before = before; last = last; all = refl; is = refl }
+ends before last (word ∷ names) plain =
+    let later : EndsBehind ((before ++ last ∷ []) ++ word ∷ names) (fold (walked (names_rule ∷ []) []) (behind (before ++ last ∷ []) word) names) =
+    ends (before ++ last ∷ []) word names (All-tail IsPlain word names plain) in
+    record {
+      before = later.before;
+      last = later.last;
+      all = later.all ∙ append_assoc before (last ∷ []) (word ∷ names);
+      is = ap (λ (w : Walk). fold (walked (names_rule ∷ []) []) w names) (next_name before last word (at_first word names plain)) ∙ later.is;
+    }
+
+walk_quiet : (command : Text) (before : List Text) (last : Text) (names : List Text) → All IsPlain names
+    → walk_fault (names_shape command) [] (behind before last) names ≡ []
+unfolding walk_fault
+walk_quiet command before last [] plain = refl
+walk_quiet command before last (word ∷ names) plain =
+    ap₂ (λ (kinds : Kinds) (w : Walk). or_else kinds (walk_fault (names_shape command) [] w names))
+    (next_quiet command before last word (at_first word names plain)) (next_name before last word (at_first word names plain))
+    ∙ walk_quiet command (before ++ last ∷ []) word names (All-tail IsPlain word names plain)
+
+-- What comes behind the walk is at no fault, and all the names are found.
+tail_fault : Text → Walk → Kinds
+tail_fault command end = or_else (settle_fault (names_rule ∷ []) false end.held)
+    (or_else (defaults_fault (settled (names_rule ∷ []) end.held).rows (names_rule ∷ []))
+    (check_fault (names_shape command) (finished (names_rule ∷ []) end.held) false))
+
+tail_quiet : (command : Text) (before : List Text) (last : Text) → tail_fault command (behind before last) ≡ []
+unfolding tail_fault defaults_fault
+tail_quiet command [] last = refl
+tail_quiet command (name ∷ names) last = refl
+
+all_found : (before : List Text) (last : Text) → finished (names_rule ∷ []) (behind before last).held ≡ found_names (before ++ last ∷ [])
+all_found [] last = refl
+all_found (name ∷ names) last = refl
+
+pub level_quiet : (command word : Text) (names : List Text) → All IsPlain (word ∷ names)
+    → level_fault (names_shape command) [] nothing_held (word ∷ names) false [] ≡ []
+unfolding walk_fault tail_fault
+level_quiet command word names plain =
+    let end : EndsBehind (word ∷ names) (fold (walked (names_rule ∷ []) []) (behind [] word) names) = ends [] word names (All-tail IsPlain word names plain) in
+    let first : walked (names_rule ∷ []) [] (walk_from nothing_held) word ≡ behind [] word = first_name word (at_first word names plain) in
+    ap₂ (λ (kinds : Kinds) (w : Walk). or_else (or_else kinds (walk_fault (names_shape command) [] w names)) (tail_fault command (fold (walked (names_rule ∷ []) []) w names)))
+    (first_quiet command word (at_first word names plain)) first
+    ∙ ap₂ (λ (kinds : Kinds) (w : Walk). or_else kinds (tail_fault command w)) (walk_quiet command [] word names (All-tail IsPlain word names plain)) end.is
+    ∙ tail_quiet command end.before end.last
+
+pub rows_found : (word : Text) (names : List Text) → All IsPlain (word ∷ names)
+    → rows_after (names_rule ∷ []) [] (word ∷ names) ≡ found_names (word ∷ names)
+rows_found word names plain =
+    let end : EndsBehind (word ∷ names) (fold (walked (names_rule ∷ []) []) (behind [] word) names) = ends [] word names (All-tail IsPlain word names plain) in
+    ap (λ (w : Walk). finished (names_rule ∷ []) (fold (walked (names_rule ∷ []) []) w names).held) (first_name word (at_first word names plain))
+    ∙ ap (λ (w : Walk). finished (names_rule ∷ []) w.held) end.is
+    ∙ all_found end.before end.last
+    ∙ ap found_names end.all

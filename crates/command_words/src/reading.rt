@@ -1,0 +1,122 @@
+ghost use Rattle.std.specs.Prelude.{◌≡◌, ◌≢◌, ◌≤◌, length, IfOk, OnOk, Some, None, Err, map, string_bytes, true, false};
+ghost use Rattle.std.specs.Prelude.{codes, option_map};
+ghost use Rattle.clap.specs.Walk.{rows_of, first_of, all_of};
+ghost use Rattle.clap.specs.Matches.{found_of};
+ghost use Rattle.clap.specs.Simple.{subcommand_of, subcommand_rows_of};
+ghost use Rattle.command_words.specs.Commands.{lockstep_app};
+ghost use Rattle.command_words.specs.Asked.{asked, IsWithin};
+ghost use Rattle.command_words.specs.Words.{is_accepted, is_allowed, asked_of, names_in, named_by, request_of};
+
+use crate::command::lockstep_command;
+use crate::{FileNames, MAX_FILES, Request, WordsFault};
+use clap::ArgMatches;
+use clap::error::ErrorKind;
+use std::alloc::Global;
+
+/// The request that the words name; the first of them is the program's name.
+///
+/// The words are `Refused` exactly where they name none, and `NoMemory` is want of memory. The request borrows
+/// its names from the words.
+#[tactic(auto, unfolding(crate::specs::Words::request_of))]
+pub fn read_words<'a>(alloc: Global, words: &'a [String]) -> Result<Request<'a>, WordsFault>
+    ensures asked { IfOk result (λ request. request_of (map string_bytes words.now) ≡ Some (asked request)) }
+    ensures within { IfOk result IsWithin }
+    ensures refused { result ≡ Err WordsFault.Refused → request_of (map string_bytes words.now) ≡ None }
+{
+    let matches = matches_of(alloc, words)?;
+    named_request(alloc, &matches)
+}
+
+/// What `clap` finds in the words, where its definition of the command line accepts them.
+fn matches_of<'a>(alloc: Global, words: &'a [String]) -> Result<ArgMatches<'a>, WordsFault>
+    ensures accepted { OnOk result (is_accepted (map string_bytes words.now) ≡ true) }
+    ensures found { IfOk result (λ matches. subcommand_rows_of matches ≡ subcommand_of lockstep_app (map string_bytes words.now)) }
+    ensures refused { result ≡ Err WordsFault.Refused → is_accepted (map string_bytes words.now) ≡ false }
+{
+    let command = lockstep_command(alloc)?;
+    match command.try_get_matches_from(words) {
+        Ok(matches) => Ok(matches),
+        Err(error) => Err(fault_by(error.kind())),
+    }
+}
+
+/// What `clap`'s kind of error comes to: want of memory, or words that its definition does not accept.
+fn fault_by(kind: ErrorKind) -> WordsFault
+    ensures { result ≡ WordsFault.Refused → kind ≢ ErrorKind.OutOfMemory }
+{
+    match kind {
+        ErrorKind::OutOfMemory => WordsFault::NoMemory,
+        _ => WordsFault::Refused,
+    }
+}
+
+/// The request that the matches name.
+fn named_request<'a>(alloc: Global, matches: &ArgMatches<'a>) -> Result<Request<'a>, WordsFault>
+    ensures asked { IfOk result (λ request. named_by (subcommand_rows_of matches.now) ≡ Some (asked request)) }
+    ensures within { IfOk result IsWithin }
+    ensures refused { result ≡ Err WordsFault.Refused → named_by (subcommand_rows_of matches.now) ≡ None }
+{
+    match matches.subcommand() {
+        Some((command, found)) => request_for(alloc, command, found),
+        None => Err(WordsFault::Refused),
+    }
+}
+
+/// The request of this command, with what was found behind it.
+#[tactic(auto, unfolding(crate::specs::Words::asked_of))]
+fn request_for<'a>(
+    alloc: Global,
+    command: &str,
+    found: &ArgMatches<'a>,
+) -> Result<Request<'a>, WordsFault>
+    ensures asked { IfOk result (λ request. asked_of command.now (rows_of (found_of found.now)) ≡ Some (asked request)) }
+    ensures within { IfOk result IsWithin }
+    ensures refused { result ≡ Err WordsFault.Refused → asked_of command.now (rows_of (found_of found.now)) ≡ None }
+{
+    match command {
+        "drill" => Ok(Request::Drill {
+            script: script_in(found).ok_or(WordsFault::Refused)?,
+        }),
+        "yaml" => Ok(Request::Yaml {
+            files: names_in(alloc, found)?,
+        }),
+        "check" => Ok(Request::Check {
+            rules: names_in(alloc, found)?,
+        }),
+        _ => Err(WordsFault::Refused),
+    }
+}
+
+/// The value of `--script`.
+fn script_in<'a>(found: &ArgMatches<'a>) -> Option<&'a str>
+    ensures { option_map (λ script. script.now) result ≡ first_of (codes "script") (rows_of (found_of found.now)) }
+{
+    found.get_str("script")
+}
+
+/// The names that stand alone, where their number is allowed.
+#[tactic(auto, unfolding(crate::specs::Words::names_in))]
+fn names_in<'a>(alloc: Global, found: &ArgMatches<'a>) -> Result<FileNames<'a>, WordsFault>
+    ensures few { IfOk result (λ names. length names ≤ MAX_FILES) }
+    ensures names { IfOk result (λ names. names_in (rows_of (found_of found.now)) ≡ Some names) }
+    ensures refused { result ≡ Err WordsFault.Refused → names_in (rows_of (found_of found.now)) ≡ None }
+{
+    match all_names(found) {
+        Some(names) if is_allowed(names.len()) => Ok(FileNames::from_vec(names.to_vec(alloc)?)),
+        _ => Err(WordsFault::Refused),
+    }
+}
+
+/// All names that stand alone; there are none where no use of them was found.
+fn all_names<'b, 'a>(found: &'b ArgMatches<'a>) -> Option<&'b [&'a str]>
+    ensures { option_map (λ names. map (λ name. name.now) names.now) result ≡ all_of (codes "names") (rows_of (found_of found.now)) }
+{
+    found.get_strs("names")
+}
+
+/// Whether so many names may stand alone.
+fn is_allowed(count: usize) -> bool
+    ensures { result ≡ is_allowed count }
+{
+    0 < count && count <= MAX_FILES
+}

@@ -1,0 +1,235 @@
+//! Command lines with the request that they name, or that are refused.
+
+use crate::{MAX_FILES, Request, WordsFault, read_words};
+use base::NoMemory;
+use std::alloc::{AllocError, Global};
+use std::fmt::Write;
+use std::test::Fail;
+
+/// The program's name, and behind it these words, which `|` separates.
+fn command_line(alloc: Global, words: &str) -> Result<Vec<String>, NoMemory> {
+    let mut line = Vec::new(alloc);
+    line.push(String::from_str(alloc, "lockstep")?)?;
+    for word in words.split('|') {
+        line.push(String::from_str(alloc, word)?)?;
+    }
+    Ok(line)
+}
+
+/// The command and then each name between angle brackets.
+fn written(alloc: Global, command: &str, names: &[&str]) -> Result<String, NoMemory> {
+    let mut text = String::from_str(alloc, command)?;
+    for name in names {
+        text.push_str(" <")?;
+        text.push_str(name)?;
+        text.push('>')?;
+    }
+    Ok(text)
+}
+
+/// What is asked for by a list of words, of which the first is the program's name.
+fn asked_by(alloc: Global, words: &[String]) -> Result<String, NoMemory> {
+    match read_words(alloc, words) {
+        Ok(Request::Drill { script }) => written(alloc, "drill", &[script]),
+        Ok(Request::Yaml { files }) => written(alloc, "yaml", files.as_slice()),
+        Ok(Request::Check { rules }) => written(alloc, "check", rules.as_slice()),
+        Err(WordsFault::Refused) => String::from_str(alloc, "refused"),
+        Err(WordsFault::NoMemory) => Err(AllocError),
+    }
+}
+
+const REFUSED: &str = "refused";
+
+/// Words that name no command, or ask for help or a version.
+const WITHOUT_A_COMMAND: [&str; 31] = [
+    // The command.
+    "",
+    "dance",
+    "dri|--script|d",
+    "drills|--script|d",
+    "Drill|--script|d",
+    "YAML|a",
+    "y|a",
+    "chec|a",
+    " drill|--script|d",
+    "-|drill|--script|d",
+    "--|drill|--script|d",
+    "--",
+    "lockstep|drill|--script|d",
+    "dance|yaml|a",
+    // An option before the command.
+    "--script|d|drill",
+    "--script=d|drill",
+    "--script|d",
+    "-x|yaml|a",
+    // There is no help and no version.
+    "--help",
+    "-h",
+    "help",
+    "help|drill",
+    "--version",
+    "-V",
+    "version",
+    "drill|--help",
+    "drill|--script|d|-h",
+    "yaml|--help",
+    "yaml|a|-h",
+    "check|--version",
+    "check|-V|a",
+];
+
+/// Words behind a command that are refused.
+const REFUSED_BEHIND: [&str; 37] = [
+    // `drill`: its option once, with one value.
+    "drill",
+    "drill|--script",
+    "drill|--script|d|--script|d",
+    "drill|--script|d|--script|e",
+    "drill|--script=d|--script=e",
+    "drill|--script=d|--script",
+    // Values that begin with `-`.
+    "drill|--script|-d",
+    "drill|--script|-1",
+    "drill|--script|--d",
+    "drill|--script|--",
+    "drill|--script|--|d",
+    // Names, other options and other spellings of the option.
+    "drill|d",
+    "drill|",
+    "drill|-",
+    "drill|--script|d|e",
+    "drill|e|--script|d",
+    "drill|--script|d|--|e",
+    "drill|--|--script|d",
+    "drill|--script|d|--map|m",
+    "drill|--script|d|--record=r",
+    "drill|--scrip|d",
+    "drill|--SCRIPT|d",
+    "drill|-script|d",
+    "drill|-s|d",
+    "drill|---script|d",
+    "drill|--=d",
+    "drill|script=d",
+    // `yaml` and `check`: names, in their order, and no option.
+    "yaml",
+    "yaml|--",
+    "yaml|-x",
+    "yaml|a|-1",
+    "yaml|a|--names|b",
+    "yaml|--names=a",
+    "yaml|a|--map=m|b",
+    "check",
+    "check|r|--map|m",
+    "check|--script|d",
+];
+
+/// Words with what they ask for.
+const ACCEPTED_LINES: [(&str, &str); 28] = [
+    // There is no help and no version.
+    ("yaml|help", "yaml <help>"),
+    // `drill`: its option once, with one value.
+    ("drill|--script|d", "drill <d>"),
+    ("drill|--script=d", "drill <d>"),
+    ("drill|--script=d=e", "drill <d=e>"),
+    ("drill|--script=--script", "drill <--script>"),
+    ("drill|--script=", "drill <>"),
+    ("drill|--script==d", "drill <=d>"),
+    ("drill|--script|", "drill <>"),
+    ("drill|--script|a b", "drill <a b>"),
+    ("drill|--script|drill", "drill <drill>"),
+    ("drill|--script|help", "drill <help>"),
+    ("drill|--script|=", "drill <=>"),
+    ("drill|--script|\u{e9}", "drill <\u{e9}>"),
+    ("drill|--script=\u{2212}d", "drill <\u{2212}d>"),
+    // Values that begin with `-`.
+    ("drill|--script|-", "drill <->"),
+    ("drill|--script=-", "drill <->"),
+    ("drill|--script=-d", "drill <-d>"),
+    ("drill|--script=--", "drill <-->"),
+    // Names, other options and other spellings of the option.
+    ("drill|--script|d|--", "drill <d>"),
+    // `yaml` and `check`: names, in their order, and no option.
+    ("yaml|a", "yaml <a>"),
+    ("yaml|b|a|b", "yaml <b> <a> <b>"),
+    ("yaml|", "yaml <>"),
+    ("yaml|-|", "yaml <-> <>"),
+    ("yaml|--|-x|a", "yaml <-x> <a>"),
+    ("yaml|a|--|b|--|--map", "yaml <a> <b> <--> <--map>"),
+    ("yaml|yaml|check", "yaml <yaml> <check>"),
+    ("check|r.yaml", "check <r.yaml>"),
+    ("check|r|-|--|--map|m", "check <r> <-> <--map> <m>"),
+];
+
+#[test]
+fn lines_without_a_command(rt: HostRuntime) -> Result<(), Fail> {
+    let alloc = rt.alloc();
+    for words in WITHOUT_A_COMMAND {
+        let line = command_line(alloc, words)?;
+        let got = asked_by(alloc, &line)?;
+        assert_eq!(rt; got.as_str(), REFUSED, "of {words}");
+    }
+    Ok(())
+}
+
+#[test]
+fn refused_behind_a_command(rt: HostRuntime) -> Result<(), Fail> {
+    let alloc = rt.alloc();
+    for words in REFUSED_BEHIND {
+        let line = command_line(alloc, words)?;
+        let got = asked_by(alloc, &line)?;
+        assert_eq!(rt; got.as_str(), REFUSED, "of {words}");
+    }
+    Ok(())
+}
+
+#[test]
+fn accepted_lines(rt: HostRuntime) -> Result<(), Fail> {
+    let alloc = rt.alloc();
+    for (words, want) in ACCEPTED_LINES {
+        let line = command_line(alloc, words)?;
+        let got = asked_by(alloc, &line)?;
+        assert_eq!(rt; got.as_str(), want, "of {words}");
+    }
+    Ok(())
+}
+
+#[test]
+fn lines_of_a_word_or_none(rt: HostRuntime) -> Result<(), Fail> {
+    let alloc = rt.alloc();
+    let nothing = asked_by(alloc, &[])?;
+    assert_eq!(rt; nothing.as_str(), REFUSED);
+    let program = String::from_str(alloc, "lockstep")?;
+    let alone = asked_by(alloc, &[program])?;
+    assert_eq!(rt; alone.as_str(), REFUSED);
+    Ok(())
+}
+
+/// The answer to a command with so many names, half of them behind `--`.
+fn asked_by_many(alloc: Global, command: &str, count: usize) -> Result<String, NoMemory> {
+    let mut line = command_line(alloc, command)?;
+    for i in 0..count {
+        if i == count / 2 {
+            line.push(String::from_str(alloc, "--")?)?;
+        }
+        line.push(format!(in alloc; "{i}")?)?;
+    }
+    asked_by(alloc, &line)
+}
+
+#[test]
+fn numbers_of_names(rt: HostRuntime) -> Result<(), Fail> {
+    let alloc = rt.alloc();
+    for command in ["yaml", "check"] {
+        let mut most = String::from_str(alloc, command)?;
+        for i in 0..MAX_FILES {
+            write!(most, " <{i}>")?;
+        }
+        let got = asked_by_many(alloc, command, 64)?;
+        assert_eq!(rt; got.as_str(), most.as_str());
+        for count in [65, 66, 128] {
+            let got = asked_by_many(alloc, command, count)?;
+            assert_eq!(rt; got.as_str(), REFUSED, "of {count}");
+        }
+    }
+    Ok(())
+}
