@@ -1,3 +1,9 @@
-pub mod Request
-pub mod Answers
 pub mod Reply
+pub mod Answers
+pub mod Contents
+pub mod Drills
+pub mod RuleFiles
+pub mod Checks
+pub mod Request
+pub mod Run
+pub mod Stops

@@ -1,15 +1,20 @@
-ghost use Rattle.std.specs.Prelude.{◌≡◌, ◌≢◌, ◌≤◌, length, map, string_bytes, codes, IfSome, IfNone, None};
+ghost use Rattle.std.specs.Prelude.{◌≡◌, ◌≤◌, length, map, string_bytes};
 ghost use Rattle.base.specs.Cause.{Rose};
-ghost use Rattle.drill.specs.Reading.{read_of};
-ghost use Rattle.match_cli.specs.Request.{script_of};
-ghost use Rattle.match_cli.specs.Answers.{Ends, MayEnd, Answers, AnswersUntold};
-ghost use Rattle.match_cli.specs.Reply.{words_reply, refusal, drill_reply, script_reply, reply_to, fault_reply};
+ghost use Rattle.command_words.specs.Asked.{Drill, Yaml, Check, asked, IsWithin};
+ghost use Rattle.command_words.specs.Words.{request_of};
+ghost use Rattle.match_cli.specs.Answers.{MayEnd};
+ghost use Rattle.match_cli.specs.Drills.{drill_reply};
+ghost use Rattle.match_cli.specs.Run.{Runs, RunsAsked};
 
-use crate::print::{refuse_file, refuse_words, tell_read_fault};
-use crate::request::script_of;
-use crate::statuses::{DONE, FAULT_READ, FAULT_WRITE, OUT_OF_MEMORY, REFUSED_WORDS};
-use drill::{DrillFault, MAX_DRILL_BYTES, RunFault, read_drill, run_drill};
-use game_io::{Disk, DiskError, Sink};
+use crate::check::check_text;
+use crate::files::{read_one, read_rules};
+use crate::print::{finish, refuse_words, tell_stop};
+use crate::refusals::drill_stop;
+use crate::rules::yaml_text;
+use crate::statuses::{DONE, FAULT_WRITE, OUT_OF_MEMORY};
+use command_words::{FileNames, MAX_FILES, Request, WordsFault, read_words};
+use drill::{MAX_DRILL_BYTES, RunFault, read_drill, run_drill};
+use game_io::{Disk, Sink};
 use std::alloc::Global;
 use tick_core::GameMaker;
 
@@ -22,59 +27,58 @@ use tick_core::GameMaker;
 /// - 5, a write failed: the sink's count of faults rose, and a front of the text was written;
 /// - 6, memory was wanting, and a front of the text was written.
 pub fn run<D: Disk, K: Sink>(alloc: Global, words: &[String], disk: &mut D, out: &mut K) -> u8
-    // Where the disk tells its files, what is answered and written is what the words and the files say.
-    ensures told { IfSome (D.files disk.old) (λ files. Answers (reply_to (script_of (map string_bytes words.now)) files)
-        result (Rose (D.faults disk.old) (D.faults disk.new)) (Rose (K.faults out.old) (K.faults out.new)) (K.written out.old) (K.written out.new)) }
-
-    // Where it tells nothing, some bytes that it gave decide, or the count of its faults rose.
-    ensures untold { IfNone (D.files disk.old) (IfSome (script_of (map string_bytes words.now)) (λ script.
-        AnswersUntold MAX_DRILL_BYTES (λ bytes. drill_reply script (read_of bytes)) (refusal script 0 (codes "Missing")) (refusal script 0 (codes "TooLong"))
-        result (Rose (D.faults disk.old) (D.faults disk.new)) (Rose (K.faults out.old) (K.faults out.new)) (K.written out.old) (K.written out.new))) }
-
-    // The causes, whether anything is told or not.
-    ensures only_refused { result ≡ REFUSED_WORDS → script_of (map string_bytes words.now) ≡ None }
-    ensures refused { IfNone (script_of (map string_bytes words.now))
-        (Ends words_reply result (Rose (K.faults out.old) (K.faults out.new)) (K.written out.old) (K.written out.new)) }
-    ensures read { result ≡ FAULT_READ → Rose (D.faults disk.old) (D.faults disk.new) }
-    ensures write { result ≡ FAULT_WRITE → Rose (K.faults out.old) (K.faults out.new) }
-
+    ensures runs { Runs (request_of (map string_bytes words.now)) (D.files disk.old) result
+        (Rose (D.faults disk.old) (D.faults disk.new)) (Rose (K.faults out.old) (K.faults out.new)) (K.written out.old) (K.written out.new) }
     ensures files { D.files disk.new ≡ D.files disk.old }
     ensures disk_later { D.faults disk.old ≤ D.faults disk.new }
     ensures out_later { K.faults out.old ≤ K.faults out.new }
 {
-    match script_of(words) {
-        Some(script) => run_script(alloc, script, disk, out),
-        None => refuse_words(out),
+    match read_words(alloc, words) {
+        Ok(request) => run_request(alloc, &request, disk, out),
+        Err(WordsFault::Refused) => refuse_words(out),
+        Err(WordsFault::NoMemory) => OUT_OF_MEMORY,
+    }
+}
+
+/// Runs the command that is asked for.
+fn run_request<D: Disk, K: Sink>(
+    alloc: Global,
+    request: &Request<'_>,
+    disk: &mut D,
+    out: &mut K,
+) -> u8
+    requires { IsWithin request.now }
+    ensures runs { RunsAsked (asked request.now) (D.files disk.old) result
+        (Rose (D.faults disk.old) (D.faults disk.new)) (Rose (K.faults out.old) (K.faults out.new)) (K.written out.old) (K.written out.new) }
+    ensures files { D.files disk.new ≡ D.files disk.old }
+    ensures disk_later { D.faults disk.old ≤ D.faults disk.new }
+    ensures out_later { K.faults out.old ≤ K.faults out.new }
+{
+    match request {
+        Request::Drill { script } => run_script(alloc, script, disk, out),
+        Request::Yaml { files } => run_yaml(alloc, files, disk, out),
+        Request::Check { rules } => run_check(alloc, rules, disk, out),
     }
 }
 
 /// The command `drill`: reads the script and runs it.
 fn run_script<D: Disk, K: Sink>(alloc: Global, script: &str, disk: &mut D, out: &mut K) -> u8
-    ensures told { IfSome (D.files disk.old) (λ files. Answers (script_reply script.now (files script.now))
-        result (Rose (D.faults disk.old) (D.faults disk.new)) (Rose (K.faults out.old) (K.faults out.new)) (K.written out.old) (K.written out.new)) }
-    ensures untold { IfNone (D.files disk.old)
-        (AnswersUntold MAX_DRILL_BYTES (λ bytes. drill_reply script.now (read_of bytes)) (refusal script.now 0 (codes "Missing")) (refusal script.now 0 (codes "TooLong"))
-        result (Rose (D.faults disk.old) (D.faults disk.new)) (Rose (K.faults out.old) (K.faults out.new)) (K.written out.old) (K.written out.new)) }
-    ensures accepted { result ≢ REFUSED_WORDS }
-    ensures read { result ≡ FAULT_READ → Rose (D.faults disk.old) (D.faults disk.new) }
-    ensures write { result ≡ FAULT_WRITE → Rose (K.faults out.old) (K.faults out.new) }
+    ensures runs { RunsAsked (Drill script.now) (D.files disk.old) result
+        (Rose (D.faults disk.old) (D.faults disk.new)) (Rose (K.faults out.old) (K.faults out.new)) (K.written out.old) (K.written out.new) }
     ensures files { D.files disk.new ≡ D.files disk.old }
     ensures disk_later { D.faults disk.old ≤ D.faults disk.new }
     ensures out_later { K.faults out.old ≤ K.faults out.new }
 {
-    match disk.read_file(alloc, script, MAX_DRILL_BYTES) {
+    match read_one(alloc, disk, script, MAX_DRILL_BYTES) {
         Ok(bytes) => run_bytes(alloc, script, &bytes, out),
-        Err(DiskError::Missing) => refuse_file(alloc, out, script, 0, "Missing"),
-        Err(DiskError::TooLong) => refuse_file(alloc, out, script, 0, "TooLong"),
-        Err(DiskError::Failed) => tell_read_fault(out),
-        Err(DiskError::NoMemory) => OUT_OF_MEMORY,
+        Err(stop) => tell_stop(alloc, stop, out),
     }
 }
 
 /// Runs the drill of these bytes, or refuses the file.
 fn run_bytes<K: Sink>(alloc: Global, script: &str, bytes: &[u8], out: &mut K) -> u8
     requires { length bytes.now ≤ MAX_DRILL_BYTES }
-    ensures ends { MayEnd (drill_reply script.now (read_of bytes.now)) result (Rose (K.faults out.old) (K.faults out.new)) (K.written out.old) (K.written out.new) }
+    ensures ends { MayEnd (drill_reply script.now bytes.now) result (Rose (K.faults out.old) (K.faults out.new)) (K.written out.old) (K.written out.new) }
     ensures later { K.faults out.old ≤ K.faults out.new }
 {
     match read_drill(alloc, bytes) {
@@ -83,34 +87,43 @@ fn run_bytes<K: Sink>(alloc: Global, script: &str, bytes: &[u8], out: &mut K) ->
             Err(RunFault::Write) => FAULT_WRITE,
             Err(RunFault::NoMemory) => OUT_OF_MEMORY,
         },
-        Err(fault) => refuse_drill(alloc, out, script, fault),
+        Err(fault) => tell_stop(alloc, drill_stop(script, fault), out),
     }
 }
 
-/// Refuses a faulty drill.
-fn refuse_drill<K: Sink>(alloc: Global, out: &mut K, script: &str, fault: DrillFault) -> u8
-    ensures ends { fault ≢ DrillFault.NoMemory → MayEnd (fault_reply script.now fault) result (Rose (K.faults out.old) (K.faults out.new)) (K.written out.old) (K.written out.new) }
-    ensures memory { fault ≡ DrillFault.NoMemory → (result ≡ OUT_OF_MEMORY) × (K.written out.new ≡ K.written out.old) }
-    ensures later { K.faults out.old ≤ K.faults out.new }
+/// The command `yaml`: reads rule files and prints their resolved forest.
+fn run_yaml<D: Disk, K: Sink>(alloc: Global, names: &FileNames<'_>, disk: &mut D, out: &mut K) -> u8
+    requires { length names.now ≤ MAX_FILES }
+    ensures runs { RunsAsked (Yaml names.now) (D.files disk.old) result
+        (Rose (D.faults disk.old) (D.faults disk.new)) (Rose (K.faults out.old) (K.faults out.new)) (K.written out.old) (K.written out.new) }
+    ensures files { D.files disk.new ≡ D.files disk.old }
+    ensures disk_later { D.faults disk.old ≤ D.faults disk.new }
+    ensures out_later { K.faults out.old ≤ K.faults out.new }
 {
-    match fault {
-        DrillFault::BadWord { line } => refuse_file(alloc, out, script, line, "BadWord"),
-        DrillFault::BadNumber { line } => refuse_file(alloc, out, script, line, "BadNumber"),
-        DrillFault::NoSuchClient { line } => refuse_file(alloc, out, script, line, "NoSuchClient"),
-        DrillFault::TooManyOrders { line } => refuse_file(
-            alloc,
-            out,
-            script,
-            line,
-            "TooManyOrders",
-        ),
-        DrillFault::TooManyEvents { line } => refuse_file(
-            alloc,
-            out,
-            script,
-            line,
-            "TooManyEvents",
-        ),
-        DrillFault::NoMemory => OUT_OF_MEMORY,
+    let names = names.as_slice();
+    match read_rules(alloc, disk, names) {
+        Ok(contents) => finish(alloc, yaml_text(alloc, names, &contents), out),
+        Err(stop) => tell_stop(alloc, stop, out),
+    }
+}
+
+/// The command `check`: reads rule files and prints what they mean.
+fn run_check<D: Disk, K: Sink>(
+    alloc: Global,
+    names: &FileNames<'_>,
+    disk: &mut D,
+    out: &mut K,
+) -> u8
+    requires { length names.now ≤ MAX_FILES }
+    ensures runs { RunsAsked (Check names.now) (D.files disk.old) result
+        (Rose (D.faults disk.old) (D.faults disk.new)) (Rose (K.faults out.old) (K.faults out.new)) (K.written out.old) (K.written out.new) }
+    ensures files { D.files disk.new ≡ D.files disk.old }
+    ensures disk_later { D.faults disk.old ≤ D.faults disk.new }
+    ensures out_later { K.faults out.old ≤ K.faults out.new }
+{
+    let names = names.as_slice();
+    match read_rules(alloc, disk, names) {
+        Ok(contents) => finish(alloc, check_text(alloc, names, &contents), out),
+        Err(stop) => tell_stop(alloc, stop, out),
     }
 }

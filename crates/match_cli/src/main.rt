@@ -4,10 +4,14 @@
 //! answered, for every list of words and every content of the files. `main` hands it the real ones.
 #![tactic(auto)]
 
+mod check;
 mod command;
+mod files;
 mod print;
-mod request;
+mod refusals;
+mod rules;
 mod statuses;
+mod stop;
 
 use crate::statuses::OUT_OF_MEMORY;
 pub use command::run;

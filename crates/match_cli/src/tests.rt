@@ -1,8 +1,10 @@
 //! Whole runs over a disk and a sink in memory, and over ones whose first call fails.
+mod checks;
 mod departures;
 mod donations;
 mod reports;
 mod schedules;
+mod texts;
 
 use super::run;
 use game_io::{FailingCall, Leaves, MemDisk, MemSink};
@@ -11,6 +13,16 @@ use std::test::Fail;
 
 /// The words of a drill, behind the program's name.
 const DRILL: [&str; 3] = ["drill", "--script", "d"];
+
+/// A run: what it shows, the words behind the program's name, the files, the status and the text.
+#[derive(Drop)]
+struct Row {
+    shows: &'static str,
+    words: &'static [&'static str],
+    files: &'static [(&'static str, &'static str)],
+    status: u8,
+    text: &'static str,
+}
 
 /// The program's name, and these words behind it.
 fn command_line(alloc: Global, words: &[&str]) -> Result<Vec<String>, AllocError> {
@@ -31,15 +43,15 @@ fn first_fails(alloc: Global, leaves: Option<Leaves>) -> Result<Vec<FailingCall>
     Ok(failing)
 }
 
-/// A disk that holds the script as the file `d`, and in which the first read fails or none does.
+/// A disk that holds these files, and in which the first read fails or none does.
 fn disk_of(
     alloc: Global,
-    script: Option<&str>,
+    files: &[(&str, &str)],
     read: Option<Leaves>,
 ) -> Result<MemDisk, AllocError> {
     let mut disk = MemDisk::new(alloc, first_fails(alloc, read)?);
-    if let Some(script) = script {
-        disk.add(alloc, "d", script.as_bytes())?;
+    for (name, text) in files {
+        disk.add(alloc, name, text.as_bytes())?;
     }
     Ok(disk)
 }
@@ -60,9 +72,34 @@ fn is_answered(
 }
 
 #[test]
+fn rule_files_are_printed(rt: HostRuntime) -> Result<(), Fail> {
+    for row in texts::ROWS {
+        let disk = disk_of(rt.alloc(), row.files, None)?;
+        let told = is_answered(rt.alloc(), row.words, disk, None, row.status, row.text)?;
+        assert!(rt; told, "{}", row.shows);
+        if row.status == 0 {
+            let again = disk_of(rt.alloc(), &[("t", row.text)], None)?;
+            let same = is_answered(rt.alloc(), &["yaml", "t"], again, None, 0, row.text)?;
+            assert!(rt; same, "{}, printed again", row.shows);
+        }
+    }
+    Ok(())
+}
+
+#[test]
+fn rule_files_are_checked(rt: HostRuntime) -> Result<(), Fail> {
+    for row in checks::ROWS {
+        let disk = disk_of(rt.alloc(), row.files, None)?;
+        let told = is_answered(rt.alloc(), row.words, disk, None, row.status, row.text)?;
+        assert!(rt; told, "{}", row.shows);
+    }
+    Ok(())
+}
+
+#[test]
 fn schedules_are_reported(rt: HostRuntime) -> Result<(), Fail> {
     for (name, script, report) in schedules::ROWS {
-        let disk = disk_of(rt.alloc(), Some(script), None)?;
+        let disk = disk_of(rt.alloc(), &[("d", script)], None)?;
         let done = is_answered(rt.alloc(), &DRILL, disk, None, 0, report)?;
         assert!(rt; done, "{name}");
     }
@@ -72,7 +109,7 @@ fn schedules_are_reported(rt: HostRuntime) -> Result<(), Fail> {
 #[test]
 fn departures_are_reported(rt: HostRuntime) -> Result<(), Fail> {
     for (name, script, report) in departures::ROWS {
-        let disk = disk_of(rt.alloc(), Some(script), None)?;
+        let disk = disk_of(rt.alloc(), &[("d", script)], None)?;
         let done = is_answered(rt.alloc(), &DRILL, disk, None, 0, report)?;
         assert!(rt; done, "{name}");
     }
@@ -82,7 +119,7 @@ fn departures_are_reported(rt: HostRuntime) -> Result<(), Fail> {
 #[test]
 fn donations_are_paid(rt: HostRuntime) -> Result<(), Fail> {
     for (name, script, report) in donations::ROWS {
-        let disk = disk_of(rt.alloc(), Some(script), None)?;
+        let disk = disk_of(rt.alloc(), &[("d", script)], None)?;
         let done = is_answered(rt.alloc(), &DRILL, disk, None, 0, report)?;
         assert!(rt; done, "{name}");
     }
@@ -92,7 +129,7 @@ fn donations_are_paid(rt: HostRuntime) -> Result<(), Fail> {
 #[test]
 fn reports_raise_alarms(rt: HostRuntime) -> Result<(), Fail> {
     for (name, script, report) in reports::ROWS {
-        let disk = disk_of(rt.alloc(), Some(script), None)?;
+        let disk = disk_of(rt.alloc(), &[("d", script)], None)?;
         let done = is_answered(rt.alloc(), &DRILL, disk, None, 0, report)?;
         assert!(rt; done, "{name}");
     }
@@ -104,28 +141,123 @@ const SEALED: &str = "match 1 2 1\nseal 0\n";
 
 const OUTSIDE: &str = "match 1 2 1\nseal 7\n";
 
-/// What is refused: the words, the file `d` if it is there, the status and the text.
-const REFUSED: [(&[&str], Option<&str>, u8, &str); 6] = [
-    (&[], Some(SEALED), 2, "refused words\n"),
-    (&["dance"], Some(SEALED), 2, "refused words\n"),
-    (&["drill"], Some(SEALED), 2, "refused words\n"),
-    (&["drill", "--script"], Some(SEALED), 2, "refused words\n"),
-    (&DRILL, None, 3, "refused d 0 Missing\n"),
-    (&DRILL, Some(OUTSIDE), 3, "refused d 2 NoSuchClient\n"),
+/// What is refused.
+const REFUSED: [Row; 14] = [
+    Row {
+        shows: "no command",
+        words: &[],
+        files: &[("d", SEALED)],
+        status: 2,
+        text: "refused words\n",
+    },
+    Row {
+        shows: "an unknown command",
+        words: &["dance"],
+        files: &[("d", SEALED)],
+        status: 2,
+        text: "refused words\n",
+    },
+    Row {
+        shows: "a drill without its script",
+        words: &["drill"],
+        files: &[("d", SEALED)],
+        status: 2,
+        text: "refused words\n",
+    },
+    Row {
+        shows: "a script without its name",
+        words: &["drill", "--script"],
+        files: &[("d", SEALED)],
+        status: 2,
+        text: "refused words\n",
+    },
+    Row {
+        shows: "a script that is not there",
+        words: &DRILL,
+        files: &[],
+        status: 3,
+        text: "refused d 0 Missing\n",
+    },
+    Row {
+        shows: "a client outside the match",
+        words: &DRILL,
+        files: &[("d", OUTSIDE)],
+        status: 3,
+        text: "refused d 2 NoSuchClient\n",
+    },
+    Row {
+        shows: "a file that is not there comes before a fault in one that is",
+        words: &["yaml", "a", "b"],
+        files: &[("a", "\tX:\n")],
+        status: 3,
+        text: "refused b 0 Missing\n",
+    },
+    Row {
+        shows: "the first of two files that are not there",
+        words: &["check", "b", "a", "c"],
+        files: &[("b", "X:\n")],
+        status: 3,
+        text: "refused a 0 Missing\n",
+    },
+    Row {
+        shows: "a fault in the lines of the second file comes before one in merging",
+        words: &["yaml", "a", "b"],
+        files: &[("a", "A:\n\t-X:\n"), ("b", "B:\n\n\t\tX:\n")],
+        status: 3,
+        text: "refused b 3 BadIndent\n",
+    },
+    Row {
+        shows: "the first of two files with faults in their lines",
+        words: &["yaml", "b", "a"],
+        files: &[("a", "\tA:\n"), ("b", "B:\n\t\tX:\n")],
+        status: 3,
+        text: "refused b 2 BadIndent\n",
+    },
+    Row {
+        shows: "a fault in merging is told with the file of its node",
+        words: &["yaml", "a", "b"],
+        files: &[("a", "A:\n"), ("b", "\nA:\n\tInherits: C\n")],
+        status: 3,
+        text: "refused b 3 NoParent\n",
+    },
+    Row {
+        shows: "a fault in merging comes before one in traits",
+        words: &["check", "a", "b"],
+        files: &[("a", "A:\n\tHealth:\n\t\tHP: 0\n"), ("b", "-B:\n")],
+        status: 3,
+        text: "refused b 1 NothingToRemove\n",
+    },
+    Row {
+        shows: "a fault in traits is told with the file of its node",
+        words: &["check", "a", "b"],
+        files: &[
+            ("a", "A:\n\tHealth:\n"),
+            ("b", "A:\n\tHealth:\n\t\tHP: 0\n"),
+        ],
+        status: 3,
+        text: "refused b 3 OutOfRange\n",
+    },
+    Row {
+        shows: "one name of two files is two files",
+        words: &["yaml", "a", "a"],
+        files: &[("a", "A: 1\n\tB: 2\n")],
+        status: 0,
+        text: "A: 1\n\tB: 2\n",
+    },
 ];
 
 #[test]
 fn words_and_files_are_refused(rt: HostRuntime) -> Result<(), Fail> {
-    for (words, script, status, text) in REFUSED {
-        let disk = disk_of(rt.alloc(), script, None)?;
-        let told = is_answered(rt.alloc(), words, disk, None, status, text)?;
-        assert!(rt; told, "{words:?}: {text}");
+    for row in REFUSED {
+        let disk = disk_of(rt.alloc(), row.files, None)?;
+        let told = is_answered(rt.alloc(), row.words, disk, None, row.status, row.text)?;
+        assert!(rt; told, "{}", row.shows);
     }
     Ok(())
 }
 
 /// What fails: the words, the file `d`, what a failed read and a failed put leave, the status and the text.
-const FAILED: [(&[&str], &str, Option<Leaves>, Option<Leaves>, u8, &str); 9] = [
+const FAILED: [(&[&str], &str, Option<Leaves>, Option<Leaves>, u8, &str); 14] = [
     (
         &DRILL,
         SEALED,
@@ -178,6 +310,48 @@ const FAILED: [(&[&str], &str, Option<Leaves>, Option<Leaves>, u8, &str); 9] = [
         5,
         "refused words\n",
     ),
+    // Rule files.
+    (
+        &["yaml", "d"],
+        SEALED,
+        Some(Leaves::Nothing),
+        None,
+        4,
+        "fault read\n",
+    ),
+    (
+        &["yaml", "d"],
+        SEALED,
+        None,
+        Some(Leaves::Front(5)),
+        5,
+        "match",
+    ),
+    (
+        &["check", "d"],
+        SEALED,
+        None,
+        Some(Leaves::Front(4)),
+        5,
+        "kind",
+    ),
+    // A file that is not there decides, and none behind it is read first.
+    (
+        &["yaml", "a", "d"],
+        SEALED,
+        Some(Leaves::Nothing),
+        None,
+        3,
+        "refused a 0 Missing\n",
+    ),
+    (
+        &["yaml", "d", "a"],
+        SEALED,
+        Some(Leaves::Nothing),
+        None,
+        4,
+        "fault read\n",
+    ),
     // No file is read.
     (
         &["dance"],
@@ -192,9 +366,35 @@ const FAILED: [(&[&str], &str, Option<Leaves>, Option<Leaves>, u8, &str); 9] = [
 #[test]
 fn failures_are_told(rt: HostRuntime) -> Result<(), Fail> {
     for (words, script, read, put, status, text) in FAILED {
-        let disk = disk_of(rt.alloc(), Some(script), read)?;
+        let disk = disk_of(rt.alloc(), &[("d", script)], read)?;
         let told = is_answered(rt.alloc(), words, disk, put, status, text)?;
         assert!(rt; told, "{words:?}: {status} {text}");
+    }
+    Ok(())
+}
+
+/// A disk with the file `a` of so many empty lines.
+fn disk_of_lines(alloc: Global, lines: u32) -> Result<MemDisk, AllocError> {
+    let mut text = Vec::new(alloc);
+    for _ in 0..lines {
+        text.push(b'\n')?;
+    }
+    let mut disk = MemDisk::new(alloc, Vec::new(alloc));
+    disk.add(alloc, "a", text.as_slice())?;
+    Ok(disk)
+}
+
+#[test]
+fn long_rule_files_are_refused(rt: HostRuntime) -> Result<(), Fail> {
+    let rows = [
+        (65_536, 0, ""),
+        (4_194_304, 3, "refused a 65537 TooManyLines\n"),
+        (4_194_305, 3, "refused a 0 TooLong\n"),
+    ];
+    for (lines, status, text) in rows {
+        let disk = disk_of_lines(rt.alloc(), lines)?;
+        let told = is_answered(rt.alloc(), &["yaml", "a"], disk, None, status, text)?;
+        assert!(rt; told, "{lines}");
     }
     Ok(())
 }

@@ -1,5 +1,5 @@
-use Rattle.std.proofs.Common.{refl, inl, inr, sym}
-use Rattle.match_cli.specs.Reply.{drill_text}
+use Rattle.std.proofs.Common.{refl, inl, inr}
+use Rattle.match_cli.specs.Drills.{drill_text}
 use Rattle.match_cli.proofs.command.run_bytes.Goals as goal
 
 -- The drill was run, and its report was written.

@@ -1,0 +1,4 @@
+pub mod CauseSteps
+pub mod RunSteps
+pub mod ReadSteps
+pub mod FaultSteps
