@@ -1,16 +1,18 @@
 use world_units::CPos;
 
-/// One activity of an actor. `waits` counts the steps in a row at which the next cell was occupied, and `timer`
-/// the steps of the load or unload at work.
+/// One activity of an actor.
+///
+/// `waits` counts the steps in a row at which the next cell was occupied; at the eighth the actor gives up, so in a
+/// world it is below 8. `timer` counts the ticks of the load or unload at work, and is below the kind's delay for it.
 #[derive(Clone, Copy, Debug, PartialEq, Eq)]
 pub enum Activity {
-    /// Go to a cell.
+    /// Go to the cell `goal`.
     Move { goal: CPos, waits: u8 },
-    /// Attack the actor of an id.
+    /// Attack the actor with the id `target`.
     Attack { target: u32, waits: u8 },
-    /// Gather ore, at this cell first.
+    /// Gather ore, at `cell` first.
     Harvest { cell: CPos, timer: u16, waits: u8 },
-    /// Bring the load to a refinery, and then gather at `home` again.
+    /// Bring the load to a refinery, and then gather at `home` again, the cell where it was gathered.
     Deliver { home: CPos, timer: u16, waits: u8 },
 }
 

@@ -4,17 +4,19 @@ ghost use Rattle.twister.specs.Sequence.{seeding_step, tempered_of, twisted_of};
 /// The factor of the seeding.
 const SEEDING_FACTOR: u32 = 1_812_433_253;
 
-/// The top bit of a word, and all others.
+/// The top bit of a word.
 const TOP_BIT: u32 = 0x8000_0000;
 
+/// All bits of a word but the top one.
 const LOW_BITS: u32 = 0x7fff_ffff;
 
 /// The last row of the recurrence's matrix.
 const MATRIX: u32 = 0x9908_b0df;
 
-/// The masks of the tempering.
+/// The mask of the tempering's second step.
 const MASK_B: u32 = 0x9d2c_5680;
 
+/// The mask of its third step.
 const MASK_C: u32 = 0xefc6_0000;
 
 /// The word at place `i` of the seeding, from the word before it.
