@@ -17,7 +17,7 @@ ready_from c played (Some entry ∷ rest) = ready_from (c + 1) (played || is_pla
 abbrev pub ready_of : List (Option Entry) → Ready
 ready_of each = ready_from 0 false each
 
--- A client that has nothing counts as departed in a frame.
+-- The entry of a client in a frame. It is asked only where the frame is ready, so each client has one.
 abbrev pub or_leave : Option Entry → Entry
 or_leave (Some entry) = entry
 or_leave None = Leave

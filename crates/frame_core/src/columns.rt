@@ -31,7 +31,7 @@ impl Model for Columns {
 }
 
 impl Columns {
-    /// The empty columns of 1 to `MAX_CLIENTS` clients.
+    /// The empty columns of 1 to `MAX_CLIENTS` clients. It fails only for want of memory.
     pub fn create(alloc: Global, clients: u8) -> Result<Columns, NoMemory>
         requires least { 1 ≤ clients }
         requires most { clients ≤ MAX_CLIENTS }
@@ -85,7 +85,7 @@ impl Columns {
     /// 2. The client left before `n`: `Left` with the frame.
     /// 3. `n` is above the number of plays: `Ahead` with that number.
     /// 4. The entry is a play and `n` is `MAX_FRAMES`: `Full`.
-    /// 5. `Fixed`: the entry is added. No other case changes anything.
+    /// 5. `Fixed`: the entry is added. No other case changes anything, and neither does want of memory, its one error.
     pub fn put(&mut self, c: u8, n: u32, e: Entry) -> Result<Put, NoMemory>
         requires { c < length self.old }
         ensures answer { IfOk result (λ put. put ≡ put_answer (column_of self.old c) n e) }

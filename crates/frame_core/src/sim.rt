@@ -45,7 +45,8 @@ pub trait Sim: Drop {
     fn hash(&self) -> u64
         ensures { result ≡ hash_of self.now };
 
-    /// The world's summary.
+    /// The world's summary. It has the cash of each client.
     fn summary(&self) -> Summary
-        ensures { result ≡ summary_of self.now };
+        ensures value { result ≡ summary_of self.now }
+        ensures cash { length result.cash ≡ clients_of self.now };
 }

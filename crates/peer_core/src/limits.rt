@@ -1,2 +1,2 @@
-/// The greatest number of frames that a client may seal ahead of its ticked ones. There is at least 1.
+/// The greatest lag. A lag, 1 to this many frames, is how far a client may seal ahead of its ticked frames.
 pub const MAX_LAG: u8 = 64;

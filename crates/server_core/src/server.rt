@@ -163,7 +163,7 @@ mod tests {
     }
 
     impl Sim for Tally {
-        ghost use Rattle.std.specs.Prelude.{◌+◌, ◌*◌, [], slice_get, if◌then◌else◌, false};
+        ghost use Rattle.std.specs.Prelude.{◌+◌, ◌*◌, [], ◌∷◌, slice_get, if◌then◌else◌, false};
         ghost use Rattle.std.specs.Option.{option_map, unwrap_or};
         ghost use Rattle.game_orders.specs.Entry.{is_play};
 
@@ -175,7 +175,7 @@ mod tests {
 
         ghost hash_of = { λ w. w.steps * 2 + (if w.played then 1 else 0) };
 
-        ghost summary_of = { λ w. record { actors = 0; cash = [] } };
+        ghost summary_of = { λ w. record { actors = 0; cash = 0 ∷ 0 ∷ [] } };
 
         fn clients(&self) -> u8 {
             2
@@ -194,10 +194,10 @@ mod tests {
         }
 
         fn summary(&self) -> Summary {
-            Summary {
-                actors: 0,
-                cash: CashList::empty(),
-            }
+            let mut cash = CashList::empty();
+            cash.push(0);
+            cash.push(0);
+            Summary { actors: 0, cash }
         }
     }
 
