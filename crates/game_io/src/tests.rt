@@ -130,14 +130,15 @@ fn a_sure_disk_answers_by_its_files(rt: HostRuntime) -> Result<(), Fail> {
     Ok(())
 }
 
-/// A writer that takes two bytes at a time, and fails at one of its calls.
+/// A writer that takes two bytes at a time, which it adds to `held`, and fails at one of its calls.
 #[derive(Drop)]
-struct Halting {
+struct Halting<'a> {
     calls: u64,
     fails_at: u64,
+    held: &'a mut Vec<u8>,
 }
 
-impl Halting {
+impl<'a> Halting<'a> {
     fn next(&mut self) -> io::Result<()> {
         let call = self.calls;
         self.calls = call.wrapping_add(1);
@@ -148,10 +149,12 @@ impl Halting {
     }
 }
 
-impl Write for Halting {
+impl<'a> Write for Halting<'a> {
     fn write(&mut self, buf: &[u8]) -> io::Result<usize> {
         self.next()?;
-        Ok(buf.len().min(2))
+        let count = buf.len().min(2);
+        self.held.extend_from_slice(&buf[..count])?;
+        Ok(count)
     }
 
     fn flush(&mut self) -> io::Result<()> {
@@ -161,10 +164,28 @@ impl Write for Halting {
 
 #[test]
 fn a_writer_that_fails_is_counted(rt: HostRuntime) {
-    // The puts of `ab`, `cde` and `f` are two, three and two calls.
-    for fails_at in 0..8 {
-        let mut sink = StdSink::new(Halting { calls: 0, fails_at });
+    // The puts of `ab`, `cde` and `f` are two, three and two calls. A failed write leaves out what it was to write, and
+    // what the same put was to write behind it.
+    let rows = [
+        (0, "cdef"),
+        (1, "abcdef"),
+        (2, "abf"),
+        (3, "abcdf"),
+        (4, "abcdef"),
+        (5, "abcde"),
+        (6, "abcdef"),
+        (7, "abcdef"),
+    ];
+    for (fails_at, text) in rows {
+        let mut held = Vec::new(rt.alloc());
+        let mut sink = StdSink::new(Halting {
+            calls: 0,
+            fails_at,
+            held: &mut held,
+        });
         assert_eq!(rt; put_three(&mut sink), u64::from(fails_at < 7));
+        drop(sink);
+        assert_eq!(rt; held.as_slice(), text.as_bytes());
     }
 }
 
@@ -184,8 +205,14 @@ fn real_files_are_read_and_written(rt: HostRuntime) -> Result<(), Fail> {
     ];
     assert_eq!(rt; answers, ['m', 'w', 'l', 'r', 'f', 'f']);
     assert_eq!(rt; disk.faults(), 4);
+    let Ok(read) = disk.read_file(rt.alloc(), &name, 4) else {
+        return Err(Fail::new("the file is not read"));
+    };
+    assert_eq!(rt; read.as_slice(), b"four".as_slice());
+    // A shorter content leaves nothing of a longer one.
+    assert_eq!(rt; letter(disk.write_file(rt.alloc(), &name, b"ab"), 'w'), 'w');
     let written = fs::read(&rt, &name)?;
-    assert_eq!(rt; written.as_slice(), b"four".as_slice());
+    assert_eq!(rt; written.as_slice(), b"ab".as_slice());
     fs::remove_file(&rt, &name)?;
     Ok(())
 }
