@@ -42,26 +42,24 @@ abbrev pub TellsDrill : List ℕ → DrillFault → Stop → Type 0
 TellsDrill name drill.NoMemory stop = stop ≡ NoMemory
 TellsDrill name fault stop = Stops stop (drill_refusal name fault)
 
--- The code stops at a step with the step's refusal. Memory may be wanting in place of any answer.
-abbrev pub StopsStep : {T : Type 0} → Stop → Step T → Type 0
-StopsStep (Refused name line cause) step = step ≡ Err (refusal name.now line cause.now)
-StopsStep ReadFault step = ⊥
-StopsStep NoMemory step = Unit {0}
-
--- The code's answer is the step's: its value, or its refusal.
-abbrev pub IsStep : {S T : Type 0} → Result S Stop → (S → T) → Step T → Type 0
-IsStep (Ok value) view step = step ≡ Ok (view value)
-IsStep (Err stop) view step = StopsStep stop step
-
--- The same for a step that reads, which may fail where `failed` holds.
+-- The code stops at a step with the step's refusal, or because a read failed, which it may where `failed` holds. Memory may
+-- be wanting in place of any answer.
 abbrev pub StopsRead : {T : Type 0} → Stop → Step T → (failed : Type 0) → Type 0
 StopsRead (Refused name line cause) step failed = step ≡ Err (refusal name.now line cause.now)
 StopsRead ReadFault step failed = failed
 StopsRead NoMemory step failed = Unit {0}
 
+-- The code's answer is the step's: its value, or its stop.
 abbrev pub IsReadStep : {S T : Type 0} → Result S Stop → (S → T) → Step T → (failed : Type 0) → Type 0
 IsReadStep (Ok value) view step failed = step ≡ Ok (view value)
 IsReadStep (Err stop) view step failed = StopsRead stop step failed
+
+-- The same for a step that reads nothing.
+abbrev pub StopsStep : {T : Type 0} → Stop → Step T → Type 0
+StopsStep stop step = StopsRead stop step ⊥
+
+abbrev pub IsStep : {S T : Type 0} → Result S Stop → (S → T) → Step T → Type 0
+IsStep result view step = IsReadStep result view step ⊥
 
 -- Where the disk tells nothing, the count of its faults rose, and a file is missing, too long, or could not be read.
 abbrev pub StopsUntold : Stop → List Wanted → Type 0 → Type 0
