@@ -1,3 +1,6 @@
 pub mod Cause
 pub mod Told
 pub mod Events
+pub mod Lines
+pub mod Numbers
+pub mod Steps

@@ -10,11 +10,13 @@ pub struct FaultCount {
 }
 
 impl Model for FaultCount {
-    ghost use Rattle.std.specs.Prelude.{ℕ};
+    ghost use Rattle.std.specs.Prelude.{ℕ, ◌<◌, ◌^◌};
 
     ghost Value = { ℕ };
 
     ghost view = { λ faults. faults.count };
+
+    ghost invariant = { λ faults. faults.count < 2 ^ 64 };
 }
 
 impl FaultCount {

@@ -1,13 +1,15 @@
 //! What every crate of the core shares, and the only crate that stands on none of them.
 //!
 //! It has the error for want of memory, the count of faults by which an object of the outside gives the
-//! cause of a failed call, and in `specs/` the words for causes, for what was written, and for a run over
-//! a list of events.
+//! cause of a failed call, the reading of a number in decimal digits, and in `specs/` the words for causes,
+//! for what was written, for a run over a list of events, for steps that may fail, and for lines.
 #![tactic(auto)]
 
 mod fault_count;
+mod numbers;
 
 pub use fault_count::FaultCount;
+pub use numbers::{MAX_DIGITS, read_number};
 
 /// Want of memory: the one answer of a call that its clauses leave free.
 pub type NoMemory = std::alloc::AllocError;
