@@ -5,10 +5,11 @@ use Rattle.yaml_lines.specs.declared.fault.LineFault.TheVariants as line
 use Rattle.yaml_lines.specs.Kept.{Kept, IsFault, first_line_fault, kept_lines}
 use Rattle.yaml_lines.specs.Trees.{Trees}
 use Rattle.yaml_lines.specs.Built.{parsed_by, parsed}
+use Rattle.base.specs.Steps.{◌>>=◌}
 use Rattle.match_cli.specs.declared.stop.Stop.{Stop}
 use Rattle.match_cli.specs.declared.stop.Stop.TheVariants.{Refused, ReadFault, NoMemory}
 use Rattle.match_cli.specs.Reply.{Reply}
-use Rattle.match_cli.specs.Contents.{Step, after}
+use Rattle.match_cli.specs.Contents.{Step}
 use Rattle.match_cli.specs.RuleFiles.{line_refusal, line_step, parsed_behind}
 use Rattle.match_cli.specs.Stops.{Stops, StopsStep, TellsLine}
 
@@ -43,12 +44,12 @@ line_stops names fault stop first kept tells (inr found) =
     line_told names fault stop (line_step names (parsed_by first kept)) tells (ap (λ f. line_step names (parsed_by f kept)) found)
 
 -- A step that stops, and what would have come after it.
-pub after_stop :
+pub stop_stops :
     {T V : Type 0} (stop : Stop) (step : Step T) (next : T → Step V) →
-    StopsStep stop step → StopsStep stop (after step next)
-after_stop (Refused name line cause) step next stops = ap (λ s. after s next) stops
-after_stop ReadFault step next stops = stops
-after_stop NoMemory step next stops = tt
+    StopsStep stop step → StopsStep stop (step >>= next)
+stop_stops (Refused name line cause) step next stops = ap (λ s. s >>= next) stops
+stop_stops ReadFault step next stops = stops
+stop_stops NoMemory step next stops = tt
 
 -- The first file with a fault in its lines.
 pub parse_stops :
@@ -60,4 +61,4 @@ parse_stops names got file left bytes rest step fault stop left_is so_far tells 
     let next : Trees → Step (List Trees) = λ forest. parsed_behind names (got ++ forest ∷ []) (file + 1) rest in
     let lines : Step Trees = line_step names (parsed_by (first_line_fault file bytes) (kept_lines file bytes)) in
     subst (StopsStep stop) (sym (ap (parsed_behind names got file) left_is) ∙ so_far)
-    (after_stop stop lines next (line_stops names fault stop (first_line_fault file bytes) (kept_lines file bytes) tells found))
+    (stop_stops stop lines next (line_stops names fault stop (first_line_fault file bytes) (kept_lines file bytes) tells found))

@@ -2,8 +2,9 @@
 use Rattle.std.proofs.Common.{◌≡◌, ◌≤◌, ◌<◌, ◌+◌, map, drop, get_or, ℕ, [], ◌∷◌, ◌++◌, List, length, Bor, Option, Some, None, Ok, IsSome, IfSome, IfNone, refl, sym, ap, subst, inr, ◌∙◌, append_assoc, append-nil}
 use Rattle.std.proofs.lemmas.List.{drop_more}
 use Rattle.game_io.specs.Disk.{Files}
+use Rattle.base.specs.Steps.{◌>>=◌}
 use Rattle.match_cli.specs.Reply.{Reply}
-use Rattle.match_cli.specs.Contents.{after, Wanted, content_of, read_behind, contents_of, IsFirstThere, IsGiven, IsUnread}
+use Rattle.match_cli.specs.Contents.{Wanted, content_of, read_behind, contents_of, IsFirstThere, IsGiven, IsUnread}
 use Rattle.match_cli.specs.declared.files.TheConstants.{MAX_RULE_BYTES}
 use Rattle.match_cli.specs.Request.{rule_file}
 
@@ -27,7 +28,7 @@ told_next :
     IfSome files (λ files. read_behind (got ++ bytes ∷ []) rest files ≡ contents_of all files)
 told_next None all rest file got bytes told read = tt
 told_next (Some files) all rest file got bytes told read =
-    ap (λ step. after step (λ bytes. read_behind (got ++ bytes ∷ []) rest files)) (sym read) ∙ told
+    ap (λ step. step >>= λ bytes. read_behind (got ++ bytes ∷ []) rest files) (sym read) ∙ told
 
 -- A file that was read is there.
 read_there : (file : Wanted) (content : Option (List ℕ)) (bytes : List ℕ) → content_of file content ≡ Ok bytes → IsSome content

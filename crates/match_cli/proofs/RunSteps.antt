@@ -7,8 +7,9 @@ use Rattle.drill.specs.declared.drill_fault.DrillFault.TheVariants as drill
 use Rattle.drill.specs.declared.limits.TheConstants.{MAX_DRILL_BYTES}
 use Rattle.drill.specs.Reading.{DrillPlain, read_of}
 use Rattle.game_io.specs.Disk.{Files}
+use Rattle.base.specs.Steps.{◌>>=◌}
 use Rattle.match_cli.specs.Answers.{MayEnd, Answers}
-use Rattle.match_cli.specs.Contents.{Step, after, Wanted, content_of, read_behind, contents_of, ended, IsGiven}
+use Rattle.match_cli.specs.Contents.{Step, Wanted, content_of, read_behind, contents_of, ended, IsGiven}
 use Rattle.match_cli.specs.Drills.{drill_refusal, read_reply, drill_reply}
 use Rattle.match_cli.specs.Request.{wanted, given_reply, asked_reply}
 use Rattle.match_cli.specs.Run.{AnswersTold, AnswersUntold, RunsAsked}
@@ -66,7 +67,7 @@ one_told :
     (files : Option Files) (file : Wanted) (bytes : List ℕ) →
     IfSome files (λ files. content_of file (files file.name) ≡ Ok bytes) → IfSome files (λ files. contents_of (file ∷ []) files ≡ Ok (bytes ∷ []))
 one_told None file bytes read = tt
-one_told (Some files) file bytes read = ap (λ step. after step (λ bytes. read_behind (bytes ∷ []) [] files)) read
+one_told (Some files) file bytes read = ap (λ step. step >>= λ bytes. read_behind (bytes ∷ []) [] files) read
 
 one_given :
     (files : Option Files) (file : Wanted) (bytes : List ℕ) →

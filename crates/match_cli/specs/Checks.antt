@@ -1,6 +1,7 @@
 -- What the command `check` answers.
 use Rattle.std.specs.Prelude.{ℕ, ◌+◌, List, [], ◌∷◌, ◌++◌, if◌then◌else◌, Result, Ok, Err, codes}
 use Rattle.std.specs.Fmt.{decimal}
+use Rattle.base.specs.Steps.{◌>>=◌}
 use Rattle.rule_traits.specs.declared.fault.RuleFault.{RuleFault}
 use Rattle.rule_traits.specs.declared.fault.RuleFault.TheVariants.{BadValue, OutOfRange, MissingField, UnknownKindName, TooManyKinds, NoMemory}
 use Rattle.rule_traits.specs.declared.kind.Kind.{Kind}
@@ -9,7 +10,7 @@ use Rattle.rule_traits.specs.declared.traits.Trait.{Trait}
 use Rattle.rule_traits.specs.Traits.{all_traits, name_of, has_trait}
 use Rattle.rule_traits.specs.Typed.{typed}
 use Rattle.match_cli.specs.Reply.{Reply, done, refusal}
-use Rattle.match_cli.specs.Contents.{Step, after, ended}
+use Rattle.match_cli.specs.Contents.{Step, ended}
 use Rattle.match_cli.specs.RuleFiles.{name_at, refused_at, resolved_rules}
 
 -- The rules are at fault: the place and the cause. The definition of rules wants no memory, so the last case never comes.
@@ -53,7 +54,9 @@ typed_step names (Err fault) = Err (rule_refusal names fault)
 
 -- What typed rules come to, or their first fault, behind those in lines and in merging.
 abbrev pub check_step : (names contents : List (List ℕ)) → Step (List ℕ)
-check_step names contents = after (resolved_rules names contents) (λ forest. typed_step names (typed forest))
+check_step names contents = do
+  forest ← resolved_rules names contents
+  typed_step names (typed forest)
 
 abbrev pub check_reply : (names contents : List (List ℕ)) → Reply
 check_reply names contents = ended (check_step names contents) done

@@ -1,5 +1,6 @@
 -- The files that a command reads, in order, and what they hold.
 use Rattle.std.specs.Prelude.{ℕ, ◌≤◌, nat_lt, if◌then◌else◌, ◌≡◌, ◌⊎◌, List, [], ◌∷◌, ◌++◌, length, Option, None, Some, IsSome, Result, Ok, Err, codes}
+use Rattle.base.specs.Steps.{◌>>=◌}
 use Rattle.game_io.specs.Disk.{Files}
 use Rattle.match_cli.specs.Reply.{Reply, refusal}
 
@@ -11,11 +12,6 @@ pub record Wanted : Type 0 where
 -- A value, or the reply with which the command ends before it has one.
 abbrev pub Step : Type 0 → Type 0
 Step T = Result T Reply
-
--- What comes after a step.
-abbrev pub after : {S T : Type 0} → Step S → (S → Step T) → Step T
-after (Ok value) next = next value
-after (Err reply) next = Err reply
 
 -- The reply in the end: that of the last step's value, or the one that came before it.
 abbrev pub ended : {T : Type 0} → Step T → (T → Reply) → Reply
@@ -36,8 +32,9 @@ content_of file (Some bytes) = if nat_lt file.limit (length bytes) then Err (too
 -- The contents of some files, behind those that were read before. The first that cannot be read decides.
 abbrev pub read_behind : (before : List (List ℕ)) → List Wanted → Files → Step (List (List ℕ))
 read_behind before [] files = Ok before
-read_behind before (file ∷ rest) files =
-    after (content_of file (files file.name)) (λ bytes. read_behind (before ++ bytes ∷ []) rest files)
+read_behind before (file ∷ rest) files = do
+  bytes ← content_of file (files file.name)
+  read_behind (before ++ bytes ∷ []) rest files
 
 abbrev pub contents_of : List Wanted → Files → Step (List (List ℕ))
 contents_of wanted files = read_behind [] wanted files

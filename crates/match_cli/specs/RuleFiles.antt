@@ -1,5 +1,6 @@
 -- What the command `yaml` answers.
 use Rattle.std.specs.Prelude.{ℕ, ◌+◌, List, [], ◌∷◌, ◌++◌, Result, Ok, Err, unwrap_or, slice_get, codes}
+use Rattle.base.specs.Steps.{◌>>=◌}
 use Rattle.yaml_lines.specs.declared.place.Place.{Place}
 use Rattle.yaml_lines.specs.declared.fault.LineFault.{LineFault}
 use Rattle.yaml_lines.specs.declared.fault.LineFault.TheVariants.{NotUtf8, BadIndent, TooDeep, LineTooLong, TooManyLines, NoMemory}
@@ -10,7 +11,7 @@ use Rattle.yaml_merge.specs.declared.fault.MergeFault.{MergeFault}
 use Rattle.yaml_merge.specs.declared.fault.MergeFault.TheVariants.{NoParent, Cycle, NothingToRemove, TooLarge, TooDeep as TooDeepMerged, NoMemory as NoMemoryMerged}
 use Rattle.yaml_merge.specs.Resolving.{resolved_files}
 use Rattle.match_cli.specs.Reply.{Reply, done, refusal}
-use Rattle.match_cli.specs.Contents.{Step, after, ended}
+use Rattle.match_cli.specs.Contents.{Step, ended}
 
 -- The name of the file with this number.
 abbrev pub name_at : ℕ → List (List ℕ) → List ℕ
@@ -46,8 +47,9 @@ line_step names (Err fault) = Err (line_refusal names fault)
 -- lines decides.
 abbrev pub parsed_behind : List (List ℕ) → (before : List Trees) → (file : ℕ) → List (List ℕ) → Step (List Trees)
 parsed_behind names before file [] = Ok before
-parsed_behind names before file (bytes ∷ contents) =
-    after (line_step names (parsed file bytes)) (λ forest. parsed_behind names (before ++ forest ∷ []) (file + 1) contents)
+parsed_behind names before file (bytes ∷ contents) = do
+  forest ← line_step names (parsed file bytes)
+  parsed_behind names (before ++ forest ∷ []) (file + 1) contents
 
 abbrev pub parsed_files : (names contents : List (List ℕ)) → Step (List Trees)
 parsed_files names contents = parsed_behind names [] 0 contents
@@ -58,12 +60,15 @@ merge_step names (Err fault) = Err (merge_refusal names fault)
 
 -- The files as one resolved forest, or the first fault: those in lines come before those in merging.
 unfoldable pub resolved_rules : List (List ℕ) → List (List ℕ) → Step Trees
-resolved_rules names contents =
-    after (parsed_files names contents) (λ forests. merge_step names (resolved_files forests))
+resolved_rules names contents = do
+  forests ← parsed_files names contents
+  merge_step names (resolved_files forests)
 
 -- The resolved forest as text.
 abbrev pub yaml_step : (names contents : List (List ℕ)) → Step (List ℕ)
-yaml_step names contents = after (resolved_rules names contents) (λ forest. Ok (printed (flat 0 forest)))
+yaml_step names contents = do
+  forest ← resolved_rules names contents
+  Ok (printed (flat 0 forest))
 
 abbrev pub yaml_reply : (names contents : List (List ℕ)) → Reply
 yaml_reply names contents = ended (yaml_step names contents) done
