@@ -1,6 +1,5 @@
 pub mod Cause
 pub mod Told
-pub mod Events
 pub mod Lines
 pub mod Numbers
 pub mod Steps

@@ -1,4 +1,4 @@
-ghost use Rattle.std.specs.Prelude.{◌≡◌, ◌+◌, ◌-◌, ◌^◌, min};
+ghost use Rattle.std.specs.Prelude.{◌≡◌, ◌+◌, ◌-◌, ◌^◌, ◌≤◌, min};
 ghost use Rattle.base.specs.Cause.{Rose};
 
 use std::marker::Model;
@@ -38,6 +38,7 @@ impl FaultCount {
     pub fn raise(&mut self)
         ensures next { self.new ≡ min (self.old + 1) (2 ^ 64 - 1) }
         ensures rose { Rose self.old self.new }
+        ensures later { self.old ≤ self.new }
     {
         self.count = self.count.saturating_add(1);
     }

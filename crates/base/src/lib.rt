@@ -2,7 +2,7 @@
 //!
 //! It has the error for want of memory, the count of faults by which an object of the outside gives the
 //! cause of a failed call, the reading of a number in decimal digits, and in `specs/` the words for causes,
-//! for what was written, for a run over a list of events, for steps that may fail, and for lines.
+//! for what was written, for steps that may fail, and for lines.
 #![tactic(auto)]
 
 mod fault_count;
