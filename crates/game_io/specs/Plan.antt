@@ -1,11 +1,7 @@
 -- The calls of a memory form: how many there were, which of them are to fail, and the count of faults.
-use Rattle.std.specs.Prelude.{◌≡◌, ℕ, ◌+◌, ◌-◌, ◌^◌, ◌<◌, ◌≤◌, ◌==◌, min, nat_lt, if◌then◌else◌, Bool, true, false, List, [], ◌∷◌, Option, None, Some, OnSome, is_some, count_by, refl}
-use Rattle.std.proofs.Common.{arith, ap, sym, cond, eqb-true}
-use Rattle.std.proofs.lemmas.List.Sums.{sum_by-cons}
-use Rattle.std.proofs.lemmas.Bool.Decides.{nat_tests}
-use Rattle.base.specs.Cause.{Rose}
+use Rattle.std.specs.Prelude.{ℕ, ◌+◌, ◌-◌, ◌^◌, ◌==◌, min, nat_lt, if◌then◌else◌, Bool, List, [], ◌∷◌, Option, None, Some, count_by}
 use Rattle.game_io.specs.declared.failing_call.FailingCall.{FailingCall}
-use Rattle.game_io.specs.declared.failing_call.Leaves.{Leaves}
+use Rattle.game_io.specs.declared.failing_call.Remains.{Remains}
 
 -- The calls so far, those that are to fail, and how many faults there were beside them.
 pub record Plan : Type 0 where
@@ -21,10 +17,18 @@ is_past calls planned = nat_lt planned.call calls
 abbrev pub faults_of : Plan → ℕ
 faults_of plan = min (count_by (is_past plan.calls) plan.failing + plan.unplanned) (2 ^ 64 - 1)
 
--- What the call of this number leaves, where it is to fail: as the first of the list says that has its number.
-abbrev pub leaves_at : ℕ → List FailingCall → Option Leaves
-leaves_at calls [] = None
-leaves_at calls (planned ∷ rest) = if planned.call == calls then Some planned.leaves else leaves_at calls rest
+-- What remains after the call of this number, where it is to fail: as the first of the list says that has its number.
+abbrev pub remains_at : ℕ → List FailingCall → Option Remains
+remains_at calls [] = None
+remains_at calls (planned ∷ rest) = if planned.call == calls then Some planned.remains else remains_at calls rest
+
+-- What remains after the next call, where it is to fail.
+abbrev pub next_remains : Plan → Option Remains
+next_remains plan = remains_at plan.calls plan.failing
+
+-- The plan of an object that was not called yet.
+abbrev pub fresh : List FailingCall → Plan
+fresh failing = record { calls = 0; failing = failing; unplanned = 0 }
 
 -- One more call was made.
 abbrev pub called : Plan → Plan
@@ -33,73 +37,3 @@ called plan = record plan { calls = min (plan.calls + 1) (2 ^ 64 - 1) }
 -- One more fault was counted that was in no plan.
 abbrev pub missed : Plan → Plan
 missed plan = record plan { unplanned = min (plan.unplanned + 1) (2 ^ 64 - 1) }
-
--- A planned call that is past stays past.
-past_stays : (call before now : ℕ) → before ≤ now → cond (nat_lt call before) 1 0 ≤ cond (nat_lt call now) 1 0
-past_stays call before now h = grind (arith, nat_tests)
-
--- A planned call becomes past where it is made.
-past_made : (call before now : ℕ) → before < now → call ≡ before → cond (nat_lt call before) 1 0 + 1 ≤ cond (nat_lt call now) 1 0
-past_made call before now h is = grind (arith, nat_tests)
-
--- One planned call more at the front.
-past-cons :
-    (calls : ℕ) (planned : FailingCall) (rest : List FailingCall) →
-    count_by (is_past calls) (planned ∷ rest) ≡ cond (nat_lt planned.call calls) 1 0 + count_by (is_past calls) rest
-past-cons calls planned rest = sum_by-cons (λ x. cond (is_past calls x) 1 0) planned rest
-
--- A greater part makes no smaller sum.
-at_most : (less more others : ℕ) → less ≤ more → min (less + others) (2 ^ 64 - 1) ≤ min (more + others) (2 ^ 64 - 1)
-at_most less more others h = omega arith
-
--- A part that grew by one raises the sum.
-raised : (less more others : ℕ) → less + 1 ≤ more → Rose (min (less + others) (2 ^ 64 - 1)) (min (more + others) (2 ^ 64 - 1))
-raised less more others h = omega arith
-
--- With more calls no fewer of the planned ones are past.
-pub past-le : (before now : ℕ) (failing : List FailingCall) → before ≤ now → count_by (is_past before) failing ≤ count_by (is_past now) failing
-past-le before now [] h = omega arith
-past-le before now (planned ∷ rest) h =
-    rw (past-cons before planned rest, past-cons now planned rest)
-    (let ih = past-le before now rest h in let first = past_stays planned.call before now h in omega arith)
-
--- The step of `past-lt`, by whether the first planned call is the one that is made.
-past-lt-step :
-    (before now : ℕ) (planned : FailingCall) (rest : List FailingCall) (test : Bool) → (planned.call == before) ≡ test → before < now →
-    (is_some (leaves_at before rest) ≡ true → count_by (is_past before) rest + 1 ≤ count_by (is_past now) rest) →
-    is_some (cond test (Some planned.leaves) (leaves_at before rest)) ≡ true →
-    cond (nat_lt planned.call before) 1 0 + count_by (is_past before) rest + 1 ≤ cond (nat_lt planned.call now) 1 0 + count_by (is_past now) rest
-past-lt-step before now planned rest true e h ih some =
-    let first = past_made planned.call before now h (eqb-true planned.call before e) in
-    let others = past-le before now rest (omega arith) in
-    omega arith
-past-lt-step before now planned rest false e h ih some =
-    let first = past_stays planned.call before now (omega arith) in
-    let others = ih some in
-    omega arith
-
--- Once a planned call was made one more of them is past.
-pub past-lt :
-    (before now : ℕ) (failing : List FailingCall) → before < now → is_some (leaves_at before failing) ≡ true →
-    count_by (is_past before) failing + 1 ≤ count_by (is_past now) failing
-past-lt before now [] h some = absurd (cc)
-past-lt before now (planned ∷ rest) h some =
-    rw (past-cons before planned rest, past-cons now planned rest)
-    (past-lt-step before now planned rest (planned.call == before) refl h (past-lt before now rest h) some)
-
--- No call lowers the count.
-pub faults_called :
-    (calls now : ℕ) (failing : List FailingCall) (unplanned : ℕ) → calls < 2 ^ 64 → now ≡ min (calls + 1) (2 ^ 64 - 1) →
-    min (count_by (is_past calls) failing + unplanned) (2 ^ 64 - 1) ≤ min (count_by (is_past now) failing + unplanned) (2 ^ 64 - 1)
-faults_called calls now failing unplanned small e =
-    at_most (count_by (is_past calls) failing) (count_by (is_past now) failing) unplanned (past-le calls now failing (omega arith))
-
--- A call that is to fail raises the count.
-pub faults_failed :
-    (calls now : ℕ) (failing : List FailingCall) (unplanned : ℕ) (leaves : Option Leaves) → OnSome leaves (calls < 2 ^ 32) →
-    leaves ≡ leaves_at calls failing → now ≡ min (calls + 1) (2 ^ 64 - 1) →
-    OnSome leaves (Rose (min (count_by (is_past calls) failing + unplanned) (2 ^ 64 - 1)) (min (count_by (is_past now) failing + unplanned) (2 ^ 64 - 1)))
-faults_failed calls now failing unplanned None small is e = tt
-faults_failed calls now failing unplanned (Some leaves) small is e =
-    raised (count_by (is_past calls) failing) (count_by (is_past now) failing) unplanned
-    (past-lt calls now failing (omega arith) (ap is_some (sym is)))

@@ -13,3 +13,9 @@ pub record Takes {E : Type 0} (old new : Option (List ℕ)) (before now : ℕ) (
   pub unmoved : OnErr result (new ≡ old)
   pub later : before ≤ now
   pub failed : OnErr result (Rose before now)
+
+-- `room` and `into` are the place before and after the call. Behind the bytes that were moved there it is as it was, and
+-- after a failed call all of it.
+pub record Fills {E : Type 0} (room into : List ℕ) (result : Result ℕ E) : Type 0 where
+  pub behind : IfOk result (λ count. drop count into ≡ drop count room)
+  pub untouched : OnErr result (into ≡ room)

@@ -1,19 +1,21 @@
-/// What a call that is to fail leaves of what it writes. A call that reads leaves nothing in any case.
+/// What remains after a call that is to fail of what it was to write. Of a call that reads, which writes nothing, it is
+/// not looked at.
 #[derive(Clone, Copy, Debug, PartialEq, Eq)]
-pub enum Leaves {
+pub enum Remains {
     /// All is as before the call.
     Old,
     /// A file isn't there any more. In a sink all is as before the call.
     Nothing,
-    /// The first bytes were written, so many of them, or all where there are fewer.
+    /// The first bytes of what was to be written, so many of them, or all where there are fewer.
     Front(usize),
 }
 
-/// A call of a memory form that is to fail.
+/// A call of a memory form that is to fail. Of two of one number the first says what remains, and each is counted as a
+/// fault.
 #[derive(Clone, Copy, Debug, PartialEq, Eq)]
 pub struct FailingCall {
     /// The number of the call among all those of the object that can fail, from 0.
     pub call: u32,
-    /// What the call leaves of what it writes.
-    pub leaves: Leaves,
+    /// What remains after the call of what it was to write.
+    pub remains: Remains,
 }

@@ -1,4 +1,4 @@
-ghost use Rattle.std.specs.Prelude.{◌≡◌, ◌-◌, ◌^◌, min, None};
+ghost use Rattle.std.specs.Prelude.{◌≡◌, None};
 
 use crate::disk::Disk;
 use crate::disk_error::DiskError;
@@ -46,7 +46,7 @@ fn write_whole<R: Files>(rt: &R, name: &str, bytes: &[u8]) -> io::Result<()> {
 impl<R: Files + AllocGlobal> Disk for FileDisk<'_, R> {
     ghost files = { λ d. None };
 
-    ghost faults = { λ d. min d.faults (2 ^ 64 - 1) };
+    ghost faults = { λ d. d.faults };
 
     fn faults(&self) -> u64 {
         self.faults.get()

@@ -2,8 +2,8 @@ ghost use Rattle.std.specs.Prelude.{◌≡◌, ℕ, List, [], ◌∷◌, Some, O
 ghost use Rattle.std.specs.Option.{option_map};
 ghost use Rattle.game_io.specs.declared.disk_error.DiskError.TheVariants.{Failed};
 ghost use Rattle.game_io.specs.Disk.{Reads, Writes, OnFailed};
-ghost use Rattle.game_io.specs.Plan.{faults_of, leaves_at, called};
-ghost use Rattle.game_io.specs.Memory.{PlannedFiles, files_of};
+ghost use Rattle.game_io.specs.Plan.{faults_of, next_remains, fresh, called};
+ghost use Rattle.game_io.specs.Memory.{PlannedFiles, content_after, files_of};
 
 use crate::disk::Disk;
 use crate::disk_error::DiskError;
@@ -31,7 +31,7 @@ impl MemDisk {
     /// No files, and the calls of `read_file` and `write_file` that are to fail.
     pub fn new(alloc: Global, failing: Vec<FailingCall>) -> Self
         ensures list { result.list ≡ [] }
-        ensures plan { result.plan ≡ record { calls = 0; failing = failing.items; unplanned = 0 } }
+        ensures plan { result.plan ≡ fresh failing.items }
     {
         MemDisk {
             disk: SureDisk::new(alloc),
@@ -46,7 +46,8 @@ impl MemDisk {
         self.disk.file(name)
     }
 
-    /// Gives the file of that name these bytes. This counts as no call.
+    /// Gives the file of that name these bytes. This counts as no call. It fails only for want of memory, and then
+    /// nothing changes.
     pub fn add(&mut self, alloc: Global, name: &str, bytes: &[u8]) -> Result<(), NoMemory>
         ensures ok { OnOk result (self.new.list ≡ record { name = name.now; content = Some bytes.now } ∷ self.old.list) }
         ensures err { OnErr result (self.new.list ≡ self.old.list) }
@@ -67,8 +68,8 @@ impl Disk for MemDisk {
 
     fn read_file(&mut self, alloc: Global, name: &str, limit: u32) -> Result<Vec<u8>, DiskError>
         ensures reads { Reads (Some (files_of self.old.list)) (Some (files_of self.new.list)) (faults_of self.old.plan) (faults_of self.new.plan) name.now limit result }
-        ensures planned { IsSome (leaves_at self.old.plan.calls self.old.plan.failing) → IsSome (files_of self.old.list name.now) → result ≡ Err Failed }
-        ensures other { IfNone (leaves_at self.old.plan.calls self.old.plan.failing) (OnFailed result ⊥) }
+        ensures planned { IsSome (next_remains self.old.plan) → IsSome (files_of self.old.list name.now) → result ≡ Err Failed }
+        ensures other { IfNone (next_remains self.old.plan) (OnFailed result ⊥) }
         ensures plan { self.new.plan ≡ called self.old.plan }
     {
         let failing = self.schedule.next();
@@ -80,13 +81,13 @@ impl Disk for MemDisk {
 
     fn write_file(&mut self, alloc: Global, name: &str, bytes: &[u8]) -> Result<(), DiskError>
         ensures writes { Writes (Some (files_of self.old.list)) (Some (files_of self.new.list)) (faults_of self.old.plan) (faults_of self.new.plan) name.now bytes.now result }
-        ensures planned { IfSome (leaves_at self.old.plan.calls self.old.plan.failing) (λ _. IsErr result) }
-        ensures other { IfNone (leaves_at self.old.plan.calls self.old.plan.failing) (OnFailed result ⊥) }
+        ensures planned { IfSome (next_remains self.old.plan) (λ remains. IsErr result × OnFailed result (files_of self.new.list name.now ≡ content_after remains (files_of self.old.list name.now) bytes.now)) }
+        ensures other { IfNone (next_remains self.old.plan) (OnFailed result ⊥) }
         ensures plan { self.new.plan ≡ called self.old.plan }
     {
         match self.schedule.next() {
             None => self.disk.write_file(alloc, name, bytes),
-            Some(leaves) => match self.disk.leave(alloc, name, bytes, leaves) {
+            Some(remains) => match self.disk.leave(alloc, name, bytes, remains) {
                 Ok(()) => Err(DiskError::Failed),
                 Err(_) => Err(DiskError::NoMemory),
             },

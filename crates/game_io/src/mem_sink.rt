@@ -1,11 +1,13 @@
-ghost use Rattle.std.specs.Prelude.{◌≡◌, ℕ, List, [], Some, IfSome, IfNone, IsErr, is_ok, if◌then◌else◌};
+ghost use Rattle.std.specs.Prelude.{◌≡◌, ◌⊎◌, ◌++◌, ◌≤◌, ℕ, List, [], Some, IfSome, IfNone, IsErr, OnOk, OnErr, is_ok, if◌then◌else◌};
+ghost use Rattle.base.specs.Cause.{Rose};
 ghost use Rattle.base.specs.Told.{WroteFront};
 ghost use Rattle.game_io.specs.Sink.{Puts};
-ghost use Rattle.game_io.specs.Plan.{faults_of, leaves_at, called, missed};
-ghost use Rattle.game_io.specs.Memory.{PlannedBytes};
+ghost use Rattle.game_io.specs.Plan.{faults_of, next_remains, fresh, missed};
+ghost use Rattle.game_io.specs.Memory.{PlannedBytes, remaining, with_bytes, without_memory};
 
 use crate::failed::Failed;
-use crate::failing_call::{FailingCall, Leaves};
+use crate::failing_call::{FailingCall, Remains};
+use crate::remaining::remaining;
 use crate::schedule::Schedule;
 use crate::sink::Sink;
 use std::alloc::Global;
@@ -25,26 +27,32 @@ impl Model for MemSink {
     ghost view = { λ s. record { bytes = s.bytes.items; plan = s.schedule } };
 }
 
-/// Appends the first `count` bytes of the piece, or all where there are fewer. Without memory it appends none.
-fn append_front(bytes: &mut Vec<u8>, piece: &[u8], count: usize)
-    ensures { WroteFront (Some bytes.old.items) (Some bytes.new.items) piece.now }
-{
-    let front = &piece[..count.min(piece.len())];
-    match bytes.extend_from_slice(front) {
-        Ok(()) => {}
-        Err(_) => {}
-    }
-}
-
 impl MemSink {
     /// Nothing written yet, and the calls of `put` that are to fail.
     pub fn new(alloc: Global, failing: Vec<FailingCall>) -> Self
         ensures bytes { result.bytes ≡ [] }
-        ensures plan { result.plan ≡ record { calls = 0; failing = failing.items; unplanned = 0 } }
+        ensures plan { result.plan ≡ fresh failing.items }
     {
         MemSink {
             bytes: Vec::new(alloc),
             schedule: Schedule::new(failing),
+        }
+    }
+
+    /// Appends these bytes, or counts a fault where there is no memory for them.
+    fn add(&mut self, bytes: &[u8]) -> Result<(), Failed>
+        ensures ok { OnOk result (self.new ≡ record { bytes = self.old.bytes ++ bytes.now; plan = self.old.plan }) }
+        ensures err { OnErr result (self.new ≡ record { bytes = self.old.bytes; plan = missed self.old.plan }) }
+        ensures front { WroteFront (Some self.old.bytes) (Some self.new.bytes) bytes.now }
+        ensures later { faults_of self.old.plan ≤ faults_of self.new.plan }
+        ensures rose { OnErr result (Rose (faults_of self.old.plan) (faults_of self.new.plan)) }
+    {
+        match self.bytes.extend_from_slice(bytes) {
+            Ok(()) => Ok(()),
+            Err(_) => {
+                self.schedule.miss();
+                Err(Failed)
+            }
         }
     }
 
@@ -67,22 +75,15 @@ impl Sink for MemSink {
 
     fn put(&mut self, piece: &[u8]) -> Result<(), Failed>
         ensures puts { Puts (Some self.old.bytes) (Some self.new.bytes) (faults_of self.old.plan) (faults_of self.new.plan) piece.now result }
-        ensures planned { IfSome (leaves_at self.old.plan.calls self.old.plan.failing) (λ _. IsErr result × (self.new.plan ≡ called self.old.plan)) }
-        ensures other { IfNone (leaves_at self.old.plan.calls self.old.plan.failing) (self.new.plan ≡ (if is_ok result then called self.old.plan else missed (called self.old.plan))) }
+        ensures planned { IfSome (next_remains self.old.plan) (λ remains. IsErr result × ((self.new ≡ with_bytes self.old (remaining remains piece.now)) ⊎ (self.new ≡ without_memory self.old))) }
+        ensures other { IfNone (next_remains self.old.plan) (self.new ≡ (if is_ok result then with_bytes self.old piece.now else without_memory self.old)) }
     {
         match self.schedule.next() {
-            Some(Leaves::Front(count)) => {
-                append_front(&mut self.bytes, piece, count);
+            Some(remains) => {
+                let _written = self.add(remaining(remains, piece));
                 Err(Failed)
             }
-            Some(_) => Err(Failed),
-            None => match self.bytes.extend_from_slice(piece) {
-                Ok(()) => Ok(()),
-                Err(_) => {
-                    self.schedule.miss();
-                    Err(Failed)
-                }
-            },
+            None => self.add(piece),
         }
     }
 }

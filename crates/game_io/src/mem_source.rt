@@ -1,6 +1,6 @@
 ghost use Rattle.std.specs.Prelude.{◌≡◌, ℕ, List, Some, is_err, is_some};
-ghost use Rattle.game_io.specs.Source.{Takes};
-ghost use Rattle.game_io.specs.Plan.{faults_of, leaves_at, called};
+ghost use Rattle.game_io.specs.Source.{Takes, Fills};
+ghost use Rattle.game_io.specs.Plan.{faults_of, next_remains, fresh, called};
 ghost use Rattle.game_io.specs.Memory.{PlannedBytes};
 
 use crate::failed::Failed;
@@ -27,7 +27,7 @@ impl MemSource {
     /// A source of these bytes, and the calls of `take` that are to fail.
     pub fn new(bytes: Vec<u8>, failing: Vec<FailingCall>) -> Self
         ensures bytes { result.bytes ≡ bytes.items }
-        ensures plan { result.plan ≡ record { calls = 0; failing = failing.items; unplanned = 0 } }
+        ensures plan { result.plan ≡ fresh failing.items }
     {
         MemSource {
             source: SureSource::new(bytes),
@@ -47,7 +47,8 @@ impl Source for MemSource {
 
     fn take(&mut self, into: &mut [u8]) -> Result<usize, Failed>
         ensures takes { Takes (Some self.old.bytes) (Some self.new.bytes) (faults_of self.old.plan) (faults_of self.new.plan) into.new result }
-        ensures planned { is_err result ≡ is_some (leaves_at self.old.plan.calls self.old.plan.failing) }
+        ensures fills { Fills into.old into.new result }
+        ensures planned { is_err result ≡ is_some (next_remains self.old.plan) }
         ensures plan { self.new.plan ≡ called self.old.plan }
     {
         if self.schedule.next().is_some() {

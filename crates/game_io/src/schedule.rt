@@ -1,8 +1,8 @@
 ghost use Rattle.std.specs.Prelude.{◌≡◌, ℕ, ◌+◌, ◌^◌, ◌<◌, ◌≤◌, List, [], OnSome};
 ghost use Rattle.base.specs.Cause.{Rose};
-ghost use Rattle.game_io.specs.Plan.{Plan, leaves_at, faults_of, called, missed};
+ghost use Rattle.game_io.specs.Plan.{Plan, remains_at, next_remains, fresh, faults_of, called, missed};
 
-use crate::failing_call::{FailingCall, Leaves};
+use crate::failing_call::{FailingCall, Remains};
 use base::FaultCount;
 use std::marker::Model;
 
@@ -20,14 +20,14 @@ impl Model for Schedule {
     ghost view = { λ s. record { calls = s.calls; failing = s.failing.items; unplanned = s.unplanned } };
 }
 
-/// What the call of this number leaves, where it is to fail.
-fn leaves_at(calls: u64, failing: &[FailingCall]) -> Option<Leaves>
-    ensures value { result ≡ leaves_at calls failing.now }
+/// What remains after the call of this number, where it is to fail.
+fn remains_at(calls: u64, failing: &[FailingCall]) -> Option<Remains>
+    ensures value { result ≡ remains_at calls failing.now }
     ensures small { OnSome result (calls < 2 ^ 32) }
 {
     for planned in failing {
         if u64::from(planned.call) == calls {
-            return Some(planned.leaves);
+            return Some(planned.remains);
         }
     }
     None
@@ -36,7 +36,7 @@ fn leaves_at(calls: u64, failing: &[FailingCall]) -> Option<Leaves>
 impl Schedule {
     /// No call yet.
     pub(crate) fn new(failing: Vec<FailingCall>) -> Self
-        ensures { result ≡ record { calls = 0; failing = failing.items; unplanned = 0 } }
+        ensures { result ≡ fresh failing.items }
     {
         Schedule {
             calls: 0,
@@ -45,16 +45,16 @@ impl Schedule {
         }
     }
 
-    /// Begins a call, and answers what it leaves where it is to fail.
-    pub(crate) fn next(&mut self) -> Option<Leaves>
-        ensures value { result ≡ leaves_at self.old.calls self.old.failing }
+    /// Begins a call, and answers what remains after it where it is to fail.
+    pub(crate) fn next(&mut self) -> Option<Remains>
+        ensures value { result ≡ next_remains self.old }
         ensures after { self.new ≡ called self.old }
         ensures later { faults_of self.old ≤ faults_of self.new }
         ensures rose { OnSome result (Rose (faults_of self.old) (faults_of self.new)) }
     {
-        let leaves = leaves_at(self.calls, &self.failing);
+        let remains = remains_at(self.calls, &self.failing);
         self.calls = self.calls.saturating_add(1);
-        leaves
+        remains
     }
 
     /// Counts a fault that was in no plan.

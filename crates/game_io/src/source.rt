@@ -15,7 +15,8 @@ pub trait Source {
     fn faults(&self) -> u64
         ensures { result ≡ faults self.now };
 
-    /// Moves the first of the bytes that are left to the front of `into`, and answers how many.
+    /// Moves the first of the bytes that are left to the front of `into`, and answers how many. What then stands behind
+    /// them in `into`, or anywhere in it after a failure, is not said.
     ///
     /// The answer is at most the length of `into`. Where `into` has room, 0 means the end of the input.
     /// `Failed` only where the count of faults rose in this call; then nothing was taken.

@@ -1,11 +1,12 @@
 ghost use Rattle.std.specs.Prelude.{◌≡◌, ℕ, List, [], ◌∷◌, Option, Some, OnOk, OnErr};
 ghost use Rattle.std.specs.Option.{option_map};
 ghost use Rattle.game_io.specs.Disk.{LeftPartly};
-ghost use Rattle.game_io.specs.Memory.{Named, files_of};
+ghost use Rattle.game_io.specs.Memory.{Named, content_after, files_of};
 
 use crate::disk::Disk;
 use crate::disk_error::DiskError;
-use crate::failing_call::Leaves;
+use crate::failing_call::Remains;
+use crate::remaining::remaining;
 use crate::stored_file::StoredFile;
 use base::NoMemory;
 use std::alloc::Global;
@@ -48,7 +49,8 @@ impl SureDisk {
         None
     }
 
-    /// Gives the file of that name this content, or takes it away.
+    /// Gives the file of that name this content, or takes it away. It fails only for want of memory, and then nothing
+    /// changes.
     pub(crate) fn set(
         &mut self,
         alloc: Global,
@@ -63,7 +65,7 @@ impl SureDisk {
         Ok(())
     }
 
-    /// Gives the file of that name these bytes.
+    /// Gives the file of that name these bytes. It fails only for want of memory, and then nothing changes.
     pub fn add(&mut self, alloc: Global, name: &str, bytes: &[u8]) -> Result<(), NoMemory>
         ensures ok { OnOk result (self.new ≡ record { name = name.now; content = Some bytes.now } ∷ self.old) }
         ensures err { OnErr result (self.new ≡ self.old) }
@@ -74,21 +76,22 @@ impl SureDisk {
 }
 
 impl SureDisk {
-    /// What a write of these bytes that fails leaves of the file of that name.
+    /// Leaves of the file of that name what is to remain of it after a write of these bytes that fails.
     pub(crate) fn leave(
         &mut self,
         alloc: Global,
         name: &str,
         bytes: &[u8],
-        leaves: Leaves,
+        remains: Remains,
     ) -> Result<(), NoMemory>
         ensures partly { OnOk result (LeftPartly (Some (files_of self.old)) (Some (files_of self.new)) name.now bytes.now) }
+        ensures content { OnOk result (files_of self.new name.now ≡ content_after remains (files_of self.old name.now) bytes.now) }
         ensures err { OnErr result (self.new ≡ self.old) }
     {
-        match leaves {
-            Leaves::Old => Ok(()),
-            Leaves::Nothing => self.set(alloc, name, None),
-            Leaves::Front(count) => self.add(alloc, name, &bytes[..count.min(bytes.len())]),
+        match remains {
+            Remains::Old => Ok(()),
+            Remains::Nothing => self.set(alloc, name, None),
+            Remains::Front(_) => self.add(alloc, name, remaining(remains, bytes)),
         }
     }
 }

@@ -1,4 +1,5 @@
-ghost use Rattle.std.specs.Prelude.{◌≡◌, ◌≤◌, ℕ, List, Some, length, drop};
+ghost use Rattle.std.specs.Prelude.{◌≡◌, ◌≤◌, ℕ, List, Some, length, drop, is_ok, true};
+ghost use Rattle.game_io.specs.Source.{Takes, Fills};
 
 use crate::failed::Failed;
 use crate::source::Source;
@@ -37,7 +38,11 @@ impl Source for SureSource {
         0
     }
 
-    fn take(&mut self, into: &mut [u8]) -> Result<usize, Failed> {
+    fn take(&mut self, into: &mut [u8]) -> Result<usize, Failed>
+        ensures takes { Takes (Some self.old) (Some self.new) 0 0 into.new result }
+        ensures fills { Fills into.old into.new result }
+        ensures sure { is_ok result ≡ true }
+    {
         let count = into.len().min(self.bytes.len() - self.taken);
         into[..count].copy_from_slice(&self.bytes[self.taken..self.taken + count]);
         self.taken += count;

@@ -6,8 +6,8 @@ use std::test::Fail;
 use std::{env, fs, io, process};
 
 /// The one call of this number is to fail.
-fn failing(alloc: Global, call: u32, leaves: Leaves) -> Result<Vec<FailingCall>, AllocError> {
-    Ok(vec![in alloc; FailingCall { call, leaves }]?)
+fn failing(alloc: Global, call: u32, remains: Remains) -> Result<Vec<FailingCall>, AllocError> {
+    Ok(vec![in alloc; FailingCall { call, remains }]?)
 }
 
 /// Puts `ab`, `cde` and `f`, and answers the count of faults.
@@ -49,8 +49,8 @@ fn write_and_read(disk: &mut impl Disk, alloc: Global) -> (char, char) {
 }
 
 /// A disk with the files `a` and `b`, in which one call is to fail.
-fn failing_disk(alloc: Global, call: u32, leaves: Leaves) -> Result<MemDisk, AllocError> {
-    let mut disk = MemDisk::new(alloc, failing(alloc, call, leaves)?);
+fn failing_disk(alloc: Global, call: u32, remains: Remains) -> Result<MemDisk, AllocError> {
+    let mut disk = MemDisk::new(alloc, failing(alloc, call, remains)?);
     disk.add(alloc, "a", b"old")?;
     disk.add(alloc, "b", b"before")?;
     Ok(disk)
@@ -67,13 +67,13 @@ fn held(disk: &MemDisk) -> &[u8] {
 #[test]
 fn chosen_puts_fail(rt: HostRuntime) -> Result<(), Fail> {
     let rows = [
-        (0, Leaves::Old, "cdef"),
-        (1, Leaves::Nothing, "abf"),
-        (1, Leaves::Front(2), "abcdf"),
-        (2, Leaves::Front(9), "abcdef"),
+        (0, Remains::Old, "cdef"),
+        (1, Remains::Nothing, "abf"),
+        (1, Remains::Front(2), "abcdf"),
+        (2, Remains::Front(9), "abcdef"),
     ];
-    for (call, leaves, want) in rows {
-        let mut sink = MemSink::new(rt.alloc(), failing(rt.alloc(), call, leaves)?);
+    for (call, remains, want) in rows {
+        let mut sink = MemSink::new(rt.alloc(), failing(rt.alloc(), call, remains)?);
         assert_eq!(rt; put_three(&mut sink), 1);
         assert_eq!(rt; sink.bytes(), want.as_bytes());
     }
@@ -85,7 +85,7 @@ fn chosen_puts_fail(rt: HostRuntime) -> Result<(), Fail> {
 fn chosen_takes_fail(rt: HostRuntime) -> Result<(), Fail> {
     for call in 0..5 {
         let bytes = b"abcde".to_vec(rt.alloc())?;
-        let mut source = MemSource::new(bytes, failing(rt.alloc(), call, Leaves::Old)?);
+        let mut source = MemSource::new(bytes, failing(rt.alloc(), call, Remains::Old)?);
         let taken = take_five(&mut source, rt.alloc())?;
         assert_eq!(rt;
             (taken.as_slice(), source.faults()),
@@ -104,14 +104,14 @@ fn chosen_takes_fail(rt: HostRuntime) -> Result<(), Fail> {
 #[test]
 fn chosen_calls_of_a_disk_fail(rt: HostRuntime) -> Result<(), Fail> {
     let rows = [
-        (0, Leaves::Old, "before", ('f', 'r')),
-        (0, Leaves::Nothing, "none", ('f', 'r')),
-        (0, Leaves::Front(0), "", ('f', 'r')),
-        (0, Leaves::Front(2), "ne", ('f', 'r')),
-        (1, Leaves::Old, "new", ('w', 'f')),
+        (0, Remains::Old, "before", ('f', 'r')),
+        (0, Remains::Nothing, "none", ('f', 'r')),
+        (0, Remains::Front(0), "", ('f', 'r')),
+        (0, Remains::Front(2), "ne", ('f', 'r')),
+        (1, Remains::Old, "new", ('w', 'f')),
     ];
-    for (call, leaves, left, answers) in rows {
-        let mut disk = failing_disk(rt.alloc(), call, leaves)?;
+    for (call, remains, left, answers) in rows {
+        let mut disk = failing_disk(rt.alloc(), call, remains)?;
         assert_eq!(rt; write_and_read(&mut disk, rt.alloc()), answers);
         assert_eq!(rt; held(&disk), left.as_bytes());
         assert_eq!(rt; disk.faults(), 1);

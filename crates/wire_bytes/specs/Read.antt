@@ -1,18 +1,21 @@
 -- What a read of a field does to the bytes that are left.
-use Rattle.std.specs.Prelude.{◌≡◌, ℕ, ◌≤◌, ◌↔◌, nat_lt, if◌then◌else◌, List, ◌++◌, length, drop, Result, Ok, Err, IfOk, OnOk, IfErr, OnErr, IsOk}
+use Rattle.std.specs.Prelude.{◌≡◌, ℕ, ◌≤◌, nat_lt, if◌then◌else◌, List, ◌++◌, length, drop, Result, Ok, Err, IfOk, OnErr}
 use Rattle.wire_bytes.specs.declared.short.Short.{Short}
-use Rattle.std.proofs.Common.{sym, ap, ◌∙◌, arith, refl, true, false, take, ◌<◌}
+use Rattle.std.proofs.Common.{sym, ap, ◌∙◌, arith, refl, true, false, take, ◌<◌, ◌^◌}
 use Rattle.std.proofs.lemmas.Bool.{lt-ltb, le-ltb}
-use Rattle.std.proofs.lemmas.List.{take-append-drop, length-take-le}
-use Rattle.wire_bytes.specs.Field.{field_bytes, field_number, AreBytes, field_of_front, field_bytes_back}
+use Rattle.std.proofs.lemmas.List.{take-append-drop, length-take-le, length-append}
+use Rattle.wire_bytes.specs.Field.{field_bytes, field_number, AreBytes, field_of_front, field_bytes_back, field_length, field_reads_back}
 
--- The field at the front of the bytes, or that there are fewer than it needs.
+-- The number of the field at the front of the bytes, or that there are fewer than the field is wide.
 abbrev pub field_at : ℕ → List ℕ → Result ℕ Short
 field_at width bytes = if nat_lt (length bytes) width then Err (record { need = width; have = length bytes }) else Ok (field_number width bytes)
 
--- The bytes behind the field at the front, or all where there are fewer than it needs.
-abbrev pub after_field : ℕ → List ℕ → List ℕ
-after_field width bytes = if nat_lt (length bytes) width then bytes else drop width bytes
+-- `old` and `new` are the bytes left before and after the read of a field: what was left is the field of the answer
+-- and then what is left, and after a refusal all is still left.
+pub record ReadsField (width : ℕ) (old new : List ℕ) (result : Result ℕ Short) : Type 0 where
+  pub answer : result ≡ field_at width old
+  pub spelled : IfOk result (λ number. old ≡ field_bytes width number ++ new)
+  pub stays : OnErr result (new ≡ old)
 
 -- The bytes of a field were taken from the front.
 pub record TakesField (width : ℕ) (old new field : List ℕ) : Type 0 where
@@ -20,17 +23,6 @@ pub record TakesField (width : ℕ) (old new field : List ℕ) : Type 0 where
   pub front : field ≡ take width old
   pub back : new ≡ drop width old
   pub bytes : AreBytes old
-
--- `old` and `new` are the bytes left before and after the read of a field.
-pub record ReadsField (width : ℕ) (old new : List ℕ) (result : Result ℕ Short) : Type 0 where
-  pub answer : result ≡ field_at width old
-  pub left : new ≡ after_field width old
-  pub number : IfOk result (λ number. number ≡ field_number width old)
-  pub spelled : IfOk result (λ number. old ≡ field_bytes width number ++ new)
-  pub moved : OnOk result (new ≡ drop width old)
-  pub enough : IsOk result ↔ (width ≤ length old)
-  pub short : IfErr result (λ short. (short.need ≡ width) × (short.have ≡ length old))
-  pub stays : OnErr result (new ≡ old)
 
 -- A read of enough bytes.
 pub reads_enough :
@@ -45,15 +37,10 @@ reads_enough width old new field number takes is =
     let enough : nat_lt (length old) width ≡ false = le-ltb (length old) width takes.enough in
     record {
       answer = rw (enough, number_is) refl;
-      left = rw (enough, takes.back) refl;
-      number = number_is;
       spelled =
           sym whole
           ∙ ap (λ front. front ++ drop width old) (sym (field_bytes_back width old takes.bytes takes.enough) ∙ ap (field_bytes width) (sym number_is))
           ∙ ap (λ back. field_bytes width number ++ back) (sym takes.back);
-      moved = takes.back;
-      enough = ((λ _. takes.enough), (λ _. refl));
-      short = tt;
       stays = tt;
     }
 
@@ -65,11 +52,14 @@ reads_short width bytes short few is =
     let lack : nat_lt (length bytes) width ≡ true = lt-ltb (length bytes) width few in
     record {
       answer = rw (lack, is) refl;
-      left = rw lack refl;
-      number = tt;
       spelled = tt;
-      moved = tt;
-      enough = ((λ h. cc), (λ h. absurd (omega arith)));
-      short = (ap (λ s. s.need) is, ap (λ s. s.have) is);
       stays = refl;
     }
+
+-- Reading what was written gives it back, whatever follows it.
+pub written_is_read :
+    (width number : ℕ) (rest : List ℕ) → number < 256 ^ width → field_at width (field_bytes width number ++ rest) ≡ Ok number
+written_is_read width number rest fits =
+    let enough : width ≤ length (field_bytes width number ++ rest) = rw (length-append (field_bytes width number) rest, field_length width number) (omega arith) in
+    let some : nat_lt (length (field_bytes width number ++ rest)) width ≡ false = le-ltb (length (field_bytes width number ++ rest)) width enough in
+    rw (some, field_reads_back width number rest fits) refl

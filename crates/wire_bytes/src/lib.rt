@@ -2,7 +2,7 @@
 //!
 //! A `Cursor` reads them one after the other, and the `write_` calls append them. A field's number and its
 //! bytes determine each other: what was written is read back, and what was read is written back. It stands
-//! on `byteorder`.
+//! on `base` for want of memory and on `byteorder`.
 #![tactic(auto)]
 
 mod cursor;
@@ -13,6 +13,6 @@ mod tests;
 mod write;
 
 pub use cursor::Cursor;
-pub use law::{number_is_read_back, read_bytes_are_written};
+pub use law::{field_has_its_width, number_is_read_back, read_bytes_are_written};
 pub use short::Short;
 pub use write::{write_u8, write_u16, write_u32, write_u64};

@@ -1,5 +1,6 @@
 use Rattle.std.proofs.Common.{rules, ◌≡◌, ◌^◌, ◌<◌}
-use Rattle.game_io.specs.Plan.{faults_called, faults_failed, leaves_at}
+use Rattle.game_io.specs.Plan.{remains_at}
+use Rattle.game_io.proofs.PlannedFaults.{faults_called, faults_failed}
 use Rattle.game_io.proofs.schedule.Schedule.next.Goals as goal
 
 pub returns-clause-later : goal.returns-clause-later
@@ -9,5 +10,5 @@ returns-clause-later c =
 
 pub returns-clause-rose : goal.returns-clause-rose
 returns-clause-rose c =
-    let is : c.leaves_at-leaves.result ≡ leaves_at c.self.inside.calls c.self.inside.failing.items = search rules in
-    rw (← c.self.view_is) (faults_failed c.self.inside.calls c.saturating_add-self-inside.result c.self.inside.failing.items c.self.inside.unplanned c.leaves_at-leaves.result c.leaves_at-leaves.ensures.small is c.saturating_add-self-inside.ensures)
+    let is : c.remains_at-remains.result ≡ remains_at c.self.inside.calls c.self.inside.failing.items = search rules in
+    rw (← c.self.view_is) (faults_failed c.self.inside.calls c.saturating_add-self-inside.result c.self.inside.failing.items c.self.inside.unplanned c.remains_at-remains.result c.remains_at-remains.ensures.small is c.saturating_add-self-inside.ensures)
