@@ -1,1 +1,3 @@
 pub mod StoredLemmas
+pub mod ReadyLemmas
+pub mod PutLemmas

@@ -103,7 +103,7 @@ none_or_some : (e : Entry) → Some e ≡ None → ⊥
 none_or_some e same = cc
 
 -- Behind a departure nothing can be added.
-past_departure : (column : Column) (n : ℕ) → column.left ≡ true → entry_at column n ≡ None → length_of column < n
+pub past_departure : (column : Column) (n : ℕ) → column.left ≡ true → entry_at column n ≡ None → length_of column < n
 past_departure column n left none = by_play (slice_get_cases column.plays n).1 where
   by_end : length_of column ≤ n → slice_get column.plays n ≡ None → ((n == length_of column) ≡ true) × (n ≡ length_of column) ⊎ ((n == length_of column) ≡ false) × (n ≢ length_of column) → length_of column < n
   by_end reached absent (inl (at, same)) =

@@ -1,4 +1,5 @@
 pub mod Column
+pub mod Answers
 pub mod Stored
 pub mod Ready
 pub mod World

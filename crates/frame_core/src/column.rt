@@ -76,7 +76,7 @@ impl StoredColumn {
         Some(&self.leave)
     }
 
-    /// Puts an entry at frame `n`.
+    /// Puts an entry at frame `n`. For want of memory, its one error, nothing has changed.
     pub(crate) fn put(&mut self, n: u32, e: Entry) -> Result<Put, NoMemory>
         ensures answer { IfOk result (λ put. put ≡ put_answer self.old n e) }
         ensures after { OnOk result (self.new ≡ put_column self.old n e) }

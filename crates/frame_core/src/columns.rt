@@ -1,7 +1,9 @@
 ghost use Rattle.std.specs.Prelude.{◌≡◌, ◌<◌, ◌≤◌, length, replicate, IfOk, OnOk, OnErr, slice_set};
 ghost use Rattle.std.specs.Option.{option_copied};
 ghost use Rattle.frame_core.specs.Column.{column_of, length_of, entry_at, put_answer, put_column, no_column, leave_answer, left_column};
-ghost use Rattle.frame_core.specs.Ready.{ready_at, frame_at};
+ghost use Rattle.frame_core.specs.Answers.{TellsPut};
+ghost use Rattle.frame_core.specs.Grows.{Grows};
+ghost use Rattle.frame_core.specs.Ready.{ready_at, frame_at, TellsReady};
 
 use crate::column::StoredColumn;
 use crate::leaving::Leaving;
@@ -53,7 +55,7 @@ impl Columns {
         self.held.len() as u8
     }
 
-    /// The number of plays of client `c`, at most `MAX_FRAMES`.
+    /// The number of plays of client `c`, which is below the number of clients: at most `MAX_FRAMES` plays.
     pub fn plays(&self, c: u8) -> u32
         requires { c < length self.now }
         ensures value { result ≡ length_of (column_of self.now c) }
@@ -62,7 +64,8 @@ impl Columns {
         self.held[c as usize].plays()
     }
 
-    /// Whether client `c` has left. Its departure stands at the frame that is its number of plays.
+    /// Whether client `c`, which is below the number of clients, has left. Its departure stands at the frame that is
+    /// its number of plays.
     pub fn left(&self, c: u8) -> bool
         requires { c < length self.now }
         ensures { result ≡ (column_of self.now c).left }
@@ -70,8 +73,8 @@ impl Columns {
         self.held[c as usize].left()
     }
 
-    /// The entry of client `c` that stands at frame `n`. None exactly where neither a play nor the departure stands
-    /// at `n`.
+    /// The entry of client `c`, which is below the number of clients, that stands at frame `n`. None exactly where
+    /// neither a play nor the departure stands at `n`.
     pub fn entry(&self, c: u8, n: u32) -> Option<&Entry>
         requires { c < length self.now }
         ensures { option_copied result ≡ entry_at (column_of self.now c) n }
@@ -79,28 +82,34 @@ impl Columns {
         self.held[c as usize].entry(n)
     }
 
-    /// Puts an entry of client `c` at frame `n`. The first case that fits decides:
+    /// Puts an entry of client `c`, which is below the number of clients, at frame `n`. The first case that fits
+    /// decides:
     ///
     /// 1. An entry stands at `n`: `Repeat` if it is the same, else `Conflict` with the one that stands.
     /// 2. The client left before `n`: `Left` with the frame.
     /// 3. `n` is above the number of plays: `Ahead` with that number.
     /// 4. The entry is a play and `n` is `MAX_FRAMES`: `Full`.
-    /// 5. `Fixed`: the entry is added. No other case changes anything, and neither does want of memory, its one error.
+    /// 5. `Fixed`: the entry is added. No other case changes anything.
+    ///
+    /// Want of memory is its one error, and then nothing has changed.
     pub fn put(&mut self, c: u8, n: u32, e: Entry) -> Result<Put, NoMemory>
         requires { c < length self.old }
         ensures answer { IfOk result (λ put. put ≡ put_answer (column_of self.old c) n e) }
         ensures after { OnOk result (self.new ≡ slice_set self.old c (put_column (column_of self.old c) n e)) }
+        ensures tells { IfOk result (λ put. TellsPut (column_of self.new c) n e put) }
+        ensures grows { Grows self.old self.new }
         ensures err { OnErr result (self.new ≡ self.old) }
     {
         self.held[c as usize].put(n, e)
     }
 
-    /// Lets client `c` leave: its departure stands at the frame that is its number of plays. `Already` exactly where
-    /// it has left, and then nothing changes.
+    /// Lets client `c`, which is below the number of clients, leave: its departure stands at the frame that is its
+    /// number of plays. `Already` exactly where it has left, and then nothing changes.
     pub fn leave(&mut self, c: u8) -> Leaving
         requires { c < length self.old }
         ensures answer { result ≡ leave_answer (column_of self.old c) }
         ensures after { self.new ≡ slice_set self.old c (left_column (column_of self.old c)) }
+        ensures grows { Grows self.old self.new }
     {
         self.held[c as usize].leave()
     }
@@ -109,6 +118,7 @@ impl Columns {
     /// it; else `Over` where no client has a play at `n`.
     pub fn ready(&self, n: u32) -> Ready
         ensures value { result ≡ ready_at self.now n }
+        ensures tells { TellsReady self.now n result }
         ensures limit { result ≡ Ready.Yes → n < MAX_FRAMES }
     {
         let mut played = false;
@@ -121,7 +131,8 @@ impl Columns {
         if played { Ready::Yes } else { Ready::Over }
     }
 
-    /// The agreed frame `n`: the play of each client that has one there, and a Leave for each that left.
+    /// The agreed frame `n`, only where it is ready: the play of each client that has one there, and a Leave for each
+    /// that left.
     pub fn frame(&self, n: u32) -> Frame
         requires { ready_at self.now n ≡ Ready.Yes }
         ensures { result ≡ frame_at self.now n }
@@ -133,7 +144,8 @@ impl Columns {
         frame
     }
 
-    /// Exchanges column `c` with column `d` of the other columns. All other columns stay.
+    /// Exchanges column `c` with column `d` of the other columns, each below the number of clients there. All other
+    /// columns stay.
     pub fn swap_column(&mut self, c: u8, other: &mut Columns, d: u8)
         requires mine { c < length self.old }
         requires theirs { d < length other.old }

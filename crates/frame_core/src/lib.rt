@@ -2,12 +2,11 @@
 //!
 //! The server has one column of entries for each client: the client's plays, frame by frame, then perhaps its
 //! departure. A frame is ready once each client has a play at it or has left at or before it. [`Columns`] keeps
-//! the columns; [`Sim`] is any world that is stepped by such frames, and [`Maker`] makes its opening. The agreed
-//! world after `n` frames is the fold of the world's step over the frames 0 to `n - 1` (`specs/World.antt`), and a
-//! column that grows changes no frame that was ready (`specs/Grows.antt`).
+//! the columns; [`Sim`] is any world that is stepped by such frames ([`Tally`] the least), and [`Maker`] makes its
+//! opening. The agreed world after `n` frames is the fold of the world's step over the frames 0 to `n - 1`
+//! (`specs/World.antt`), and a column that grows changes no frame that was ready (`specs/Grows.antt`).
 #![tactic(auto)]
 
-mod cash_list;
 mod column;
 mod columns;
 mod leaving;
@@ -16,9 +15,9 @@ mod put;
 mod ready;
 mod sim;
 mod summary;
+mod tally;
 mod tick_answer;
 
-pub use cash_list::CashList;
 pub use columns::Columns;
 pub use leaving::Leaving;
 pub use maker::Maker;
@@ -26,4 +25,5 @@ pub use put::Put;
 pub use ready::Ready;
 pub use sim::{MAX_STEPS, Sim};
 pub use summary::Summary;
+pub use tally::Tally;
 pub use tick_answer::TickAnswer;

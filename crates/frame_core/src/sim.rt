@@ -33,7 +33,8 @@ pub trait Sim: Drop {
         ensures least { 1 ≤ result }
         ensures most { result ≤ MAX_CLIENTS };
 
-    /// Steps the world by a frame with one entry for each client. It refuses nothing.
+    /// Steps the world by a frame with one entry for each client, after fewer than [`MAX_STEPS`] steps so far. It
+    /// refuses nothing.
     fn step(&mut self, f: &Frame)
         requires whole { length f.now ≡ clients_of self.old }
         requires more { steps self.old < MAX_STEPS }

@@ -1,4 +1,4 @@
-use crate::cash_list::CashList;
+use game_orders::PerClient;
 
 /// What a report says of a world beside its hash.
 #[derive(Debug, Drop)]
@@ -6,5 +6,5 @@ pub struct Summary {
     /// The number of actors.
     pub actors: u32,
     /// The cash of each client, by rising number.
-    pub cash: CashList,
+    pub cash: PerClient<u32>,
 }

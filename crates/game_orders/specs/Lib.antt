@@ -1,3 +1,2 @@
-pub mod Decided
 pub mod Order
 pub mod Entry

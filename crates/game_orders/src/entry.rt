@@ -37,11 +37,11 @@ impl Entry {
 
 impl PartialEq for Entry {
     ghost use Rattle.game_orders.specs.Entry.{same_entry, entry_decides};
-    ghost use Rattle.game_orders.specs.Decided.{decided_per};
+    ghost use Rattle.std.specs.Cmp.{decided, partial_equiv_from_equiv};
 
     ghost eq = { same_entry };
 
-    ghost laws = { decided_per same_entry entry_decides };
+    ghost laws = { partial_equiv_from_equiv (decided same_entry entry_decides) };
 
     fn eq(&self, other: &Entry) -> bool {
         match (self, other) {
@@ -54,9 +54,9 @@ impl PartialEq for Entry {
 
 impl Eq for Entry {
     ghost use Rattle.game_orders.specs.Entry.{same_entry, entry_decides};
-    ghost use Rattle.game_orders.specs.Decided.{decided_equiv};
+    ghost use Rattle.std.specs.Cmp.{decided};
 
-    ghost laws = { decided_equiv same_entry entry_decides };
+    ghost laws = { decided same_entry entry_decides };
 }
 
 /// The departure, which fills the unused room of a frame.

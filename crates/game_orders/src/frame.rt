@@ -1,8 +1,8 @@
-ghost use Rattle.std.specs.Prelude.{◌≡◌, ◌+◌, ◌<◌, ◌≤◌, ◌↔◌, [], ◌∷◌, ◌++◌, length, IsTrue, slice_get};
+ghost use Rattle.std.specs.Prelude.{◌≡◌, ◌+◌, ◌<◌, ◌≤◌, ◌↔◌, [], ◌∷◌, ◌++◌, length, IsTrue, IfNone, slice_get};
 ghost use Rattle.std.specs.Option.{option_copied};
 
 use crate::entry::Entry;
-use crate::limits::{FRAME_ROOM, MAX_CLIENTS};
+use crate::limits::{MAX_CLIENTS, PER_CLIENT_ROOM};
 use arrayvec::ArrayVec;
 use std::marker::Model;
 
@@ -10,7 +10,7 @@ use std::marker::Model;
 /// In it a Leave says that the client has departed, at this frame or before it.
 #[derive(Debug, Drop)]
 pub struct Frame {
-    held: ArrayVec<Entry, FRAME_ROOM>,
+    held: ArrayVec<Entry, PER_CLIENT_ROOM>,
 }
 
 impl Model for Frame {
@@ -35,7 +35,7 @@ impl Frame {
         }
     }
 
-    /// Adds the entry of the next client.
+    /// Adds the entry of the next client. There are fewer than [`MAX_CLIENTS`] entries before.
     pub fn push(&mut self, e: Entry)
         requires { length self.old < MAX_CLIENTS }
         ensures { self.new ≡ self.old ++ e ∷ [] }
@@ -61,7 +61,8 @@ impl Frame {
 
     /// The entry of client `i`. None exactly where `i` is the length or more.
     pub fn get(&self, i: usize) -> Option<&Entry>
-        ensures { option_copied result ≡ slice_get self.now i }
+        ensures value { option_copied result ≡ slice_get self.now i }
+        ensures past { IfNone result (length self.now ≤ i) }
     {
         self.held.as_slice().get(i)
     }

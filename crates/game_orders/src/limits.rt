@@ -7,8 +7,8 @@ pub const MAX_FRAMES: u32 = 65_536;
 /// The greatest number of orders of one client for one frame.
 pub const MAX_ORDERS: u8 = 16;
 
-/// The room of a [`crate::Frame`].
-pub(crate) const FRAME_ROOM: usize = MAX_CLIENTS as usize;
+/// The room of a list with one element for each client.
+pub(crate) const PER_CLIENT_ROOM: usize = MAX_CLIENTS as usize;
 
 /// The room of an [`crate::Orders`].
 pub(crate) const ORDERS_ROOM: usize = MAX_ORDERS as usize;

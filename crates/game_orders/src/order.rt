@@ -12,11 +12,11 @@ pub enum Order {
 
 impl PartialEq for Order {
     ghost use Rattle.game_orders.specs.Order.{same_order, order_decides};
-    ghost use Rattle.game_orders.specs.Decided.{decided_per};
+    ghost use Rattle.std.specs.Cmp.{decided, partial_equiv_from_equiv};
 
     ghost eq = { same_order };
 
-    ghost laws = { decided_per same_order order_decides };
+    ghost laws = { partial_equiv_from_equiv (decided same_order order_decides) };
 
     fn eq(&self, other: &Order) -> bool {
         match (self, other) {
@@ -33,9 +33,9 @@ impl PartialEq for Order {
 
 impl Eq for Order {
     ghost use Rattle.game_orders.specs.Order.{same_order, order_decides};
-    ghost use Rattle.game_orders.specs.Decided.{decided_equiv};
+    ghost use Rattle.std.specs.Cmp.{decided};
 
-    ghost laws = { decided_equiv same_order order_decides };
+    ghost laws = { decided same_order order_decides };
 }
 
 /// An order without effect, which fills the unused room of a list.

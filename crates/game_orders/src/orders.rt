@@ -1,4 +1,4 @@
-ghost use Rattle.std.specs.Prelude.{◌≡◌, ◌+◌, ◌<◌, ◌≤◌, ◌↔◌, [], ◌∷◌, ◌++◌, length, IsTrue, OnErr, slice_get};
+ghost use Rattle.std.specs.Prelude.{◌≡◌, ◌+◌, ◌<◌, ◌≤◌, ◌↔◌, [], ◌∷◌, ◌++◌, length, IsTrue, IfNone, slice_get};
 ghost use Rattle.std.specs.Option.{option_copied};
 ghost use Rattle.std.specs.Bool.{OnTrue, OnFalse};
 
@@ -67,7 +67,8 @@ impl Orders {
 
     /// The i-th order, from 0. None exactly where `i` is the length or more.
     pub fn get(&self, i: usize) -> Option<&Order>
-        ensures { option_copied result ≡ slice_get self.now i }
+        ensures value { option_copied result ≡ slice_get self.now i }
+        ensures past { IfNone result (length self.now ≤ i) }
     {
         self.held.as_slice().get(i)
     }
@@ -86,11 +87,11 @@ impl Orders {
 
 impl PartialEq for Orders {
     ghost use Rattle.game_orders.specs.Order.{same_orders, orders_decides};
-    ghost use Rattle.game_orders.specs.Decided.{decided_per};
+    ghost use Rattle.std.specs.Cmp.{decided, partial_equiv_from_equiv};
 
     ghost eq = { same_orders };
 
-    ghost laws = { decided_per same_orders orders_decides };
+    ghost laws = { partial_equiv_from_equiv (decided same_orders orders_decides) };
 
     fn eq(&self, other: &Orders) -> bool {
         self.held.as_slice() == other.held.as_slice()
@@ -99,15 +100,15 @@ impl PartialEq for Orders {
 
 impl Eq for Orders {
     ghost use Rattle.game_orders.specs.Order.{same_orders, orders_decides};
-    ghost use Rattle.game_orders.specs.Decided.{decided_equiv};
+    ghost use Rattle.std.specs.Cmp.{decided};
 
-    ghost laws = { decided_equiv same_orders orders_decides };
+    ghost laws = { decided same_orders orders_decides };
 }
 
 #[cfg(test)]
 mod tests {
     use super::*;
-    use crate::{Entry, Frame};
+    use crate::{Entry, Frame, PerClient};
     use std::process::Abort;
 
     fn orders_of(rt: &impl Abort, amounts: &[u32]) -> Orders {
@@ -153,5 +154,16 @@ mod tests {
         );
         assert!(rt; frame.get(1).is_some_and(|e| e.copy() == Entry::Leave));
         assert!(rt; frame.get(2).is_none());
+    }
+
+    #[test]
+    fn one_value_for_each_client(rt: HostRuntime) {
+        let mut cash = PerClient::create(3, 1_000);
+        cash.set(1, 400);
+        assert_eq!(rt; cash.as_slice(), [1_000, 400, 1_000].as_slice());
+        assert_eq!(rt; (cash.get(1), cash.get(2), cash.clients()), (400, 1_000, 3));
+        let mut gone = PerClient::create(2, false);
+        gone.set(0, true);
+        assert_eq!(rt; gone.copy().as_slice(), [true, false].as_slice());
     }
 }
