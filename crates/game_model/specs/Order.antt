@@ -1,5 +1,5 @@
 -- What an order does to a world. An order that does not fit has no effect.
-use Rattle.std.specs.Prelude.{ℕ, ◌+◌, ◌-◌, ◌==◌, nat_lt, nat_le, Bool, not, ◌&&◌, if◌then◌else◌, List, [], ◌∷◌, length, slice_index, slice_set}
+use Rattle.std.specs.Prelude.{ℕ, ◌+◌, ◌-◌, ◌==◌, nat_lt, nat_le, Bool, not, ◌&&◌, if◌then◌else◌, List, fold, length, slice_index, slice_set}
 use Rattle.game_orders.specs.declared.order.Order.{Order}
 use Rattle.game_orders.specs.declared.order.Order.TheVariants.{Donate}
 use Rattle.game_model.specs.declared.world.World.{World}
@@ -30,5 +30,4 @@ ordered w client (Donate to amount) = if donation_fits w client to amount then d
 
 -- The world after the orders of a client, first to last.
 abbrev pub all_ordered : World → ℕ → List Order → World
-all_ordered w client [] = w
-all_ordered w client (order ∷ orders) = all_ordered (ordered w client order) client orders
+all_ordered w client orders = fold (λ world order. ordered world client order) w orders

@@ -4,7 +4,7 @@ use Rattle.game_model.specs.declared.world.World.{World}
 use Rattle.game_model.specs.declared.limits.TheConstants.{BARE_CASH}
 use Rattle.game_orders.specs.declared.limits.TheConstants.{MAX_CLIENTS}
 
--- The opening world on the bare map: nothing has happened, nobody has departed, and each client has the map's cash.
+-- The opening world: nothing has happened, nobody has departed, and each client begins with `BARE_CASH`.
 abbrev pub start_of : ℕ → ℕ → World
 start_of seed clients =
     record {
@@ -19,6 +19,10 @@ start_of seed clients =
 -- The number of clients of a world.
 abbrev pub clients_of : World → ℕ
 clients_of w = length w.cash
+
+-- The number of actors of a world: there are none.
+abbrev pub actors_of : World → ℕ
+actors_of w = 0
 
 -- A match has 1 to `MAX_CLIENTS` clients, and a world has one cash and one departure flag for each of them.
 pub record HasClients (w : World) : Type 0 where

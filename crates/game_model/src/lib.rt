@@ -3,19 +3,17 @@
 //! [`World`] is a record of numbers and lists, with a cash and a departure flag for each client of the match. The
 //! code that ticks a world stands above; here are the definitions that it is proved against: the opening world
 //! and the clients that a world has (`specs/World.antt`), the effect of an order (`specs/Order.antt`) and the tick
-//! (`specs/Tick.antt`), with the facts of a match that no tick changes (`specs/Keeps.antt`). No call of this crate
+//! (`specs/Tick.antt`), with what orders and ticks leave as it was (`specs/Keeps.antt`). No call of this crate
 //! takes memory.
 #![tactic(auto)]
 
-mod gone;
+mod law;
 mod limits;
-mod purse;
 mod world;
 
-pub use gone::Gone;
+pub use law::{orders_keep, ticks_keep};
 pub use limits::{BARE_CASH, MAX_CASH};
-pub use purse::Purse;
-pub use world::World;
+pub use world::{Gone, Purse, World};
 
 #[cfg(test)]
 mod tests {
@@ -29,7 +27,7 @@ mod tests {
             drawn: 7,
             next_id: 11,
             cash: Purse::create(2, BARE_CASH),
-            gone: Gone::create(2),
+            gone: Gone::create(2, false),
         };
         world.cash.set(1, 400);
         world.gone.set(0, true);

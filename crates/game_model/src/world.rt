@@ -1,12 +1,17 @@
 ghost use Rattle.std.specs.Prelude.{◌≡◌};
 
-use crate::gone::Gone;
-use crate::purse::Purse;
+use game_orders::PerClient;
+
+/// The cash of each client of a match, by rising number.
+pub type Purse = PerClient<u32>;
+
+/// Whether each client of a match has departed, by rising number.
+pub type Gone = PerClient<bool>;
 
 /// All that a match has brought about so far.
 #[derive(Debug, Drop)]
 pub struct World {
-    /// The number of ticks so far.
+    /// The number of ticks so far, at most 4,294,967,295.
     pub tick: u32,
     /// The seed of the match's random words.
     pub seed: u32,
@@ -14,7 +19,7 @@ pub struct World {
     pub drawn: u64,
     /// The id that the next new actor gets. Ids begin at 1.
     pub next_id: u32,
-    /// The cash of each client, by rising number.
+    /// The cash of each client, by rising number. By gifts it is at most [`crate::MAX_CASH`], 2,000,000,000.
     pub cash: Purse,
     /// Whether each client has departed, by rising number.
     pub gone: Gone,

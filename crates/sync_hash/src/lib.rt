@@ -1,4 +1,4 @@
-//! Hashes by which the clients of a match see that their worlds are the same.
+//! Hashes by which worlds are compared.
 //!
 //! [`fnv`] is FNV-1a of 64 bits over any bytes (`specs/Fnv.antt`). [`world_hash`] is that number of a world's header
 //! bytes, in which every part of the world stands in one fixed order with one fixed width (`specs/WorldHash.antt`):
@@ -17,8 +17,10 @@
 
 mod fnv_state;
 mod header;
+mod law;
 #[cfg(test)]
 mod tests;
 
 pub use fnv_state::fnv;
 pub use header::world_hash;
+pub use law::{bytes_tell_the_world, world_fits};

@@ -25,7 +25,7 @@ fn world_of_one(tick: u32) -> World
         drawn: 0,
         next_id: 1,
         cash: Purse::create(1, 1_000),
-        gone: Gone::create(1),
+        gone: Gone::create(1, false),
     }
 }
 
@@ -34,7 +34,7 @@ fn world_of_two(tick: u32, first: u32, second: u32, second_gone: bool) -> World
 {
     let mut cash = Purse::create(2, first);
     cash.set(1, second);
-    let mut gone = Gone::create(2);
+    let mut gone = Gone::create(2, false);
     gone.set(1, second_gone);
     World {
         tick,

@@ -1,8 +1,8 @@
 -- How a tick goes on from one client of a frame to the next, and from one order to the next.
-use Rattle.std.proofs.Common.{◌≡◌, ℕ, zero, suc, ◌+◌, ◌≤◌, Bool, true, List, [], ◌∷◌, length, drop, take, refl, ap, sym, ◌∙◌, add-one, arith}
+use Rattle.std.proofs.Common.{◌≡◌, ℕ, zero, suc, ◌+◌, Bool, true, List, [], ◌∷◌, length, drop, take, refl, ap, sym, ◌∙◌, add-one, arith}
 use Rattle.std.proofs.Math.ListN.{set}
 use Rattle.std.proofs.lemmas.List.{length-set}
-use Rattle.std.specs.Prelude.{Some, None, slice_get}
+use Rattle.std.specs.Prelude.{Some, slice_get}
 use Rattle.game_orders.specs.declared.order.Order.{Order}
 use Rattle.game_orders.specs.declared.entry.Entry.{Entry}
 use Rattle.game_orders.specs.declared.entry.Entry.TheVariants.{Play, Leave}
@@ -17,34 +17,17 @@ drop_at [] n x at = absurd cc
 drop_at (y ∷ xs) zero x at = let same : y ≡ x = cc in ap (λ z. z ∷ xs) same
 drop_at (y ∷ xs) (suc n) x at = drop_at xs n x at
 
--- Behind the last element nothing is left.
-drop_past : {A : Type 0} (xs : List A) (n : ℕ) → length xs ≤ n → drop n xs ≡ []
-drop_past [] zero past = refl
-drop_past [] (suc n) past = refl
-drop_past (x ∷ xs) zero past = absurd (omega arith)
-drop_past (x ∷ xs) (suc n) past = drop_past xs n (omega arith)
-
 -- The next order is applied, and the rest after it.
 pub order_next :
     (w : World) (client i : ℕ) (orders : List Order) (order : Order) → slice_get orders i ≡ Some order →
     all_ordered (ordered w client order) client (drop (i + 1) orders) ≡ all_ordered w client (drop i orders)
 order_next w client i orders order at = rw (add-one, drop_at orders i order at) refl
 
--- Behind the last order nothing is left to apply.
-pub orders_end :
-    (w : World) (client i : ℕ) (orders : List Order) → length orders ≤ i → all_ordered w client (drop i orders) ≡ w
-orders_end w client i orders past = ap (all_ordered w client) (drop_past orders i past)
-
 -- The entry of the next client is applied, and those of the clients after it.
 pub entry_next :
     (w : World) (c : ℕ) (frame : List Entry) (entry : Entry) → slice_get frame c ≡ Some entry →
     entered_from (c + 1) (entered w c entry) (drop (c + 1) frame) ≡ entered_from c w (drop c frame)
 entry_next w c frame entry at = rw (drop_at frame c entry at) (ap (λ n. entered_from (c + 1) (entered w c entry) (drop n frame)) (add-one c))
-
--- Behind the last client nothing is left to apply.
-pub entries_end :
-    (w : World) (c : ℕ) (frame : List Entry) → length frame ≤ c → entered_from c w (drop c frame) ≡ w
-entries_end w c frame past = ap (entered_from c w) (drop_past frame c past)
 
 -- A frame without entries changes no flag.
 pub gone_after-nil : (flags : List Bool) → gone_after flags [] ≡ flags
@@ -88,9 +71,3 @@ departed_next flags frame c Leave same at = rw add-one (leave_next flags frame c
 pub length-departed_by : (flags : List Bool) (c : ℕ) (entry : Entry) → length (departed_by flags c entry) ≡ length flags
 length-departed_by flags c (Play orders) = refl
 length-departed_by flags c Leave = length-set flags c true
-
--- Where there is no element, the list has ended.
-pub none_past : {A : Type 0} (xs : List A) (n : ℕ) → slice_get xs n ≡ None → length xs ≤ n
-none_past [] n at = omega arith
-none_past (x ∷ xs) zero at = absurd cc
-none_past (x ∷ xs) (suc n) at = let more : length xs ≤ n = none_past xs n at in omega arith

@@ -3,9 +3,9 @@ use Rattle.std.specs.Prelude.{ℕ, ◌+◌, List}
 use Rattle.game_orders.specs.declared.entry.Entry.{Entry}
 use Rattle.frame_core.specs.declared.summary.Summary.{Summary}
 use Rattle.game_model.specs.declared.world.World.{World}
-use Rattle.game_model.specs.World.{start_of, clients_of}
+use Rattle.game_model.specs.World.{start_of, clients_of, actors_of}
 use Rattle.game_model.specs.Tick.{tick_of}
-use Rattle.sync_hash.specs.WorldHash.{hash_of, actors_of}
+use Rattle.sync_hash.specs.WorldHash.{hash_of}
 
 -- A world, and the number of frames that it has been stepped by.
 pub record GameState : Type 0 where

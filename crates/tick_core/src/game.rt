@@ -1,10 +1,12 @@
-ghost use Rattle.std.specs.Prelude.{◌≡◌, ◌≤◌, ◌<◌, ◌++◌, [], length, IfOk};
+ghost use Rattle.std.specs.Prelude.{◌≡◌, ◌+◌, ◌≤◌, ◌<◌, ◌++◌, [], length, IfOk};
 ghost use Rattle.game_model.specs.World.{HasClients};
-ghost use Rattle.tick_core.specs.Game.{game_start};
+ghost use Rattle.game_model.specs.Keeps.{TickKeeps};
+ghost use Rattle.frame_core.specs.declared.sim.TheConstants.{MAX_STEPS};
+ghost use Rattle.tick_core.specs.Game.{game_start, game_after, game_clients, game_steps};
 
 use crate::tick::tick_world;
 use base::NoMemory;
-use frame_core::{CashList, Sim, Summary};
+use frame_core::{Sim, Summary};
 use game_model::{BARE_CASH, Gone, Purse, World};
 use game_orders::{Frame, MAX_CLIENTS};
 use std::alloc::Global;
@@ -31,8 +33,8 @@ impl Model for Game {
 }
 
 impl Game {
-    /// The opening game of a match on the bare map: tick 0, nothing drawn, [`BARE_CASH`] for each client and nobody
-    /// departed.
+    /// The opening game of a match of any seed and 1 to `MAX_CLIENTS` clients: tick 0, nothing drawn, nobody departed,
+    /// and each client begins with [`BARE_CASH`]. Want of memory is its only error.
     pub fn create(_alloc: Global, seed: u32, clients: u8) -> Result<Game, NoMemory>
         requires least { 1 ≤ clients }
         requires most { clients ≤ MAX_CLIENTS }
@@ -45,13 +47,13 @@ impl Game {
                 drawn: 0,
                 next_id: 1,
                 cash: Purse::create(clients, BARE_CASH),
-                gone: Gone::create(clients),
+                gone: Gone::create(clients, false),
             },
             steps: 0,
         })
     }
 
-    /// The world as it is now.
+    /// The world as it is now. Want of memory is its only error.
     pub fn snapshot(&self, _alloc: Global) -> Result<World, NoMemory>
         ensures world { IfOk result (λ world. world ≡ self.now.world) }
         ensures clients { IfOk result (λ world. HasClients world) }
@@ -77,7 +79,16 @@ impl Sim for Game {
         self.world.cash.clients()
     }
 
-    fn step(&mut self, f: &Frame) {
+    /// Ticks the world by a frame with one entry for each client, after fewer than `MAX_STEPS` steps so far. It counts
+    /// one more tick, and who departs in the frame has departed. Today's orders only move cash: its sum stays.
+    fn step(&mut self, f: &Frame)
+        requires whole { length f.now ≡ game_clients self.old }
+        requires more { game_steps self.old < MAX_STEPS }
+        ensures world { self.new ≡ game_after self.old f.now }
+        ensures clients { game_clients self.new ≡ game_clients self.old }
+        ensures counted { game_steps self.new ≡ game_steps self.old + 1 }
+        ensures keeps { TickKeeps self.old.world f.now self.new.world }
+    {
         tick_world(&mut self.world, f);
         self.steps += 1;
     }
@@ -89,20 +100,9 @@ impl Sim for Game {
     fn summary(&self) -> Summary {
         Summary {
             actors: 0,
-            cash: cash_list(&self.world.cash),
+            cash: self.world.cash.copy(),
         }
     }
-}
-
-/// The cash of each client, for a summary.
-fn cash_list(purse: &Purse) -> CashList
-    ensures { result ≡ purse.now }
-{
-    let mut list = CashList::empty();
-    for cash in purse.as_slice() {
-        list.push(*cash);
-    }
-    list
 }
 
 #[cfg(test)]

@@ -3,7 +3,7 @@ use base::NoMemory;
 use frame_core::Maker;
 use std::alloc::Global;
 
-/// Makes the opening games of matches on the bare map.
+/// Makes the opening games of matches.
 #[derive(Clone, Copy, Debug)]
 pub struct GameMaker;
 

@@ -2,7 +2,6 @@ ghost use Rattle.std.specs.Prelude.{◌≡◌, ◌<◌, ◌≤◌, ◌+◌, slic
 ghost use Rattle.std.specs.Bool.{OnTrue};
 ghost use Rattle.game_model.specs.World.{HasClients, clients_of};
 ghost use Rattle.game_model.specs.Order.{can_receive, donation_fits, ordered, all_ordered};
-ghost use Rattle.game_model.specs.Keeps.{SameMatch};
 ghost use Rattle.game_orders.specs.declared.order.Order.TheVariants.{Donate};
 
 use game_model::{MAX_CASH, World};
@@ -12,8 +11,7 @@ use game_orders::{Order, Orders};
 pub(crate) fn apply_orders(w: &mut World, client: u8, orders: &Orders)
     requires has { HasClients w.old }
     requires there { client < clients_of w.old }
-    ensures world { w.new ≡ all_ordered w.old client orders.now }
-    ensures same { SameMatch w.old w.new }
+    ensures { w.new ≡ all_ordered w.old client orders.now }
 {
     for i in 0..orders.len() {
         if let Some(order) = orders.get(i) {
@@ -26,8 +24,7 @@ pub(crate) fn apply_orders(w: &mut World, client: u8, orders: &Orders)
 fn apply_order(w: &mut World, client: u8, order: &Order)
     requires has { HasClients w.old }
     requires there { client < clients_of w.old }
-    ensures world { w.new ≡ ordered w.old client order.now }
-    ensures same { SameMatch w.old w.new }
+    ensures { w.new ≡ ordered w.old client order.now }
 {
     match order {
         Order::Donate { to, amount } => donate(w, client, *to, *amount),
@@ -38,8 +35,7 @@ fn apply_order(w: &mut World, client: u8, order: &Order)
 fn donate(w: &mut World, client: u8, to: u8, amount: u32)
     requires has { HasClients w.old }
     requires there { client < clients_of w.old }
-    ensures world { w.new ≡ ordered w.old client (Donate to amount) }
-    ensures same { SameMatch w.old w.new }
+    ensures { w.new ≡ ordered w.old client (Donate to amount) }
 {
     if donation_fits(w, client, to, amount) {
         let left = w.cash.get(client) - amount;

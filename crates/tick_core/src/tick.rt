@@ -1,7 +1,7 @@
 ghost use Rattle.std.specs.Prelude.{◌≡◌, ◌<◌, length};
 ghost use Rattle.game_model.specs.World.{HasClients, clients_of};
 ghost use Rattle.game_model.specs.Tick.{entered, with_orders, tick_of};
-ghost use Rattle.game_model.specs.Keeps.{SameMatch};
+ghost use Rattle.game_model.specs.Keeps.{OrdersKeep, TickKeeps};
 ghost use Rattle.frame_core.specs.declared.sim.TheConstants.{MAX_STEPS};
 
 use crate::departures::apply_departures;
@@ -10,11 +10,13 @@ use game_model::World;
 use game_orders::{Entry, Frame};
 
 /// Ticks a world by a frame: departures, then the orders of the plays by rising client, then the count.
+#[tactic(auto, using(game_model::specs::Keeps::tick_keeps))]
 pub(crate) fn tick_world(w: &mut World, f: &Frame)
     requires has { HasClients w.old }
     requires whole { length f.now ≡ clients_of w.old }
     requires more { w.old.tick < MAX_STEPS }
-    ensures { w.new ≡ tick_of w.old f.now }
+    ensures world { w.new ≡ tick_of w.old f.now }
+    ensures keeps { TickKeeps w.old f.now w.new }
 {
     apply_departures(&mut w.gone, f);
     apply_plays(w, f);
@@ -26,7 +28,7 @@ fn apply_plays(w: &mut World, f: &Frame)
     requires has { HasClients w.old }
     requires whole { length f.now ≡ clients_of w.old }
     ensures world { w.new ≡ with_orders w.old f.now }
-    ensures same { SameMatch w.old w.new }
+    ensures keeps { OrdersKeep w.old w.new }
 {
     for c in 0..w.cash.clients() {
         if let Some(entry) = f.get(usize::from(c)) {
@@ -39,8 +41,7 @@ fn apply_plays(w: &mut World, f: &Frame)
 fn apply_entry(w: &mut World, client: u8, entry: &Entry)
     requires has { HasClients w.old }
     requires there { client < clients_of w.old }
-    ensures world { w.new ≡ entered w.old client entry.now }
-    ensures same { SameMatch w.old w.new }
+    ensures { w.new ≡ entered w.old client entry.now }
 {
     match entry {
         Entry::Play(orders) => apply_orders(w, client, orders),

@@ -45,7 +45,7 @@ fn game_of_two(cash: u32) -> Game
             drawn: 0,
             next_id: 1,
             cash: Purse::create(2, cash),
-            gone: Gone::create(2),
+            gone: Gone::create(2, false),
         },
         steps: 0,
     }

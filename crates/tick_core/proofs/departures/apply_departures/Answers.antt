@@ -1,6 +1,6 @@
 use Rattle.std.proofs.Common.{◌≤◌, length, sym, ◌∙◌, ap, arith, refl}
 use Rattle.tick_core.specs.Departures.{departed_by}
-use Rattle.tick_core.proofs.TickLemmas.{gone_after-nil, departed_next, length-departed_by, none_past}
+use Rattle.tick_core.proofs.TickLemmas.{gone_after-nil, departed_next, length-departed_by}
 use Rattle.tick_core.proofs.departures.apply_departures.Goals as goal
 use Rattle.tick_core.proofs.departures.apply_departures.Goals.{in-Some, in_default}
 
@@ -16,11 +16,11 @@ loop-c-preserved c =
           (record {
             flags =
                 ap (λ flags. departed_by flags c.loop-c.c w.in-Some.entry.now) c.loop-c.invariant.flags
-                ∙ departed_next c.args.gone.now c.args.f.now c.loop-c.c _ c.requires (sym (rw c.from.ensures at w.in-Some.ensures));
+                ∙ departed_next c.args.gone.now c.args.f.now c.loop-c.c _ c.requires (sym (rw c.from.ensures at w.in-Some.ensures.value));
             clients = length-departed_by c.loop-c.gone c.loop-c.c _ ∙ c.loop-c.invariant.clients;
           })
       | in_default w ↦
           let past : length c.args.f.now ≤ c.loop-c.c =
-          none_past c.args.f.now c.loop-c.c (sym (rw c.from.ensures at w.in_default.ensures)) in
+          rw c.from.ensures at w.in_default.ensures.past in
           absurd (omega arith)
     ]

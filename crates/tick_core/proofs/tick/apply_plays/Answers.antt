@@ -1,6 +1,6 @@
 use Rattle.std.proofs.Common.{◌≤◌, length, sym, ◌∙◌, arith}
-use Rattle.game_model.specs.Keeps.{then_same}
-use Rattle.tick_core.proofs.TickLemmas.{entry_next, none_past}
+use Rattle.game_model.specs.Keeps.{then_keep, entered_keeps}
+use Rattle.tick_core.proofs.TickLemmas.{entry_next}
 use Rattle.tick_core.proofs.tick.apply_plays.Goals as goal
 use Rattle.tick_core.proofs.tick.apply_plays.Goals.{in-Some, in_default}
 
@@ -8,12 +8,12 @@ use Rattle.tick_core.proofs.tick.apply_plays.Goals.{in-Some, in_default}
 pub loop-c-preserved : goal.loop-c-preserved
 loop-c-preserved c =
     elim c.match-get.branch [
-      | in-Some w ↦ rw (w.w-is, w.apply_entry.ensures.world)
+      | in-Some w ↦ rw (w.w-is, w.apply_entry.ensures)
           (record {
-            rest = entry_next c.loop-c.w c.loop-c.c c.args.f.now _ (sym (rw c.from.ensures at w.in-Some.ensures)) ∙ c.loop-c.invariant.rest;
-            same = then_same _ _ _ c.loop-c.invariant.same (rw w.apply_entry.ensures.world at w.apply_entry.ensures.same);
+            rest = entry_next c.loop-c.w c.loop-c.c c.args.f.now _ (sym (rw c.from.ensures at w.in-Some.ensures.value)) ∙ c.loop-c.invariant.rest;
+            keeps = then_keep _ _ _ c.loop-c.invariant.keeps (entered_keeps c.loop-c.w c.loop-c.c w.in-Some.entry.now);
           })
       | in_default w ↦
-          let past : length c.args.f.now ≤ c.loop-c.c = none_past c.args.f.now c.loop-c.c (sym (rw c.from.ensures at w.in_default.ensures)) in
+          let past : length c.args.f.now ≤ c.loop-c.c = rw c.from.ensures at w.in_default.ensures.past in
           absurd (omega arith)
     ]
