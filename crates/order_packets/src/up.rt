@@ -7,23 +7,23 @@ use game_orders::Orders;
 pub enum Up {
     /// The client's greeting.
     Hello {
-        /// The version of the packets that it speaks.
+        /// The version of the packets that it speaks, any `u16`.
         version: u16,
-        /// The hash of its rules.
+        /// The hash of its rules, any `u64`.
         rules: u64,
     },
     /// The client's play for a frame.
     Orders {
-        /// The frame.
+        /// The frame, any `u32`.
         frame: u32,
         /// Its orders, perhaps none.
         orders: Orders,
     },
     /// A report of the client's world.
     Sync {
-        /// The last frame that it ticked.
+        /// The last frame that it ticked, as it says: any `u32`.
         frame: u32,
-        /// The hash of its world after that frame.
+        /// The hash of its world after that frame, as it says: any `u64`.
         hash: u64,
     },
     /// The client leaves the match.
@@ -55,11 +55,11 @@ impl Up {
 
 impl PartialEq for Up {
     ghost use Rattle.order_packets.specs.Packet.{same_up, up_decides};
-    ghost use Rattle.game_orders.specs.Decided.{decided_per};
+    ghost use Rattle.std.specs.Cmp.{decided, partial_equiv_from_equiv};
 
     ghost eq = { same_up };
 
-    ghost laws = { decided_per same_up up_decides };
+    ghost laws = { partial_equiv_from_equiv (decided same_up up_decides) };
 
     fn eq(&self, other: &Up) -> bool {
         match (self, other) {
@@ -92,7 +92,7 @@ impl PartialEq for Up {
 
 impl Eq for Up {
     ghost use Rattle.order_packets.specs.Packet.{same_up, up_decides};
-    ghost use Rattle.game_orders.specs.Decided.{decided_equiv};
+    ghost use Rattle.std.specs.Cmp.{decided};
 
-    ghost laws = { decided_equiv same_up up_decides };
+    ghost laws = { decided same_up up_decides };
 }

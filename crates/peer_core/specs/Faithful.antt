@@ -74,7 +74,8 @@ kept_agrees columns [] c n entry all kept = absurd cc
 kept_agrees columns (t ∷ ts) c n entry all kept =
     kept_stands columns t ts c n entry (is_of c n t) refl all.0 (kept_agrees columns ts c n entry all.1) kept
 
-leave_of : (entry : Entry) → not (is_play entry) ≡ true → entry ≡ Leave
+-- What is no play is a departure.
+pub leave_of : (entry : Entry) → not (is_play entry) ≡ true → entry ≡ Leave
 leave_of (Play orders) leaves = absurd cc
 leave_of Leave leaves = refl
 

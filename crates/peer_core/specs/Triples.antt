@@ -1,6 +1,6 @@
 -- The entries that reached a peer, each with its client and its frame, by rising client and then by rising frame.
-use Rattle.std.specs.Prelude.{ℕ, zero, suc, ◌+◌, ◌==◌, ◌&&◌, ◌||◌, nat_lt, min, not, Bool, true, false, if◌then◌else◌, List, [], ◌∷◌, Option, Some, None}
-use Rattle.std.specs.List.{find, list_any}
+use Rattle.std.specs.Prelude.{◌≡◌, ◌≢◌, ◌⊎◌, ℕ, zero, suc, ◌+◌, ◌==◌, ◌&&◌, ◌||◌, nat_lt, min, not, Bool, true, false, if◌then◌else◌, List, [], ◌∷◌, Option, Some, None}
+use Rattle.std.specs.List.{AllByRecursion, find, list_any}
 use Rattle.std.specs.Option.{option_map, option_or}
 use Rattle.game_orders.specs.declared.entry.Entry.{Entry}
 use Rattle.game_orders.specs.declared.entry.Entry.TheVariants.{Leave}
@@ -120,3 +120,21 @@ has_left ts c = list_any (is_departure_of c) ts
 -- A play stands within the frames of a match, a departure at most behind the last one.
 abbrev pub is_within : Triple → Bool
 is_within t = not (is_beyond t.frame t.entry)
+
+-- By rising client, and for one client by rising frame: each triple stands before all that follow. So no client has two
+-- entries at one frame.
+abbrev pub IsRising : List Triple → Type 0
+IsRising [] = Unit
+IsRising (t ∷ ts) = AllByRecursion (λ u. stands_before t u ≡ true) ts × IsRising ts
+
+-- Behind the departure of a client nothing of it is kept.
+abbrev pub IsEnded : List Triple → Type 0
+IsEnded ts = (c n : ℕ) → kept_at ts c n ≡ Some Leave → kept_after ts c n ≡ None
+
+-- After a delivery of an entry of client c at frame n each entry that was kept stays. The entry is kept where the answer
+-- is `Kept`; with any other answer nothing changes. For every other client or frame nothing changes.
+pub record KeepsEntries (olds news : List Triple) (c n : ℕ) (entry : Entry) : Type 0 where
+  pub stays : (d m : ℕ) (was : Entry) → kept_at olds d m ≡ Some was → kept_at news d m ≡ Some was
+  pub kept : delivery_of olds c n entry ≡ Kept → kept_at news c n ≡ Some entry
+  pub unchanged : delivery_of olds c n entry ≢ Kept → news ≡ olds
+  pub others : (d m : ℕ) → (d ≢ c) ⊎ (m ≢ n) → kept_at news d m ≡ kept_at olds d m

@@ -1,14 +1,15 @@
 ghost use Rattle.std.specs.Prelude.{◌≡◌, ◌+◌, ◌<◌, ◌≤◌, IfOk, OnOk, OnErr};
-ghost use Rattle.peer_core.specs.Triples.{delivery_of, ready_by};
+ghost use Rattle.peer_core.specs.Triples.{delivery_of, ready_by, IsRising, IsEnded, KeepsEntries};
+ghost use Rattle.peer_core.specs.Answers.{TellsDelivery};
 ghost use Rattle.frame_core.specs.Tick.{tick_answer};
 ghost use Rattle.peer_core.specs.Peer.{fresh_peer, delivered_peer, seal_answer, sealed_peer, ticked_peer, report_of};
 
+use crate::client_entries::ClientEntries;
 use crate::delivered::Delivered;
 use crate::limits::MAX_LAG;
 use crate::report::Report;
 use crate::seal_fault::SealFault;
-use crate::triple::Triple;
-use crate::triples::{deliver_to, frame_from, left, readiness};
+use crate::triples::{deliver_to, frame_from, left, no_entries, readiness};
 use base::NoMemory;
 use frame_core::{Ready, Sim, TickAnswer};
 use game_orders::{Entry, MAX_CLIENTS, MAX_FRAMES};
@@ -21,25 +22,26 @@ pub struct Peer<S: Sim> {
     me: u8,
     clients: u8,
     lag: u8,
-    triples: Vec<Triple>,
+    entries: Vec<ClientEntries>,
     ticked: u32,
     sealed: u32,
     sim: S,
 }
 
 impl<S: Sim> Model for Peer<S> {
-    ghost use Rattle.std.specs.Prelude.{◌≡◌, ◌+◌, ◌<◌, ◌≤◌, true};
+    ghost use Rattle.std.specs.Prelude.{◌≡◌, ◌+◌, ◌<◌, ◌≤◌, true, length};
     ghost use Rattle.std.specs.List.{list_all};
     ghost use Rattle.game_orders.specs.declared.limits.TheConstants.{MAX_CLIENTS, MAX_FRAMES};
     ghost use Rattle.peer_core.specs.declared.limits.TheConstants.{MAX_LAG};
-    ghost use Rattle.peer_core.specs.Triples.{is_within};
+    ghost use Rattle.peer_core.specs.Triples.{is_within, IsRising, IsEnded};
+    ghost use Rattle.peer_core.specs.Entries.{all_triples};
     ghost use Rattle.peer_core.specs.Peer.{PeerState};
 
     ghost Value = { PeerState S };
 
-    ghost view = { λ p. record { me = p.me; clients = p.clients; lag = p.lag; triples = p.triples.items; ticked = p.ticked; sealed = p.sealed; world = p.sim } };
+    ghost view = { λ p. record { me = p.me; clients = p.clients; lag = p.lag; triples = all_triples 0 p.entries.items; ticked = p.ticked; sealed = p.sealed; world = p.sim } };
 
-    ghost invariant = { λ p. (S.clients_of p.sim ≡ p.clients) × (S.steps p.sim ≡ p.ticked) × (p.me < p.clients) × (p.clients ≤ MAX_CLIENTS) × (1 ≤ p.lag) × (p.lag ≤ MAX_LAG) × (p.ticked ≤ MAX_FRAMES) × (p.sealed ≤ MAX_FRAMES) × (p.sealed ≤ p.ticked + p.lag) × (list_all is_within p.triples.items ≡ true) };
+    ghost invariant = { λ p. (S.clients_of p.sim ≡ p.clients) × (S.steps p.sim ≡ p.ticked) × (p.me < p.clients) × (p.clients ≤ MAX_CLIENTS) × (1 ≤ p.lag) × (p.lag ≤ MAX_LAG) × (p.ticked ≤ MAX_FRAMES) × (p.sealed ≤ MAX_FRAMES) × (p.sealed ≤ p.ticked + p.lag) × (list_all is_within (all_triples 0 p.entries.items) ≡ true) × IsRising (all_triples 0 p.entries.items) × IsEnded (all_triples 0 p.entries.items) × (length p.entries.items ≡ p.clients) };
 }
 
 impl<S: Sim> Peer<S> {
@@ -58,7 +60,7 @@ impl<S: Sim> Peer<S> {
             me,
             clients,
             lag,
-            triples: Vec::new(alloc),
+            entries: no_entries(alloc, clients)?,
             ticked: 0,
             sealed: 0,
             sim,
@@ -123,13 +125,21 @@ impl<S: Sim> Peer<S> {
     /// 4. The departure of `c` is kept before `n`, or the entry is a departure and some entry of `c` is kept after
     ///    `n`: `Past` with the frame of the departure, or with the least such frame.
     /// 5. `Kept`: the entry is kept, also where frames before it are missing. No other case changes anything.
+    ///
+    /// After any answer what is kept stands by rising client and then by rising frame, no two entries of a client at
+    /// one frame, and nothing stands behind a client's departure. What was kept stays.
+    #[tactic(auto, using(crate::proofs::Rising::delivered_keeps))]
     pub fn deliver(&mut self, c: u8, n: u32, e: Entry) -> Result<Delivered, NoMemory>
         requires { c < self.old.clients }
         ensures answer { IfOk result (λ answer. answer ≡ delivery_of self.old.triples c n e) }
         ensures after { OnOk result (self.new ≡ delivered_peer self.old c n e) }
+        ensures tells { IfOk result (λ answer. TellsDelivery self.old.triples c n e answer) }
+        ensures keeps { OnOk result (KeepsEntries self.old.triples self.new.triples c n e) }
+        ensures rising { IsRising self.new.triples }
+        ensures ended { IsEnded self.new.triples }
         ensures err { OnErr result (self.new ≡ self.old) }
     {
-        deliver_to(&mut self.triples, c, n, e)
+        deliver_to(&mut self.entries, c, n, e)
     }
 
     /// Seals the peer's next frame, whose number is the count of sealed frames so far. Refused, in this order:
@@ -140,7 +150,7 @@ impl<S: Sim> Peer<S> {
         ensures answer { result ≡ seal_answer self.old.triples self.old.me self.old.lag self.old.ticked self.old.sealed }
         ensures after { self.new ≡ sealed_peer self.old }
     {
-        if left(&self.triples, self.me) {
+        if left(&self.entries, self.me) {
             return Err(SealFault::LeftAlready);
         }
         if self.sealed == MAX_FRAMES {
@@ -163,10 +173,10 @@ impl<S: Sim> Peer<S> {
         ensures after { self.new ≡ ticked_peer S.after self.old }
     {
         let frame = self.ticked;
-        match readiness(&self.triples, self.clients, frame) {
+        match readiness(&self.entries, self.clients, frame) {
             Ready::Yes => {
                 self.sim
-                    .step(&frame_from(&self.triples, self.clients, frame));
+                    .step(&frame_from(&self.entries, self.clients, frame));
                 self.ticked += 1;
                 TickAnswer::Ticked(frame)
             }
@@ -192,63 +202,13 @@ impl<S: Sim> Peer<S> {
 #[cfg(test)]
 mod tests {
     use super::*;
-    use frame_core::{CashList, Summary};
-    use game_orders::{Frame, Order, Orders};
+    use frame_core::Tally;
+    use game_orders::{Order, Orders};
     use std::process::Abort;
     use std::test::Fail;
 
-    /// A world of two clients that tells its steps, and whether client 0 played in the last one.
-    #[derive(Drop)]
-    struct Tally {
-        steps: u32,
-        played: bool,
-    }
-
-    impl Sim for Tally {
-        ghost use Rattle.std.specs.Prelude.{◌+◌, ◌*◌, [], ◌∷◌, slice_get, if◌then◌else◌, false};
-        ghost use Rattle.std.specs.Option.{option_map, unwrap_or};
-        ghost use Rattle.game_orders.specs.Entry.{is_play};
-
-        ghost clients_of = { λ w. 2 };
-
-        ghost steps = { λ w. w.steps };
-
-        ghost after = { λ w frame. record { steps = w.steps + 1; played = unwrap_or (option_map is_play (slice_get frame 0)) false } };
-
-        ghost hash_of = { λ w. w.steps * 2 + (if w.played then 1 else 0) };
-
-        ghost summary_of = { λ w. record { actors = 0; cash = 0 ∷ 0 ∷ [] } };
-
-        fn clients(&self) -> u8 {
-            2
-        }
-
-        fn step(&mut self, f: &Frame) {
-            self.steps += 1;
-            self.played = match f.get(0) {
-                Some(entry) => entry.is_play(),
-                None => false,
-            };
-        }
-
-        fn hash(&self) -> u64 {
-            u64::from(self.steps) * 2 + if self.played { 1 } else { 0 }
-        }
-
-        fn summary(&self) -> Summary {
-            let mut cash = CashList::empty();
-            cash.push(0);
-            cash.push(0);
-            Summary { actors: 0, cash }
-        }
-    }
-
     fn peer(rt: &HostRuntime) -> Result<Peer<Tally>, Fail> {
-        let sim = Tally {
-            steps: 0,
-            played: false,
-        };
-        Ok(Peer::create(rt.alloc(), 0, 2, 2, sim)?)
+        Ok(Peer::create(rt.alloc(), 0, 2, 2, Tally::new())?)
     }
 
     fn play() -> Entry {
@@ -322,7 +282,10 @@ mod tests {
             }
         }
         assert_eq!(rt; (peer.me(), peer.clients(), peer.lag()), (0, 2, 2));
-        assert_eq!(rt; (peer.ticked(), peer.sealed(), peer.sim().steps), (2, 3, 2));
+        assert_eq!(rt;
+            (peer.ticked(), peer.sealed(), peer.sim().step_count()),
+            (2, 3, 2)
+        );
         Ok(())
     }
 

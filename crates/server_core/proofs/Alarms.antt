@@ -1,10 +1,11 @@
 -- The search for an alarm, one frame at a time.
-use Rattle.std.proofs.Common.{◌≡◌, ℕ, ◌+◌, ◌≤◌, ◌<◌, ◌==◌, Bool, true, false, List, [], ◌∷◌, length, get_or, drop, refl, ap, ap₂, ◌∙◌, add-one, drop-cons, ◌⊎◌, inl, inr}
+use Rattle.std.proofs.Common.{◌≡◌, ℕ, zero, suc, eq-eqb, ◌+◌, ◌≤◌, ◌<◌, ◌==◌, Bool, true, false, List, [], ◌∷◌, length, get_or, drop, arith, refl, sym, ap, ap₂, subst, ◌∙◌, add-one, drop-cons, ◌⊎◌, inl, inr}
 use Rattle.std.specs.Prelude.{if◌then◌else◌, Option, Some, None, is_some}
 use Rattle.std.proofs.Math.ListN.{drop_of_length-le}
+use Rattle.std.proofs.lemmas.Bool.{eqb-true}
 use Rattle.std.proofs.lemmas.List.Elements.{at_read}
 use Rattle.server_core.specs.declared.alarm.Alarm.{Alarm}
-use Rattle.server_core.specs.Board.{alarm_here, alarm_from}
+use Rattle.server_core.specs.Board.{alarm_here, alarm_from, DifferAt, IsAlarm}
 
 abbrev by_test : Bool → Option Alarm → Option Alarm → Option Alarm
 by_test same x y = if same then x else y
@@ -60,3 +61,69 @@ alarm_end n reports wanted (inr past) = ap (alarm_from n (drop n reports)) (drop
 -- What is read at an index below the length does not depend on a default.
 pub read_at : {X : Type 0} (xs : List X) (i : ℕ) (x d : X) → i < length xs → x ≡ get_or xs i x → x ≡ get_or xs i d
 read_at xs i x d below read = at_read xs (λ u. x ≡ u) i x below read refl d
+
+-- The same from frame k on, where both lists begin at frame k.
+abbrev IsAlarmFrom : ℕ → List (Option ℕ) → List ℕ → Option Alarm → Type 0
+IsAlarmFrom k reports wanted None = (n got want : ℕ) → DifferAt reports wanted n got want → ⊥
+IsAlarmFrom k reports wanted (Some alarm) =
+    (n : ℕ) × (k + n ≡ alarm.frame) × DifferAt reports wanted n alarm.got alarm.want
+    × ((m got want : ℕ) → DifferAt reports wanted m got want → n ≤ m)
+
+later_differ :
+    (x : Option ℕ) (w : ℕ) (reports : List (Option ℕ)) (wanted : List ℕ) (n got want : ℕ) →
+    DifferAt reports wanted n got want → DifferAt (x ∷ reports) (w ∷ wanted) (suc n) got want
+later_differ x w reports wanted n got want at = record { kept = at.kept; awaited = at.awaited; differ = at.differ }
+
+-- Where they don't differ at the first frame, the later ones decide.
+by_later :
+    (k : ℕ) (x : Option ℕ) (w : ℕ) (reports : List (Option ℕ)) (wanted : List ℕ) (found : Option Alarm) →
+    ((got want : ℕ) → DifferAt (x ∷ reports) (w ∷ wanted) 0 got want → ⊥) →
+    IsAlarmFrom (k + 1) reports wanted found → IsAlarmFrom k (x ∷ reports) (w ∷ wanted) found
+by_later k x w reports wanted None same later = none where
+  none : (n got want : ℕ) → DifferAt (x ∷ reports) (w ∷ wanted) n got want → ⊥
+  none zero got want at = same got want at
+  none (suc n) got want at = later n got want (record { kept = at.kept; awaited = at.awaited; differ = at.differ })
+by_later k x w reports wanted (Some alarm) same later =
+    (suc later.0, omega (arith, later.1), later_differ x w reports wanted later.0 alarm.got alarm.want later.2, least) where
+      least : (m got want : ℕ) → DifferAt (x ∷ reports) (w ∷ wanted) m got want → suc later.0 ≤ m
+      least zero got want at = absurd (same got want at)
+      least (suc m) got want at =
+          omega (arith, later.3 m got want (record { kept = at.kept; awaited = at.awaited; differ = at.differ }))
+
+-- At the first frame they differ, or the later ones decide.
+by_first :
+    (k got want : ℕ) (reports : List (Option ℕ)) (wanted : List ℕ) (found : Option Alarm) (same : Bool) → (got == want) ≡ same →
+    IsAlarmFrom (k + 1) reports wanted found →
+    IsAlarmFrom k (Some got ∷ reports) (want ∷ wanted)
+    (by_test same found (Some (record { frame = k; got = got; want = want })))
+by_first k got want reports wanted found true is later =
+    by_later k (Some got) want reports wanted found
+    (λ g w at. at.differ (let a : got ≡ g = cc in let b : want ≡ w = cc in sym a ∙ eqb-true got want is ∙ b)) later
+by_first k got want reports wanted found false is later = (
+  zero,
+  omega arith,
+  record { kept = refl; awaited = refl; differ = λ equal. absurd (let e : true ≡ false = sym (eq-eqb got want equal) ∙ is in cc) },
+  λ m g w at. omega arith,
+)
+
+alarm_is :
+    (k : ℕ) (reports : List (Option ℕ)) (wanted : List ℕ) → IsAlarmFrom k reports wanted (alarm_from k reports wanted)
+alarm_is k [] wanted = λ n got want at. absurd (let e : None ≡ Some got = at.kept in cc)
+alarm_is k (x ∷ reports) [] = λ n got want at. absurd (let e : None ≡ Some want = at.awaited in cc)
+alarm_is k (None ∷ reports) (want ∷ wanted) =
+    by_later k None want reports wanted (alarm_from (k + 1) reports wanted)
+    (λ g w at. absurd (let e : None ≡ Some g = at.kept in cc)) (alarm_is (k + 1) reports wanted)
+alarm_is k (Some got ∷ reports) (want ∷ wanted) =
+    by_first k got want reports wanted (alarm_from (k + 1) reports wanted) (got == want) refl (alarm_is (k + 1) reports wanted)
+
+from_first : (reports : List (Option ℕ)) (wanted : List ℕ) (found : Option Alarm) → IsAlarmFrom 0 reports wanted found → IsAlarm reports wanted found
+from_first reports wanted None none = none
+from_first reports wanted (Some alarm) first =
+    let here : first.0 ≡ alarm.frame = omega (arith, first.1) in
+    subst (λ n. DifferAt reports wanted n alarm.got alarm.want × ((m got want : ℕ) → DifferAt reports wanted m got want → n ≤ m)) here
+    (first.2, first.3)
+
+-- The alarm is the least one.
+pub least_alarm :
+    (reports : List (Option ℕ)) (wanted : List ℕ) → IsAlarm reports wanted (alarm_from 0 reports wanted)
+least_alarm reports wanted = from_first reports wanted (alarm_from 0 reports wanted) (alarm_is 0 reports wanted)

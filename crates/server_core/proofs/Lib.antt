@@ -1,2 +1,2 @@
 pub mod Alarms
-pub mod Ticked
+pub mod Reports

@@ -1,5 +1,5 @@
 -- The board: what each client reported by frame, and the wanted hashes by frame.
-use Rattle.std.specs.Prelude.{ℕ, ◌+◌, ◌-◌, ◌==◌, nat_lt, if◌then◌else◌, List, [], ◌∷◌, ◌++◌, length, replicate, Option, Some, None, is_some, slice_index_or, slice_set}
+use Rattle.std.specs.Prelude.{◌≡◌, ◌≢◌, ℕ, ◌+◌, ◌-◌, ◌<◌, ◌≤◌, ◌==◌, ◌⊎◌, nat_lt, if◌then◌else◌, List, [], ◌∷◌, ◌++◌, length, replicate, Option, Some, None, is_some, slice_get, slice_index_or, slice_set}
 use Rattle.game_orders.specs.declared.limits.TheConstants.{MAX_FRAMES}
 use Rattle.server_core.specs.declared.alarm.Alarm.{Alarm}
 use Rattle.server_core.specs.declared.reported.Reported.{Reported}
@@ -46,6 +46,14 @@ abbrev pub reports_after : List (List (Option ℕ)) → ℕ → ℕ → ℕ → 
 reports_after reports c n h =
     slice_set reports c (after_report (report_answer (reports_of reports c) n) (reports_of reports c) n h)
 
+-- After a report of client c for frame n each report that was kept stays. Where none of the client was kept for a frame
+-- of a match, this one is. For every other client or frame, and for every frame that no match has, nothing changes.
+pub record KeepsFirst (olds news : List (List (Option ℕ))) (c n h : ℕ) : Type 0 where
+  pub stays : (d m was : ℕ) → report_at (reports_of olds d) m ≡ Some was → report_at (reports_of news d) m ≡ Some was
+  pub first : n < MAX_FRAMES → report_at (reports_of olds c) n ≡ None → report_at (reports_of news c) n ≡ Some h
+  pub others : (d m : ℕ) → (d ≢ c) ⊎ (m ≢ n) → report_at (reports_of news d) m ≡ report_at (reports_of olds d) m
+  pub beyond : MAX_FRAMES ≤ n → news ≡ olds
+
 -- The board after a report of client c for frame n.
 abbrev pub reported_board : BoardState → ℕ → ℕ → ℕ → BoardState
 reported_board board c n h = record board { reports = reports_after board.reports c n h }
@@ -53,10 +61,6 @@ reported_board board c n h = record board { reports = reports_after board.report
 -- The board after the next wanted hash.
 abbrev pub wanted_board : BoardState → ℕ → BoardState
 wanted_board board h = record board { wanted = board.wanted ++ h ∷ [] }
-
--- The board with another hash in place of the last wanted one.
-abbrev pub settled_board : BoardState → ℕ → BoardState
-settled_board board h = record board { wanted = slice_set board.wanted (length board.wanted - 1) h }
 
 -- The alarm at frame n, if the kept hash differs from the wanted one, else a later one.
 abbrev pub alarm_here : ℕ → Option ℕ → ℕ → Option Alarm → Option Alarm
@@ -72,3 +76,17 @@ alarm_from n (got ∷ reports) (want ∷ wanted) = alarm_here n got want (alarm_
 -- The alarm of client c.
 abbrev pub alarm_of : BoardState → ℕ → Option Alarm
 alarm_of board c = alarm_from 0 (reports_of board.reports c) board.wanted
+
+-- A report is kept for frame n and a hash is wanted after it, and they differ.
+pub record DifferAt (reports : List (Option ℕ)) (wanted : List ℕ) (n got want : ℕ) : Type 0 where
+  pub kept : report_at reports n ≡ Some got
+  pub awaited : slice_get wanted n ≡ Some want
+  pub differ : got ≢ want
+
+-- The alarm has the least frame at which they differ, with both hashes. There is none only where they differ at no
+-- frame.
+abbrev pub IsAlarm : List (Option ℕ) → List ℕ → Option Alarm → Type 0
+IsAlarm reports wanted None = (n got want : ℕ) → DifferAt reports wanted n got want → ⊥
+IsAlarm reports wanted (Some alarm) =
+    DifferAt reports wanted alarm.frame alarm.got alarm.want
+    × ((n got want : ℕ) → DifferAt reports wanted n got want → alarm.frame ≤ n)

@@ -1,9 +1,9 @@
-/// A frame after which a client's world is not the server's.
+/// The least frame for which the kept report of a client differs from the hash of the server's world.
 #[derive(Clone, Copy, Debug, PartialEq, Eq)]
 pub struct Alarm {
-    /// The least such frame.
+    /// The frame, below `MAX_FRAMES`.
     pub frame: u32,
-    /// The hash that the client reported.
+    /// The hash that was reported in the client's name.
     pub got: u64,
     /// The hash of the server's world, which differs.
     pub want: u64,

@@ -1,15 +1,16 @@
-ghost use Rattle.std.specs.Prelude.{◌≡◌, ◌≢◌, ◌<◌, ◌≤◌, ℕ, List, [], ◌∷◌, ◌++◌, length, IfOk, IfSome, OnOk, OnErr};
-ghost use Rattle.server_core.specs.Board.{empty_board, reports_of, report_answer, reported_board, wanted_board, settled_board, alarm_of};
+ghost use Rattle.std.specs.Prelude.{◌≡◌, ◌+◌, ◌<◌, ◌≤◌, length, IfOk, OnOk, OnErr};
+ghost use Rattle.server_core.specs.Board.{empty_board, reports_of, report_answer, reported_board, wanted_board, alarm_of, KeepsFirst, IsAlarm};
 
 use crate::alarm::Alarm;
 use crate::client_reports::ClientReports;
 use crate::reported::Reported;
 use base::NoMemory;
-use game_orders::{MAX_CLIENTS, MAX_FRAMES};
+use frame_core::{MAX_STEPS, Sim};
+use game_orders::{Frame, MAX_CLIENTS, MAX_FRAMES};
 use std::alloc::Global;
 use std::marker::Model;
 
-/// The hashes that the clients reported, and those that the server's world had. Both may come first.
+/// The hashes that the clients reported, and those that the server's world had. Either may come first.
 #[derive(Drop)]
 pub struct Board {
     reports: Vec<ClientReports>,
@@ -57,10 +58,12 @@ impl Board {
     /// Takes a report of client `c` that its world has hash `h` after frame `n`. `Beyond` exactly where `n` is
     /// `MAX_FRAMES` or more, `Repeat` exactly where a report of the client on the frame is kept, which stays; else
     /// `Kept`. Only `Kept` changes anything.
+    #[tactic(auto, using(crate::proofs::Reports::keeps_first))]
     pub fn reported(&mut self, c: u8, n: u32, h: u64) -> Result<Reported, NoMemory>
         requires { c < length self.old.reports }
         ensures answer { IfOk result (λ answer. answer ≡ report_answer (reports_of self.old.reports c) n) }
         ensures after { OnOk result (self.new ≡ reported_board self.old c n h) }
+        ensures keeps { OnOk result (KeepsFirst self.old.reports self.new.reports c n h) }
         ensures err { OnErr result (self.new ≡ self.old) }
     {
         if MAX_FRAMES <= n {
@@ -84,21 +87,31 @@ impl Board {
 
     /// The least frame for which a report of client `c` is kept and a hash is wanted that differ, with both. None
     /// exactly where there is none.
+    #[tactic(auto, using(crate::proofs::Alarms::least_alarm))]
     pub fn alarm(&self, c: u8) -> Option<Alarm>
         requires { c < length self.now.reports }
         ensures value { result ≡ alarm_of self.now c }
-        ensures differs { IfSome result (λ alarm. alarm.got ≢ alarm.want) }
+        ensures least { IsAlarm (reports_of self.now.reports c) self.now.wanted result }
     {
         self.reports[c as usize].alarm(&self.wanted)
     }
 
-    /// Puts another hash in place of the last wanted one.
-    pub(crate) fn settle(&mut self, h: u64)
-        requires { 0 < length self.old.wanted }
-        ensures { self.new ≡ settled_board self.old h }
+    /// Steps the world by a frame, and notes its hash then as the next wanted one. The room for the hash is taken
+    /// first, since a step can't be taken back.
+    pub(crate) fn step<S: Sim>(&mut self, sim: &mut S, frame: &Frame) -> Result<(), NoMemory>
+        requires whole { length frame.now ≡ S.clients_of sim.old }
+        requires more { S.steps sim.old < MAX_STEPS }
+        ensures world { OnOk result (sim.new ≡ S.after sim.old frame.now) }
+        ensures clients { OnOk result (S.clients_of sim.new ≡ S.clients_of sim.old) }
+        ensures counted { OnOk result (S.steps sim.new ≡ S.steps sim.old + 1) }
+        ensures after { OnOk result (self.new ≡ wanted_board self.old (S.hash_of sim.new)) }
+        ensures err { OnErr result (self.new ≡ self.old) }
+        ensures same { OnErr result (sim.new ≡ sim.old) }
     {
-        let last = self.wanted.len() - 1;
-        self.wanted[last] = h;
+        self.wanted.reserve(1)?;
+        sim.step(frame);
+        self.wanted.push_reserved(sim.hash());
+        Ok(())
     }
 
     /// The wanted hashes, by frame.
@@ -106,5 +119,44 @@ impl Board {
         ensures { result.now ≡ self.now.wanted }
     {
         &self.wanted
+    }
+}
+
+#[cfg(test)]
+mod tests {
+    use super::*;
+    use std::test::Fail;
+
+    #[test]
+    fn reports_and_alarms(rt: HostRuntime) -> Result<(), Fail> {
+        let mut board = Board::create(rt.alloc(), 2)?;
+        assert_eq!(rt; board.clients(), 2);
+        let none = None;
+        let second = Some(Alarm {
+            frame: 1,
+            got: 7,
+            want: 8,
+        });
+        let first = Some(Alarm {
+            frame: 0,
+            got: 6,
+            want: 5,
+        });
+        // client, frame, hash, the answer, and the client's alarm then; each row is behind one more wanted hash
+        let rows = [
+            (1, 1, 7, 5, Reported::Kept, none),
+            (0, MAX_FRAMES, 9, 8, Reported::Beyond, none),
+            (1, 1, 8, 3, Reported::Repeat, second),
+            (1, MAX_FRAMES - 1, 9, 3, Reported::Kept, second),
+            (1, 0, 6, 3, Reported::Kept, first),
+            (0, 1, 8, 3, Reported::Kept, none),
+        ];
+        for (c, n, h, next, answer, alarm) in rows {
+            assert!(rt; c < board.clients());
+            board.wanted(next)?;
+            assert_eq!(rt; board.reported(c, n, h)?, answer, "client {c} at {n}");
+            assert_eq!(rt; board.alarm(c), alarm, "client {c} at {n}");
+        }
+        Ok(())
     }
 }

@@ -1,4 +1,4 @@
-ghost use Rattle.std.specs.Prelude.{◌≡◌, ◌≢◌, ◌<◌, ◌≤◌, [], ℕ, length, Option, IfSome, OnOk, OnErr};
+ghost use Rattle.std.specs.Prelude.{◌≡◌, ◌<◌, [], OnOk, OnErr};
 ghost use Rattle.server_core.specs.Board.{report_at, with_report, alarm_here, alarm_from};
 
 use crate::alarm::Alarm;
@@ -57,8 +57,7 @@ impl ClientReports {
 
     /// The least frame at which the kept hash differs from the wanted one, with both.
     pub(crate) fn alarm(&self, wanted: &[u64]) -> Option<Alarm>
-        ensures value { result ≡ alarm_from 0 self.now wanted.now }
-        ensures differs { IfSome result (λ alarm. alarm.got ≢ alarm.want) }
+        ensures { result ≡ alarm_from 0 self.now wanted.now }
     {
         let count = self.held.len().min(wanted.len());
         for n in 0..count {
@@ -73,8 +72,7 @@ impl ClientReports {
 
 /// The alarm at one frame, if a hash is kept there that differs from the wanted one.
 fn alarm_at(frame: u32, got: Option<u64>, want: u64) -> Option<Alarm>
-    ensures value { result ≡ alarm_here frame got want None }
-    ensures differs { IfSome result (λ alarm. alarm.got ≢ alarm.want) }
+    ensures { result ≡ alarm_here frame got want None }
 {
     let got = got?;
     if got == want {

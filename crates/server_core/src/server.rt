@@ -1,5 +1,6 @@
 ghost use Rattle.std.specs.Prelude.{◌≡◌, ◌<◌, ◌≤◌, length, IfOk, OnOk, OnErr};
 ghost use Rattle.frame_core.specs.Column.{column_of, leave_answer};
+ghost use Rattle.frame_core.specs.Grows.{Grows};
 ghost use Rattle.frame_core.specs.Ready.{ready_at};
 ghost use Rattle.frame_core.specs.Tick.{tick_answer};
 ghost use Rattle.server_core.specs.Server.{fresh_server, board_of, answer_to, told_server, left_server, ticked_server};
@@ -57,6 +58,7 @@ impl<S: Sim> Server<S> {
         requires { c < length self.old.columns }
         ensures answer { IfOk result (λ answer. answer ≡ answer_to self.old.columns self.old.reports c p.now) }
         ensures after { OnOk result (self.new ≡ told_server self.old c p.now) }
+        ensures grows { Grows self.old.columns self.new.columns }
         ensures err { OnErr result (self.new ≡ self.old) }
     {
         match p {
@@ -78,6 +80,7 @@ impl<S: Sim> Server<S> {
         requires { c < length self.old.columns }
         ensures answer { result ≡ leave_answer (column_of self.old.columns c) }
         ensures after { self.new ≡ left_server self.old c }
+        ensures grows { Grows self.old.columns self.new.columns }
     {
         self.columns.leave(c)
     }
@@ -94,10 +97,7 @@ impl<S: Sim> Server<S> {
         let frame = self.ticked;
         match self.columns.ready(frame) {
             Ready::Yes => {
-                // the mark's room is taken first, since the step can't be taken back
-                self.board.wanted(0)?;
-                self.sim.step(&self.columns.frame(frame));
-                self.board.settle(self.sim.hash());
+                self.board.step(&mut self.sim, &self.columns.frame(frame))?;
                 self.ticked += 1;
                 Ok(TickAnswer::Ticked(frame))
             }
@@ -150,56 +150,10 @@ mod tests {
     use super::*;
     use crate::alarm::Alarm;
     use crate::reported::Reported;
-    use frame_core::{CashList, Put, Summary};
-    use game_orders::{Frame, Orders};
+    use frame_core::{Put, Tally};
+    use game_orders::Orders;
     use std::process::Abort;
     use std::test::Fail;
-
-    /// A world of two clients that tells its steps, and whether client 0 played in the last one.
-    #[derive(Drop)]
-    struct Tally {
-        steps: u32,
-        played: bool,
-    }
-
-    impl Sim for Tally {
-        ghost use Rattle.std.specs.Prelude.{◌+◌, ◌*◌, [], ◌∷◌, slice_get, if◌then◌else◌, false};
-        ghost use Rattle.std.specs.Option.{option_map, unwrap_or};
-        ghost use Rattle.game_orders.specs.Entry.{is_play};
-
-        ghost clients_of = { λ w. 2 };
-
-        ghost steps = { λ w. w.steps };
-
-        ghost after = { λ w frame. record { steps = w.steps + 1; played = unwrap_or (option_map is_play (slice_get frame 0)) false } };
-
-        ghost hash_of = { λ w. w.steps * 2 + (if w.played then 1 else 0) };
-
-        ghost summary_of = { λ w. record { actors = 0; cash = 0 ∷ 0 ∷ [] } };
-
-        fn clients(&self) -> u8 {
-            2
-        }
-
-        fn step(&mut self, f: &Frame) {
-            self.steps += 1;
-            self.played = match f.get(0) {
-                Some(entry) => entry.is_play(),
-                None => false,
-            };
-        }
-
-        fn hash(&self) -> u64 {
-            u64::from(self.steps) * 2 + if self.played { 1 } else { 0 }
-        }
-
-        fn summary(&self) -> Summary {
-            let mut cash = CashList::empty();
-            cash.push(0);
-            cash.push(0);
-            Summary { actors: 0, cash }
-        }
-    }
 
     /// A call with the answer that is wanted.
     #[derive(Drop)]
@@ -238,11 +192,7 @@ mod tests {
 
     #[test]
     fn two_clients(rt: HostRuntime) -> Result<(), Fail> {
-        let sim = Tally {
-            steps: 0,
-            played: false,
-        };
-        let mut server = Server::create(rt.alloc(), 2, sim)?;
+        let mut server = Server::create(rt.alloc(), 2, Tally::new())?;
         let calls = [
             Call::Up(
                 0,
@@ -328,7 +278,7 @@ mod tests {
             answer(&rt, &mut server, call)?;
         }
         assert_eq!(rt; *server.marks(), *[3, 5].as_slice());
-        assert_eq!(rt; (server.ticked(), server.sim().steps), (2, 2));
+        assert_eq!(rt; (server.ticked(), server.sim().step_count()), (2, 2));
         Ok(())
     }
 }

@@ -2,9 +2,10 @@
 use Rattle.std.proofs.Common.{◌≡◌, ◌-◌, ◌++◌, length}
 use Rattle.frame_core.specs.Ready.{frame_of}
 use Rattle.peer_core.specs.Triples.{each_of, frame_by}
+use Rattle.peer_core.specs.Entries.{all_triples}
 use Rattle.peer_core.proofs.triples.frame_from.Given as goal
 
 abbrev pub invariant-loop-c : goal.invariant-loop-c
 invariant-loop-c l =
-    (l.frame ++ frame_of (each_of l.triples l.c (l.clients - l.c) l.n) ≡ frame_by l.triples l.clients l.n)
+    (l.frame ++ frame_of (each_of (all_triples 0 l.entries) l.c (l.clients - l.c) l.n) ≡ frame_by (all_triples 0 l.entries) l.clients l.n)
     × (length l.frame ≡ l.c)

@@ -2,7 +2,8 @@
 use Rattle.std.proofs.Common.{◌≡◌, ◌-◌}
 use Rattle.frame_core.specs.Ready.{ready_from}
 use Rattle.peer_core.specs.Triples.{each_of, ready_by}
+use Rattle.peer_core.specs.Entries.{all_triples}
 use Rattle.peer_core.proofs.triples.readiness.Given as goal
 
 abbrev pub invariant-loop-c : goal.invariant-loop-c
-invariant-loop-c l = ready_from l.c l.played (each_of l.triples l.c (l.clients - l.c) l.n) ≡ ready_by l.triples l.clients l.n
+invariant-loop-c l = ready_from l.c l.played (each_of (all_triples 0 l.entries) l.c (l.clients - l.c) l.n) ≡ ready_by (all_triples 0 l.entries) l.clients l.n

@@ -17,14 +17,14 @@ loop-n-preserved c =
     ∙ ap (λ xs. get_or xs n None) c.self.view_is in
     let later = alarm_from (n + 1) (drop (n + 1) reports) (drop (n + 1) wanted) in
     let none : is_some (alarm_here n (get_or reports n None) (get_or wanted n 0) None) ≡ false =
-    ap (λ o. is_some (alarm_here n o (get_or wanted n 0) None)) (sym got) ∙ ap is_some (sym c.alarm_at-found.ensures.value)
+    ap (λ o. is_some (alarm_here n o (get_or wanted n 0) None)) (sym got) ∙ ap is_some (sym c.alarm_at-found.ensures)
     ∙ sym c.is_some.ensures ∙ c.if-is_some.false in
     sym (none_here n (get_or reports n None) (get_or wanted n 0) later none)
     ∙ sym (alarm_step n reports wanted below within)
     ∙ c.loop-n.invariant
 
-pub returns-then-is_some-clause-value : goal.returns-then-is_some-clause-value
-returns-then-is_some-clause-value c =
+pub returns-then-is_some : goal.returns-then-is_some
+returns-then-is_some c =
     let n = c.loop-n.n in
     let reports = c.args.self.now in
     let wanted = c.args.wanted.now in
@@ -36,7 +36,7 @@ returns-then-is_some-clause-value c =
     ∙ ap (λ xs. get_or xs n None) c.self.view_is in
     let later = alarm_from (n + 1) (drop (n + 1) reports) (drop (n + 1) wanted) in
     let found : c.alarm_at-found.result ≡ alarm_here n (get_or reports n None) (get_or wanted n 0) None =
-    c.alarm_at-found.ensures.value ∙ ap (λ o. alarm_here n o (get_or wanted n 0) None) got in
+    c.alarm_at-found.ensures ∙ ap (λ o. alarm_here n o (get_or wanted n 0) None) got in
     let some : is_some (alarm_here n (get_or reports n None) (get_or wanted n 0) None) ≡ true =
     ap is_some (sym found) ∙ sym c.is_some.ensures ∙ c.if-is_some.true in
     found
@@ -44,8 +44,8 @@ returns-then-is_some-clause-value c =
     ∙ sym (alarm_step n reports wanted below within)
     ∙ c.loop-n.invariant
 
-pub returns-clause-value : goal.returns-clause-value
-returns-clause-value c =
+pub returns : goal.returns
+returns c =
     let n = c.loop-n.n in
     let reports = c.args.self.now in
     let wanted = c.args.wanted.now in
