@@ -1,38 +1,39 @@
 -- What each event does, over plain values.
-use Rattle.std.proofs.Common.{◌≡◌, ℕ, Bool, true, false, suc, ◌-◌, ◌<◌, ◌≤◌, List, [], ◌∷◌, ◌++◌, length, map, get_or, refl, sym, ap, ap₂, subst, ◌∙◌, arith, append-nil}
-use Rattle.std.specs.Prelude.{Option, Some, None, Result, Ok, Err, slice_get, slice_set, ◌==◌, if◌then◌else◌, is_some}
+use Rattle.std.proofs.Common.{◌≡◌, ℕ, Bool, true, false, suc, ◌-◌, ◌<◌, List, [], ◌∷◌, ◌++◌, length, map, get_or, refl, sym, ap, ap₂, subst, ◌∙◌, arith, append-nil}
+use Rattle.std.specs.Prelude.{Option, Some, None, Result, Ok, Err, IfOk, OnOk, slice_get, slice_set, ◌==◌, if◌then◌else◌, is_some}
+use Rattle.std.specs.List.{AllByRecursion}
 use Rattle.std.proofs.lemmas.Bool.{eqb-true, eqb-false}
 use Rattle.std.proofs.lemmas.List.{map-set, length-set, set-get_or}
 use Rattle.game_orders.specs.declared.order.Order.{Order}
 use Rattle.game_orders.specs.declared.entry.Entry.{Entry}
 use Rattle.frame_core.specs.declared.tick_answer.TickAnswer.{TickAnswer}
 use Rattle.frame_core.specs.declared.leaving.Leaving.{Leaving}
-use Rattle.frame_core.specs.Column.{Column, length_of, column_of, entry_at, leave_answer}
+use Rattle.frame_core.specs.Column.{Column, column_of, entry_at, leave_answer, IsWithinFrames}
 use Rattle.frame_core.specs.Ready.{ready_at}
 use Rattle.frame_core.specs.Tick.{tick_answer, ticked_after}
 use Rattle.frame_core.specs.World.{world_at}
 use Rattle.frame_core.specs.Grows.{Grows}
-use Rattle.order_packets.specs.declared.up.Up.{Up}
-use Rattle.order_packets.specs.declared.up.Up.TheVariants.{Hello, Orders, Sync, Bye}
 use Rattle.peer_core.specs.declared.triple.Triple.{Triple}
 use Rattle.peer_core.specs.declared.delivered.Delivered.{Delivered}
 use Rattle.peer_core.specs.declared.report.Report.{Report}
 use Rattle.peer_core.specs.declared.seal_fault.SealFault.{SealFault}
-use Rattle.game_orders.specs.declared.limits.TheConstants.{MAX_FRAMES}
 use Rattle.peer_core.specs.declared.delivered.Delivered.TheVariants.{Kept, Repeat}
 use Rattle.peer_core.specs.Once.{delivery_agreed}
 use Rattle.peer_core.specs.Triples.{ready_by, kept_at, with_triple, delivery_of, after_delivery}
 use Rattle.peer_core.specs.Peer.{PeerState, seal_answer, sealed_after, sealed_peer, delivered_peer, ticked_peer, report_of}
 use Rattle.peer_core.specs.Faithful.{IsFaithful, seal_faithful, deliver_faithful, tick_faithful, grow_faithful}
-use Rattle.server_core.specs.declared.up_answer.UpAnswer.{UpAnswer}
 use Rattle.server_core.specs.Served.{told_grows, leave_grows, grow_served, tick_served}
-use Rattle.server_core.specs.Server.{ServerState, columns_left, answer_to, columns_after, reports_with, told_server, left_server, ticked_server}
+use Rattle.server_core.specs.Server.{ServerState, columns_left, columns_after, reports_with, told_server, left_server, ticked_server}
+use Rattle.drill.specs.declared.packet.Packet.{Packet}
+use Rattle.drill.specs.declared.packet.Packet.TheVariants.{Orders, Sync, Bye}
+use Rattle.drill.specs.Packet.{up_of}
 use Rattle.drill.specs.declared.sent.Sent.{Sent}
-use Rattle.drill.specs.declared.event.Event.TheVariants.{Seal, Up as Give, Down, Tick, TickServer, DropClient, Report as SendReport}
+use Rattle.drill_words.specs.declared.event.Event.TheVariants.{Seal, Up, Down, Tick, TickServer, DropClient, Report as SendReport}
 use Rattle.drill.specs.declared.outcome.Outcome.{Outcome}
 use Rattle.drill.specs.declared.outcome.Outcome.TheVariants.{NoPacket, NoEntry, Arrived, Repeated, Ticking, Leaves, ReportSent, NoFrame}
-use Rattle.drill.specs.Record.{Reached, Progress, nothing_reached, peer_at, sealing, seal_outcome, sent_by, answered, frame_in, give_outcome, give_columns, give_reports, down_outcome, down_triples, report_outcome, report_sent}
+use Rattle.drill.specs.Record.{Reached, Progress, nothing_reached, peer_at, sealing, seal_outcome, sent_by, packet_outcome, give_outcome, give_columns, give_reports, down_outcome, down_triples, report_outcome, report_sent}
 use Rattle.drill.specs.Stage.{arrival_of, reached_of, progress_of, IsNumbered, IsWhole, IsSound, Does}
+use Rattle.drill.proofs.WithinLemmas.{columns_within, left_within, packet_within}
 use Rattle.drill.proofs.StageLemmas.{some_same, all_at, all_map, reached_at, send_whole, peer_whole, peer_number, peer_sound}
 
 -- What is sound stays sound with columns that grow and any reports.
@@ -48,14 +49,12 @@ grow_sound after hash start server peers news reports grows sound =
           (λ peer faithful. grow_faithful after start server.columns news peer grows faithful) sound.each;
     }
 
-packet_columns : (columns : List Column) (c : ℕ) (packet : Up) → length (columns_after columns c packet) ≡ length columns
-packet_columns columns c (Hello version rules) = refl
+packet_columns : (columns : List Column) (c : ℕ) (packet : Packet) → length (columns_after columns c (up_of packet)) ≡ length columns
 packet_columns columns c (Orders frame orders) = length-set columns c _
 packet_columns columns c (Sync frame hash) = refl
 packet_columns columns c Bye = length-set columns c _
 
-packet_reports : (reports : List (List (Option ℕ))) (c : ℕ) (packet : Up) → length (reports_with reports c packet) ≡ length reports
-packet_reports reports c (Hello version rules) = refl
+packet_reports : (reports : List (List (Option ℕ))) (c : ℕ) (packet : Packet) → length (reports_with reports c (up_of packet)) ≡ length reports
 packet_reports reports c (Orders frame orders) = refl
 packet_reports reports c (Sync frame hash) = length-set reports c _
 packet_reports reports c Bye = refl
@@ -63,13 +62,14 @@ packet_reports reports c Bye = refl
 -- The match is whole with another state of the server of as many columns and reports.
 server_whole :
     {W : Type 0} (clients lag : ℕ) (sent : List Sent) (old new : ServerState W) (peers : List (PeerState W)) →
-    length new.columns ≡ length old.columns → length new.reports ≡ length old.reports →
+    length new.columns ≡ length old.columns → length new.reports ≡ length old.reports → AllByRecursion IsWithinFrames new.columns →
     IsWhole clients lag sent old peers → IsWhole clients lag sent new peers
-server_whole clients lag sent old new peers columns reports whole =
+server_whole clients lag sent old new peers columns reports within whole =
     record {
       senders = whole.senders;
       columned = columns ∙ whole.columned;
       boarded = reports ∙ whole.boarded;
+      within = within;
       counted = whole.counted;
       numbered = whole.numbered;
     }
@@ -145,36 +145,36 @@ seal_does {W} {E} after hash clients lag sent sent' server peers p orders old ne
 -- A packet that the server gets.
 pub give_does :
     {W E : Type 0} (after : W → List Entry → W) (hash : W → ℕ) (clients lag : ℕ) (sent : List Sent) (server new : ServerState W)
-    (peers : List (PeerState W)) (k : ℕ) (packet : Sent) (answer : UpAnswer) (outcome : Outcome) →
+    (peers : List (PeerState W)) (k : ℕ) (packet : Sent) (result : Result Outcome E) →
     IsWhole clients lag sent server peers → Some packet ≡ slice_get sent k →
-    answer ≡ answer_to server.columns server.reports packet.client packet.packet → new ≡ told_server server packet.client packet.packet →
-    outcome ≡ answered packet.client (frame_in packet.packet) answer →
-    Does {E = E} after hash clients lag (Give k) sent server peers sent new peers (Ok outcome)
-give_does {W} {E} after hash clients lag sent server new peers k packet answer outcome whole found answer_is new_is outcome_is =
+    IfOk result (λ outcome. outcome ≡ packet_outcome server.columns server.reports packet.client packet.packet) →
+    OnOk result (new ≡ told_server server packet.client (up_of packet.packet)) →
+    Does {E = E} after hash clients lag (Up k) sent server peers sent new peers result
+give_does {W} {E} after hash clients lag sent server new peers k packet (Ok outcome) whole found outcome_is new_is =
     let P : ServerState W → Type 0 =
-    λ s. Does {E = E} after hash clients lag (Give k) sent server peers sent s peers (Ok outcome) in
+    λ s. Does {E = E} after hash clients lag (Up k) sent server peers sent s peers (Ok outcome) in
     subst P (sym new_is)
     (record {
       whole =
-          server_whole clients lag sent server (told_server server packet.client packet.packet) peers
-          (packet_columns server.columns packet.client packet.packet) (packet_reports server.reports packet.client packet.packet) whole;
+          server_whole clients lag sent server (told_server server packet.client (up_of packet.packet)) peers
+          (packet_columns server.columns packet.client packet.packet) (packet_reports server.reports packet.client packet.packet)
+          (packet_within server.columns packet.client packet.packet whole.within) whole;
       makes = λ start sound. (
         record {
-          came =
-              outcome_is ∙ ap (answered packet.client (frame_in packet.packet)) answer_is
-              ∙ ap (λ f. give_outcome f server.columns server.reports) found;
+          came = outcome_is ∙ ap (λ f. give_outcome f server.columns server.reports) found;
           left =
               ap (λ f. let old = progress_of sent server peers in record old { columns = give_columns f server.columns; reports = give_reports f server.reports }) found;
         },
-        grow_sound after hash start server peers _ _ (told_grows server.columns packet.client packet.packet) sound,
+        grow_sound after hash start server peers _ _ (told_grows server.columns packet.client (up_of packet.packet)) sound,
       );
     })
+give_does after hash clients lag sent server new peers k packet (Err fault) whole found outcome_is new_is = record { whole = tt; makes = tt }
 
 -- No such packet.
 pub no_packet_does :
     {W E : Type 0} (after : W → List Entry → W) (hash : W → ℕ) (clients lag : ℕ) (sent : List Sent) (server : ServerState W)
     (peers : List (PeerState W)) (k : ℕ) → IsWhole clients lag sent server peers → None ≡ slice_get sent k →
-    Does {E = E} after hash clients lag (Give k) sent server peers sent server peers (Ok NoPacket)
+    Does {E = E} after hash clients lag (Up k) sent server peers sent server peers (Ok NoPacket)
 no_packet_does after hash clients lag sent server peers k whole found =
     record {
       whole = whole;
@@ -202,10 +202,10 @@ keeps false t ts = refl
 pub down_does :
     {W E : Type 0} (after : W → List Entry → W) (hash : W → ℕ) (clients lag : ℕ) (sent : List Sent) (server : ServerState W)
     (peers : List (PeerState W)) (p c n : ℕ) (entry : Entry) (old new : PeerState W) (answer : Delivered) →
-    IsWhole clients lag sent server peers → p < clients → old ≡ get_or peers p old → length_of (column_of server.columns c) ≤ MAX_FRAMES →
+    IsWhole clients lag sent server peers → p < clients → old ≡ get_or peers p old →
     Some entry ≡ entry_at (column_of server.columns c) n → answer ≡ delivery_of old.triples c n entry → new ≡ delivered_peer old c n entry →
     Does {E = E} after hash clients lag (Down p c n) sent server peers sent server (slice_set peers p new) (Ok (arrival_of c n answer))
-down_does {W} {E} after hash clients lag sent server peers p c n entry old new answer whole below is within found answer_is new_is =
+down_does {W} {E} after hash clients lag sent server peers p c n entry old new answer whole below is found answer_is new_is =
     record {
       whole =
           let Q : PeerState W → Type 0 = IsNumbered clients lag p in
@@ -215,7 +215,7 @@ down_does {W} {E} after hash clients lag sent server peers p c n entry old new a
           let Q : PeerState W → Type 0 = IsFaithful after start server.columns in
           let faithful : IsFaithful after start server.columns old = all_at Q peers p old sound.each in_range is in
           let agreed : delivery_of old.triples c n entry ≡ (if is_some (kept_at old.triples c n) then Repeat else Kept) =
-          delivery_agreed server.columns old.triples c n entry within faithful.stand (sym found) in (
+          delivery_agreed server.columns old.triples c n entry (columns_within server.columns c whole.within) faithful.stand (sym found) in (
             record {
               came =
                   ap (arrival_of c n) (answer_is ∙ agreed) ∙ arrives c n (is_some (kept_at old.triples c n))
@@ -335,7 +335,7 @@ tick_server_does {W} {E} after hash clients lag sent server new peers answer who
     λ s. Does {E = E} after hash clients lag TickServer sent server peers sent s peers (Ok (Ticking answer)) in
     subst P (sym new_is)
     (record {
-      whole = server_whole clients lag sent server (ticked_server after hash server) peers refl refl whole;
+      whole = server_whole clients lag sent server (ticked_server after hash server) peers refl refl whole.within whole;
       makes = λ start sound. (
         record { came = ap Ticking answer_is; left = refl },
         record { served = tick_served after hash start server sound.served; each = sound.each },
@@ -353,7 +353,7 @@ drop_does {W} {E} after hash clients lag sent server new peers c answer whole an
     λ s. Does {E = E} after hash clients lag (DropClient c) sent server peers sent s peers (Ok (Leaves c answer)) in
     subst P (sym new_is)
     (record {
-      whole = server_whole clients lag sent server (left_server server c) peers (length-set server.columns c _) refl whole;
+      whole = server_whole clients lag sent server (left_server server c) peers (length-set server.columns c _) refl (left_within server.columns c whole.within) whole;
       makes = λ start sound. (
         record { came = ap (Leaves c) answer_is; left = refl },
         grow_sound after hash start server peers (columns_left server.columns c) server.reports

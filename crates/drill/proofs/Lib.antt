@@ -1,9 +1,6 @@
 pub mod StageLemmas
-pub mod WordLemmas
-pub mod LineLemmas
-pub mod EventLemmas
+pub mod WithinLemmas
 pub mod HappenLemmas
 pub mod OpeningLemmas
 pub mod RunLemmas
 pub mod DrillLemmas
-pub mod OrderLemmas

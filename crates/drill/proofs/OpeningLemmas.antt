@@ -1,21 +1,31 @@
 -- The opening of a drill is whole, sound, and the record's opening.
-use Rattle.std.proofs.Common.{◌≡◌, ℕ, zero, suc, ◌+◌, List, [], ◌∷◌, length, map, replicate, refl, ap}
+use Rattle.std.proofs.Common.{◌≡◌, ℕ, zero, suc, ◌+◌, ◌-◌, ◌<◌, List, [], ◌∷◌, ◌++◌, length, map, replicate, refl, sym, ap, ◌∙◌, arith, append_assoc}
 use Rattle.std.specs.List.{AllByRecursion}
 use Rattle.game_orders.specs.declared.entry.Entry.{Entry}
 use Rattle.frame_core.specs.Column.{Column, no_column}
-use Rattle.peer_core.specs.Peer.{fresh_peer}
+use Rattle.peer_core.specs.Peer.{PeerState, fresh_peer}
 use Rattle.server_core.specs.Served.{fresh_served}
 use Rattle.peer_core.specs.Faithful.{IsFaithful, fresh_faithful}
 use Rattle.server_core.specs.Server.{fresh_server}
 use Rattle.drill.specs.Opening.{fresh_peers}
 use Rattle.drill.specs.Record.{nothing_reached, opening}
+use Rattle.drill.proofs.WithinLemmas.{fresh_within}
 use Rattle.drill.specs.Stage.{reached_of, progress_of, AreNumbered, IsWhole, IsSound}
 
--- One peer more.
-pub fresh_step :
-    {W : Type 0} (clients lag : ℕ) (world : W) (me n k : ℕ) → n ≡ suc k →
-    fresh_peers clients lag world me n ≡ fresh_peer me clients lag world ∷ fresh_peers clients lag world (me + 1) k
-fresh_step clients lag world me n k is = ap (fresh_peers clients lag world me) is
+-- One peer more: what is held and what is left are together all peers still.
+pub fresh_push :
+    {W : Type 0} (clients lag me : ℕ) (made world : W) (held held' all : List (PeerState W)) (peer : PeerState W) →
+    me < clients → world ≡ made → peer ≡ fresh_peer me clients lag world → held' ≡ held ++ peer ∷ [] →
+    held ++ fresh_peers clients lag made me (clients - me) ≡ all →
+    held' ++ fresh_peers clients lag made (me + 1) (clients - (me + 1)) ≡ all
+fresh_push {W} clients lag me made world held held' all peer below world_is peer_is held_is so_far =
+    let left : clients - me ≡ suc (clients - (me + 1)) = omega arith in
+    let rest : List (PeerState W) = fresh_peers clients lag made (me + 1) (clients - (me + 1)) in
+    ap (λ items. items ++ rest) held_is
+    ∙ append_assoc held (peer ∷ []) rest
+    ∙ ap (λ p. held ++ p ∷ rest) (peer_is ∙ ap (fresh_peer me clients lag) world_is)
+    ∙ ap (λ n. held ++ fresh_peers clients lag made me n) (sym left)
+    ∙ so_far
 
 length-fresh : {W : Type 0} (clients lag : ℕ) (world : W) (me n : ℕ) → length (fresh_peers clients lag world me n) ≡ n
 length-fresh clients lag world me zero = refl
@@ -48,6 +58,7 @@ opening_whole clients lag world =
       senders = tt;
       columned = length-copies clients no_column;
       boarded = length-copies clients [];
+      within = fresh_within clients;
       counted = length-fresh clients lag world 0 clients;
       numbered = numbered-fresh clients lag world 0 clients;
     }

@@ -1,26 +1,24 @@
 -- What runs of events print, over plain values.
 use Rattle.std.proofs.Common.{◌≡◌, ℕ, Bool, true, zero, suc, ◌+◌, ◌<◌, ◌≤◌, List, [], ◌∷◌, ◌++◌, length, map, drop, get_or, refl, sym, ap, ap₂, subst, ◌∙◌, arith, append-nil, append_assoc, add-one, drop-cons}
-use Rattle.std.specs.Prelude.{Option, Ok, Err}
+use Rattle.std.specs.Prelude.{Option, Result, Ok, Err, OnOk, OnErr}
 use Rattle.std.specs.List.{AllByRecursion, list_all}
 use Rattle.std.proofs.lemmas.Bool.{and_parts}
 use Rattle.base.specs.Told.{Wrote, WroteFront, WroteUpTo, nothing_yet, one_more, front_of, front_put}
 use Rattle.game_orders.specs.declared.entry.Entry.{Entry}
-use Rattle.frame_core.specs.declared.summary.Summary.{Summary}
 use Rattle.frame_core.specs.Column.{Column}
 use Rattle.frame_core.specs.World.{world_at}
 use Rattle.peer_core.specs.Peer.{PeerState}
 use Rattle.peer_core.specs.Faithful.{IsFaithful}
 use Rattle.server_core.specs.Server.{ServerState}
 use Rattle.drill.specs.declared.sent.Sent.{Sent}
-use Rattle.drill.specs.declared.event.Event.{Event}
+use Rattle.drill_words.specs.declared.event.Event.{Event}
 use Rattle.drill.specs.declared.outcome.Outcome.{Outcome}
-use Rattle.drill.specs.Text.{event_line, event_lines, peer_head, server_head, world_text, end_line}
+use Rattle.drill.specs.Text.{event_line, event_lines}
 use Rattle.drill.specs.Record.{Progress, outcome_of, after_event, after_events, outcomes}
-use Rattle.drill.specs.Report.{column_lines, alarm_lines, peer_lines, closing, hashes}
-use Rattle.drill.specs.Closing.{own_lines, own_closing}
-use Rattle.drill.specs.Left.{left_server, peers_from}
+use Rattle.drill.specs.Shown.{shown_server, shown_from}
+use Rattle.drill.specs.Report.{hashes}
 use Rattle.drill.specs.Stage.{reached_of, progress_of, AreNumbered, IsWhole, IsSound, Does}
-use Rattle.drill.specs.Run.{Prints, Breaks, Spills, Plays, PlaysAll, SoFar}
+use Rattle.drill.specs.Run.{Prints, Breaks, Plays, SoFar}
 
 -- Each event of a drill fits it.
 pub fits_at : {X : Type 0} (p : X → Bool) (xs : List X) (i : ℕ) (x : X) → list_all p xs ≡ true → i < length xs → x ≡ get_or xs i x → p x ≡ true
@@ -50,56 +48,52 @@ regroup first out text mid line line' rest whole mid_is line_is upto =
     ap (λ l. text ++ (l ++ rest)) line_is ∙ sym (append_assoc text line rest) ∙ ap (λ m. m ++ rest) (sym mid_is) in
     subst P same upto
 
--- All that is kept back was written.
-pub flush_spills :
-    (out out' : Option (List ℕ)) (text text' : List ℕ) → Wrote out out' text → text' ≡ [] → Spills out text out' text'
-flush_spills out out' text text' wrote empty first rest whole upto =
+-- All that is kept back was written, or a front of it.
+pub flush_prints :
+    {E : Type 0} (out out' : Option (List ℕ)) (text text' : List ℕ) (result : Result (Unit {0}) E) →
+    OnOk result (Wrote out out' text) → OnOk result (text' ≡ []) → OnOk result (Prints out text out' text' [])
+flush_prints out out' text text' (Ok done) wrote empty = λ first rest whole upto.
     let P : List ℕ → Type 0 = λ t. WroteUpTo first out' (t ++ rest) whole in
     subst P (sym empty) (one_more first out out' text rest whole upto wrote)
+flush_prints out out' text text' (Err fault) wrote empty = tt
 
-pub spills_nothing : (out : Option (List ℕ)) (text : List ℕ) → Spills out text out text
-spills_nothing out text first rest whole upto = upto
+pub prints_nothing : (out : Option (List ℕ)) (text : List ℕ) → Prints out text out text []
+prints_nothing out text first rest whole upto = upto
 
--- An event that happened and whose line was printed.
-pub play_ok :
+-- An event that happened, and whose line was printed or cut off.
+pub play_happened :
     {W E F : Type 0} (after : W → List Entry → W) (hash : W → ℕ) (clients lag number : ℕ) (event : Event) (sent sent' : List Sent) (server server' : ServerState W)
-    (peers peers' : List (PeerState W)) (out out' : Option (List ℕ)) (text mid text' : List ℕ) (outcome : Outcome) →
+    (peers peers' : List (PeerState W)) (out out' : Option (List ℕ)) (text mid text' : List ℕ) (outcome : Outcome) (result : Result (Unit {0}) E) →
     Does {E = F} after hash clients lag event sent server peers sent' server' peers' (Ok outcome) →
-    mid ≡ text ++ event_line number outcome → Spills out mid out' text' →
-    Plays {E = E} after hash clients lag number event sent server peers out text sent' server' peers' out' text' (Ok tt)
-play_ok after hash clients lag number event sent sent' server server' peers peers' out out' text mid text' outcome does mid_is spills =
+    mid ≡ text ++ event_line number outcome → OnOk result (Prints out mid out' text' []) → OnErr result (WroteFront out out' mid) →
+    Plays {E = E} after hash clients lag number (event ∷ []) sent server peers out text sent' server' peers' out' text' result
+play_happened after hash clients lag number event sent sent' server server' peers peers' out out' text mid text' outcome (Ok done) does mid_is prints cut =
     record {
       whole = does.whole;
       left = λ start sound. ((does.makes start sound).0.left, (does.makes start sound).1);
       printed = λ start sound first rest whole upto.
-          spills first rest whole
-          (regroup first out text mid (event_line number outcome) _ rest whole mid_is (ap (event_line number) (sym (does.makes start sound).0.came)) upto);
+          prints first rest whole
+          (regroup first out text mid (event_line number outcome) _ rest whole mid_is
+          (append-nil _ ∙ ap (event_line number) (sym (does.makes start sound).0.came)) upto);
       broken = tt;
     }
-
--- An event that happened and whose line was cut off.
-pub play_cut :
-    {W E F : Type 0} (after : W → List Entry → W) (hash : W → ℕ) (clients lag number : ℕ) (event : Event) (sent sent' : List Sent) (server server' : ServerState W)
-    (peers peers' : List (PeerState W)) (out out' : Option (List ℕ)) (text mid text' : List ℕ) (outcome : Outcome) (fault : E) →
-    Does {E = F} after hash clients lag event sent server peers sent' server' peers' (Ok outcome) →
-    mid ≡ text ++ event_line number outcome → WroteFront out out' mid →
-    Plays {E = E} after hash clients lag number event sent server peers out text sent' server' peers' out' text' (Err fault)
-play_cut after hash clients lag number event sent sent' server server' peers peers' out out' text mid text' outcome fault does mid_is cut =
+play_happened after hash clients lag number event sent sent' server server' peers peers' out out' text mid text' outcome (Err fault) does mid_is prints cut =
     record {
       whole = tt;
       left = tt;
       printed = tt;
       broken = λ start sound first rest whole upto.
           front_put first out out' mid rest whole
-          (regroup first out text mid (event_line number outcome) _ rest whole mid_is (ap (event_line number) (sym (does.makes start sound).0.came)) upto) cut;
+          (regroup first out text mid (event_line number outcome) _ rest whole mid_is
+          (append-nil _ ∙ ap (event_line number) (sym (does.makes start sound).0.came)) upto) cut;
     }
 
 -- Memory was wanting before anything was written.
 pub play_stopped :
-    {W E : Type 0} (after : W → List Entry → W) (hash : W → ℕ) (clients lag number : ℕ) (event : Event) (sent sent' : List Sent) (server server' : ServerState W)
+    {W E : Type 0} (after : W → List Entry → W) (hash : W → ℕ) (clients lag number : ℕ) (events : List Event) (sent sent' : List Sent) (server server' : ServerState W)
     (peers peers' : List (PeerState W)) (out : Option (List ℕ)) (text text' : List ℕ) (fault : E) →
-    Plays {E = E} after hash clients lag number event sent server peers out text sent' server' peers' out text' (Err fault)
-play_stopped after hash clients lag number event sent sent' server server' peers peers' out text text' fault =
+    Plays {E = E} after hash clients lag number events sent server peers out text sent' server' peers' out text' (Err fault)
+play_stopped after hash clients lag number events sent sent' server server' peers peers' out text text' fault =
     record {
       whole = tt;
       left = tt;
@@ -124,11 +118,14 @@ lines_step :
     (clients lag : ℕ) (hash_at : List Column → ℕ → ℕ) (number : ℕ) (now then : Progress) (event : Event) (left rest : List Event) (more : List ℕ) →
     left ≡ event ∷ rest → then ≡ after_event clients lag hash_at now event →
     event_lines number (outcomes clients lag hash_at now left) ++ more
-    ≡ event_line number (outcome_of clients lag hash_at now event) ++ (event_lines (number + 1) (outcomes clients lag hash_at then rest) ++ more)
+    ≡ event_lines number (outcomes clients lag hash_at now (event ∷ [])) ++ (event_lines (number + 1) (outcomes clients lag hash_at then rest) ++ more)
 lines_step clients lag hash_at number now then event left rest more left_is then_is =
     ap (λ events. event_lines number (outcomes clients lag hash_at now events) ++ more) left_is
-    ∙ ap (λ p. event_line number (outcome_of clients lag hash_at now event) ++ event_lines (number + 1) (outcomes clients lag hash_at p rest) ++ more) (sym then_is)
-    ∙ append_assoc (event_line number (outcome_of clients lag hash_at now event)) (event_lines (number + 1) (outcomes clients lag hash_at then rest)) more
+    ∙ ap (λ p. line ++ event_lines (number + 1) (outcomes clients lag hash_at p rest) ++ more) (sym then_is)
+    ∙ append_assoc line (event_lines (number + 1) (outcomes clients lag hash_at then rest)) more
+    ∙ ap (λ l. l ++ (event_lines (number + 1) (outcomes clients lag hash_at then rest) ++ more)) (sym (append-nil line)) where
+      line : List ℕ
+      line = event_line number (outcome_of clients lag hash_at now event)
 
 -- One event more is behind the run.
 pub so_far_step :
@@ -137,7 +134,7 @@ pub so_far_step :
     (sent sent' : List Sent) (server server' : ServerState W) (peers peers' : List (PeerState W)) (out out' : Option (List ℕ)) (text text' : List ℕ) →
     left ≡ event ∷ rest →
     SoFar after hash clients lag number left sent₀ server₀ peers₀ out₀ text₀ events sent server peers out text →
-    Plays {E = E} after hash clients lag number event sent server peers out text sent' server' peers' out' text' (Ok tt) →
+    Plays {E = E} after hash clients lag number (event ∷ []) sent server peers out text sent' server' peers' out' text' (Ok tt) →
     SoFar after hash clients lag (number + 1) rest sent₀ server₀ peers₀ out₀ text₀ events sent' server' peers' out' text'
 so_far_step after hash clients lag number event left rest sent₀ server₀ peers₀ out₀ text₀ events sent sent' server server' peers peers' out out' text text' left_is so_far plays =
     record {
@@ -163,8 +160,8 @@ pub so_far_broken :
     (sent sent' : List Sent) (server server' : ServerState W) (peers peers' : List (PeerState W)) (out out' : Option (List ℕ)) (text text' : List ℕ) (fault : E) →
     left ≡ event ∷ rest →
     SoFar after hash clients lag number left sent₀ server₀ peers₀ out₀ text₀ events sent server peers out text →
-    Plays {E = E} after hash clients lag number event sent server peers out text sent' server' peers' out' text' (Err fault) →
-    PlaysAll {E = E} after hash clients lag events sent₀ server₀ peers₀ out₀ text₀ sent' server' peers' out' text' (Err fault)
+    Plays {E = E} after hash clients lag number (event ∷ []) sent server peers out text sent' server' peers' out' text' (Err fault) →
+    Plays {E = E} after hash clients lag 0 events sent₀ server₀ peers₀ out₀ text₀ sent' server' peers' out' text' (Err fault)
 so_far_broken after hash clients lag number event left rest sent₀ server₀ peers₀ out₀ text₀ events sent sent' server server' peers peers' out out' text text' fault left_is so_far plays =
     record {
       whole = tt;
@@ -185,7 +182,7 @@ pub so_far_end :
     (sent₀ : List Sent) (server₀ : ServerState W) (peers₀ : List (PeerState W)) (out₀ : Option (List ℕ)) (text₀ : List ℕ) (events : List Event)
     (sent : List Sent) (server : ServerState W) (peers : List (PeerState W)) (out : Option (List ℕ)) (text : List ℕ) → left ≡ [] →
     SoFar after hash clients lag number left sent₀ server₀ peers₀ out₀ text₀ events sent server peers out text →
-    PlaysAll {E = E} after hash clients lag events sent₀ server₀ peers₀ out₀ text₀ sent server peers out text (Ok tt)
+    Plays {E = E} after hash clients lag 0 events sent₀ server₀ peers₀ out₀ text₀ sent server peers out text (Ok tt)
 so_far_end after hash clients lag number left sent₀ server₀ peers₀ out₀ text₀ events sent server peers out text left_is so_far =
     record {
       whole = so_far.whole;
@@ -200,15 +197,21 @@ so_far_end after hash clients lag number left sent₀ server₀ peers₀ out₀ 
       broken = tt;
     }
 
--- The last lines were printed.
+-- The last lines were printed, or a front of them.
 pub finish_prints :
-    (out out' : Option (List ℕ)) (text mid text' lines : List ℕ) → mid ≡ text ++ lines → Wrote out out' mid → text' ≡ [] → Prints out text out' text' lines
-finish_prints out out' text mid text' lines mid_is wrote empty first rest whole upto =
-    flush_spills out out' mid text' wrote empty first rest whole (regroup first out text mid lines lines rest whole mid_is refl upto)
+    {E : Type 0} (out out' : Option (List ℕ)) (text mid text' lines : List ℕ) (result : Result (Unit {0}) E) → mid ≡ text ++ lines →
+    OnOk result (Wrote out out' mid) → OnOk result (text' ≡ []) → OnOk result (Prints out text out' text' lines)
+finish_prints out out' text mid text' lines (Ok done) mid_is wrote empty = λ first rest whole upto.
+    let P : List ℕ → Type 0 = λ t. WroteUpTo first out' (t ++ rest) whole in
+    subst P (sym empty)
+    (one_more first out out' mid rest whole (regroup first out text mid lines lines rest whole mid_is refl upto) wrote)
+finish_prints out out' text mid text' lines (Err fault) mid_is wrote empty = tt
 
 pub finish_breaks :
-    (out out' : Option (List ℕ)) (text mid lines : List ℕ) → mid ≡ text ++ lines → WroteFront out out' mid → Breaks out text out' lines
-finish_breaks out out' text mid lines mid_is cut first rest whole upto =
+    {E : Type 0} (out out' : Option (List ℕ)) (text mid lines : List ℕ) (result : Result (Unit {0}) E) → mid ≡ text ++ lines →
+    OnErr result (WroteFront out out' mid) → OnErr result (Breaks out text out' lines)
+finish_breaks out out' text mid lines (Ok done) mid_is cut = tt
+finish_breaks out out' text mid lines (Err fault) mid_is cut = λ first rest whole upto.
     front_put first out out' mid rest whole (regroup first out text mid lines lines rest whole mid_is refl upto) cut
 
 pub stops_before : (out : Option (List ℕ)) (text lines : List ℕ) → Breaks out text out lines
@@ -244,38 +247,17 @@ run_broke_last out mid out' text lines last whole whole_is prints breaks =
     let all : whole ≡ lines ++ (last ++ []) = whole_is ∙ ap (λ l. lines ++ l) (sym (append-nil last)) in
     breaks out [] whole (prints out (last ++ []) whole (subst P all (nothing_yet out whole)))
 
-own_is :
-    {W : Type 0} (after : W → List Entry → W) (hash : W → ℕ) (summary : W → Summary) (start : W) (columns : List Column) (p : ℕ) (peers : List (PeerState W)) →
-    AllByRecursion (IsFaithful after start columns) peers →
-    own_lines hash summary p peers ≡ peer_lines hash summary (world_at after start columns) p (map reached_of peers)
-own_is after hash summary start columns p [] faithful = refl
-own_is after hash summary start columns p (peer ∷ peers) faithful =
-    ap₂ (λ w rest. peer_head p peer.ticked peer.sealed ++ world_text hash summary w ++ rest) faithful.0.at.is
-    (own_is after hash summary start columns (p + 1) peers faithful.1)
-
--- The closing lines of what is sound are those of its record.
-pub closing_is :
-    {W : Type 0} (after : W → List Entry → W) (hash : W → ℕ) (summary : W → Summary) (start : W) (sent : List Sent) (server : ServerState W) (peers : List (PeerState W)) →
-    IsSound after hash start server peers →
-    own_closing hash summary server peers ≡ closing hash summary (world_at after start server.columns) (progress_of sent server peers)
-closing_is after hash summary start sent server peers sound =
-    ap (λ lines. column_lines 0 server.columns ++ lines ++ server_head server.ticked ++ world_text hash summary server.world ++ alarm_lines server.marks 0 server.reports ++ end_line)
-    (own_is after hash summary start server.columns 0 peers sound.each)
-    ∙ ap₂ (λ w ms.
-    column_lines 0 server.columns ++ peer_lines hash summary (world_at after start server.columns) 0 (map reached_of peers)
-    ++ server_head server.ticked ++ world_text hash summary w ++ alarm_lines ms 0 server.reports ++ end_line)
-    sound.served.at.is sound.served.noted
-
+-- The server and the peers of what is sound are those that its record shows.
 pub server_is :
     {W : Type 0} (after : W → List Entry → W) (hash : W → ℕ) (start : W) (sent : List Sent) (server : ServerState W) (peers : List (PeerState W)) →
-    IsSound after hash start server peers → server ≡ left_server after hash start (progress_of sent server peers)
+    IsSound after hash start server peers → server ≡ shown_server after hash start (progress_of sent server peers)
 server_is after hash start sent server peers sound =
     ap₂ (λ ms w. record server { marks = ms; world = w }) sound.served.noted sound.served.at.is
 
 pub peers_are :
     {W : Type 0} (after : W → List Entry → W) (start : W) (columns : List Column) (clients lag number : ℕ) (peers : List (PeerState W)) →
     AreNumbered clients lag number peers → AllByRecursion (IsFaithful after start columns) peers →
-    peers ≡ peers_from clients lag (world_at after start columns) number (map reached_of peers)
+    peers ≡ shown_from clients lag (world_at after start columns) number (map reached_of peers)
 peers_are after start columns clients lag number [] numbered faithful = refl
 peers_are {W} after start columns clients lag number (peer ∷ peers) numbered faithful =
     ap₂ (λ p ps. p ∷ ps) peer_is (peers_are after start columns clients lag (number + 1) peers numbered.1 faithful.1) where

@@ -4,7 +4,7 @@ use Rattle.std.specs.Prelude.{Some, slice_get, slice_set}
 use Rattle.std.specs.List.{AllByRecursion}
 use Rattle.std.proofs.lemmas.List.{length-set, get_or-map}
 use Rattle.game_orders.specs.declared.entry.Entry.{Entry}
-use Rattle.order_packets.specs.declared.up.Up.{Up}
+use Rattle.drill.specs.declared.packet.Packet.{Packet}
 use Rattle.peer_core.specs.Peer.{PeerState}
 use Rattle.peer_core.specs.Faithful.{IsFaithful}
 use Rattle.server_core.specs.Server.{ServerState}
@@ -76,7 +76,7 @@ reached_at sent server peers p peer below is =
 
 -- The match is whole with one more packet of a client of it.
 pub send_whole :
-    {W : Type 0} (clients lag : ℕ) (sent : List Sent) (server : ServerState W) (peers : List (PeerState W)) (client : ℕ) (packet : Up) →
+    {W : Type 0} (clients lag : ℕ) (sent : List Sent) (server : ServerState W) (peers : List (PeerState W)) (client : ℕ) (packet : Packet) →
     IsWhole clients lag sent server peers → client < clients →
     IsWhole clients lag (sent ++ record { client = client; packet = packet } ∷ []) server peers
 send_whole clients lag sent server peers client packet whole below =
@@ -84,6 +84,7 @@ send_whole clients lag sent server peers client packet whole below =
       senders = all_append (λ s. s.client < clients) sent (record { client = client; packet = packet }) whole.senders below;
       columned = whole.columned;
       boarded = whole.boarded;
+      within = whole.within;
       counted = whole.counted;
       numbered = whole.numbered;
     }
@@ -97,6 +98,7 @@ peer_whole clients lag sent server peers p peer whole new =
       senders = whole.senders;
       columned = whole.columned;
       boarded = whole.boarded;
+      within = whole.within;
       counted = length-set peers p peer ∙ whole.counted;
       numbered = numbered_set clients lag 0 peers p peer whole.numbered (numbered_from p new);
     } where

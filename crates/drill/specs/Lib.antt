@@ -1,11 +1,8 @@
-pub mod Event
+pub mod Packet
 pub mod Text
 pub mod Record
+pub mod Shown
 pub mod Report
-pub mod Stage
-pub mod Lines
-pub mod Reading
 pub mod Opening
-pub mod Closing
+pub mod Stage
 pub mod Run
-pub mod Left

@@ -1,26 +1,26 @@
 -- The record of a drill: what its events have left, and what each of them came to. No world stands in it: a peer has
 -- what reached it and two counts, the server its columns and one.
-use Rattle.std.specs.Prelude.{ℕ, zero, suc, List, [], ◌∷◌, ◌++◌, replicate, Option, None, Some, Result, Ok, Err, slice_get, slice_set, slice_index_or, is_some, if◌then◌else◌}
-use Rattle.base.specs.Events.{state_after, answers}
+use Rattle.std.specs.Prelude.{ℕ, zero, suc, List, [], ◌∷◌, ◌++◌, replicate, Option, None, Some, Result, Ok, Err, slice_get, slice_set, slice_index_or, fold, is_some, if◌then◌else◌}
 use Rattle.game_orders.specs.declared.order.Order.{Order}
 use Rattle.game_orders.specs.declared.entry.Entry.{Entry}
-use Rattle.frame_core.specs.Column.{Column, no_column, column_of, entry_at, leave_answer}
+use Rattle.game_orders.specs.declared.entry.Entry.TheVariants.{Play}
+use Rattle.frame_core.specs.Column.{Column, no_column, column_of, entry_at, put_answer, leave_answer}
 use Rattle.frame_core.specs.Ready.{ready_at}
 use Rattle.frame_core.specs.Tick.{tick_answer, ticked_after}
-use Rattle.order_packets.specs.declared.up.Up.{Up}
-use Rattle.order_packets.specs.declared.up.Up.TheVariants.{Hello, Orders, Sync, Bye}
 use Rattle.peer_core.specs.declared.triple.Triple.{Triple}
 use Rattle.peer_core.specs.declared.seal_fault.SealFault.{SealFault}
 use Rattle.peer_core.specs.Triples.{ready_by, kept_at, with_triple}
 use Rattle.peer_core.specs.Peer.{seal_answer, sealed_after}
-use Rattle.server_core.specs.declared.up_answer.UpAnswer.{UpAnswer}
-use Rattle.server_core.specs.declared.up_answer.UpAnswer.TheVariants.{Entry as Put, Report as Heard, Bye as Left, Ignored as Useless}
-use Rattle.server_core.specs.Server.{columns_left, answer_to, columns_after, reports_with}
+use Rattle.server_core.specs.Board.{report_answer, reports_of}
+use Rattle.server_core.specs.Server.{columns_left, columns_after, reports_with}
+use Rattle.drill.specs.declared.packet.Packet.{Packet}
+use Rattle.drill.specs.declared.packet.Packet.TheVariants as packet
+use Rattle.drill.specs.Packet.{up_of}
 use Rattle.drill.specs.declared.sent.Sent.{Sent}
-use Rattle.drill.specs.declared.event.Event.{Event}
-use Rattle.drill.specs.declared.event.Event.TheVariants.{Seal, Up as Give, Down, Tick, TickServer, DropClient, Report, Forge, Bye as SendBye}
+use Rattle.drill_words.specs.declared.event.Event.{Event}
+use Rattle.drill_words.specs.declared.event.Event.TheVariants.{Seal, Up, Down, Tick, TickServer, DropClient, Report, Forge, Bye}
 use Rattle.drill.specs.declared.outcome.Outcome.{Outcome}
-use Rattle.drill.specs.declared.outcome.Outcome.TheVariants.{Sealed, NotSealed, NoPacket, Entered, Reported, Leaves, Ignored, NoEntry, Arrived, Repeated, Ticking, ReportSent, NoFrame, ByeSent}
+use Rattle.drill.specs.declared.outcome.Outcome.TheVariants.{Sealed, NotSealed, NoPacket, Entered, Reported, Leaves, NoEntry, Arrived, Repeated, Ticking, ReportSent, NoFrame, ByeSent}
 
 -- What reached a peer, and how many frames it ticked and sealed.
 pub record Reached : Type 0 where
@@ -72,7 +72,7 @@ seal_outcome (Err fault) = NotSealed fault
 
 -- A sealed frame is sent up, a refused one is not.
 abbrev pub sent_by : Result ℕ SealFault → ℕ → List Order → List Sent
-sent_by (Ok frame) p orders = record { client = p; packet = Orders frame orders } ∷ []
+sent_by (Ok frame) p orders = record { client = p; packet = packet.Orders frame orders } ∷ []
 sent_by (Err fault) p orders = []
 
 -- What a seal leaves: the packet that it sends, and the peer's count.
@@ -83,35 +83,27 @@ after_seal answer progress p orders =
       peers = slice_set progress.peers p (record (peer_at progress p) { sealed = sealed_after answer (peer_at progress p).sealed });
     }
 
--- The frame that a packet speaks of, or 0 where it speaks of none.
-abbrev pub frame_in : Up → ℕ
-frame_in (Hello version rules) = 0
-frame_in (Orders frame orders) = frame
-frame_in (Sync frame hash) = frame
-frame_in Bye = 0
+-- What a client's packet comes to at the server: orders are put as a play into the client's column, a report comes to the
+-- board, and a farewell lets the client leave.
+abbrev pub packet_outcome : List Column → List (List (Option ℕ)) → ℕ → Packet → Outcome
+packet_outcome columns reports client (packet.Orders frame orders) = Entered client frame (put_answer (column_of columns client) frame (Play orders))
+packet_outcome columns reports client (packet.Sync frame hash) = Reported client frame (report_answer (reports_of reports client) frame)
+packet_outcome columns reports client packet.Bye = Leaves client (leave_answer (column_of columns client))
 
--- What a server's answer to a client's packet comes to.
-abbrev pub answered : ℕ → ℕ → UpAnswer → Outcome
-answered client frame (Put put) = Entered client frame put
-answered client frame (Heard reported) = Reported client frame reported
-answered client frame (Left leaving) = Leaves client leaving
-answered client frame Useless = Ignored
-
--- What a packet comes to at the server, if there is one.
+-- The same of a packet that was sent, if it was.
 abbrev pub give_outcome : Option Sent → List Column → List (List (Option ℕ)) → Outcome
 give_outcome None columns reports = NoPacket
-give_outcome (Some sent) columns reports =
-    answered sent.client (frame_in sent.packet) (answer_to columns reports sent.client sent.packet)
+give_outcome (Some sent) columns reports = packet_outcome columns reports sent.client sent.packet
 
 -- The columns after that packet.
 abbrev pub give_columns : Option Sent → List Column → List Column
 give_columns None columns = columns
-give_columns (Some sent) columns = columns_after columns sent.client sent.packet
+give_columns (Some sent) columns = columns_after columns sent.client (up_of sent.packet)
 
 -- The kept reports after that packet.
 abbrev pub give_reports : Option Sent → List (List (Option ℕ)) → List (List (Option ℕ))
 give_reports None reports = reports
-give_reports (Some sent) reports = reports_with reports sent.client sent.packet
+give_reports (Some sent) reports = reports_with reports sent.client (up_of sent.packet)
 
 -- What the agreed entry of client c at frame n, if there is one, comes to at a peer with these triples: it is kept, if
 -- none is kept there already.
@@ -133,13 +125,13 @@ report_outcome (suc frame) = ReportSent frame
 -- The packet of that report.
 abbrev pub report_sent : (ℕ → ℕ) → ℕ → ℕ → List Sent
 report_sent hash_after p zero = []
-report_sent hash_after p (suc frame) = record { client = p; packet = Sync frame (hash_after (suc frame)) } ∷ []
+report_sent hash_after p (suc frame) = record { client = p; packet = packet.Sync frame (hash_after (suc frame)) } ∷ []
 
 -- What an event comes to, in a match of so many clients with this lag. `hash_at` tells the hash of the agreed world of
 -- some columns after some frames.
 abbrev pub outcome_of : ℕ → ℕ → (List Column → ℕ → ℕ) → Progress → Event → Outcome
 outcome_of clients lag hash_at progress (Seal p orders) = seal_outcome (sealing lag progress p)
-outcome_of clients lag hash_at progress (Give packet) = give_outcome (slice_get progress.sent packet) progress.columns progress.reports
+outcome_of clients lag hash_at progress (Up number) = give_outcome (slice_get progress.sent number) progress.columns progress.reports
 outcome_of clients lag hash_at progress (Down p c n) =
     down_outcome (entry_at (column_of progress.columns c) n) (peer_at progress p).triples c n
 outcome_of clients lag hash_at progress (Tick p) =
@@ -149,15 +141,15 @@ outcome_of clients lag hash_at progress TickServer =
 outcome_of clients lag hash_at progress (DropClient client) = Leaves client (leave_answer (column_of progress.columns client))
 outcome_of clients lag hash_at progress (Report p) = report_outcome (peer_at progress p).ticked
 outcome_of clients lag hash_at progress (Forge client frame hash) = ReportSent frame
-outcome_of clients lag hash_at progress (SendBye p) = ByeSent
+outcome_of clients lag hash_at progress (Bye p) = ByeSent
 
 -- What an event leaves.
 abbrev pub after_event : ℕ → ℕ → (List Column → ℕ → ℕ) → Progress → Event → Progress
 after_event clients lag hash_at progress (Seal p orders) = after_seal (sealing lag progress p) progress p orders
-after_event clients lag hash_at progress (Give packet) =
+after_event clients lag hash_at progress (Up number) =
     record progress {
-      columns = give_columns (slice_get progress.sent packet) progress.columns;
-      reports = give_reports (slice_get progress.sent packet) progress.reports;
+      columns = give_columns (slice_get progress.sent number) progress.columns;
+      reports = give_reports (slice_get progress.sent number) progress.reports;
     }
 after_event clients lag hash_at progress (Down p c n) =
     with_peer progress p
@@ -172,14 +164,16 @@ after_event clients lag hash_at progress (DropClient client) =
 after_event clients lag hash_at progress (Report p) =
     record progress { sent = progress.sent ++ report_sent (hash_at progress.columns) p (peer_at progress p).ticked }
 after_event clients lag hash_at progress (Forge client frame hash) =
-    record progress { sent = progress.sent ++ record { client = client; packet = Sync frame hash } ∷ [] }
-after_event clients lag hash_at progress (SendBye p) =
-    record progress { sent = progress.sent ++ record { client = p; packet = Bye } ∷ [] }
+    record progress { sent = progress.sent ++ record { client = client; packet = packet.Sync frame hash } ∷ [] }
+after_event clients lag hash_at progress (Bye p) =
+    record progress { sent = progress.sent ++ record { client = p; packet = packet.Bye } ∷ [] }
 
--- What all events leave.
+-- What all events leave, first to last.
 abbrev pub after_events : ℕ → ℕ → (List Column → ℕ → ℕ) → Progress → List Event → Progress
-after_events clients lag hash_at = state_after (after_event clients lag hash_at)
+after_events clients lag hash_at = fold (after_event clients lag hash_at)
 
--- What each event comes to.
+-- What each event comes to, in what the events before it left.
 abbrev pub outcomes : ℕ → ℕ → (List Column → ℕ → ℕ) → Progress → List Event → List Outcome
-outcomes clients lag hash_at = answers (after_event clients lag hash_at) (outcome_of clients lag hash_at)
+outcomes clients lag hash_at progress [] = []
+outcomes clients lag hash_at progress (event ∷ events) =
+    outcome_of clients lag hash_at progress event ∷ outcomes clients lag hash_at (after_event clients lag hash_at progress event) events

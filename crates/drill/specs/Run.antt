@@ -5,9 +5,9 @@ use Rattle.game_orders.specs.declared.entry.Entry.{Entry}
 use Rattle.peer_core.specs.Peer.{PeerState}
 use Rattle.server_core.specs.Server.{ServerState}
 use Rattle.drill.specs.declared.sent.Sent.{Sent}
-use Rattle.drill.specs.declared.event.Event.{Event}
-use Rattle.drill.specs.Text.{event_line, event_lines}
-use Rattle.drill.specs.Record.{outcome_of, after_event, after_events, outcomes}
+use Rattle.drill_words.specs.declared.event.Event.{Event}
+use Rattle.drill.specs.Text.{event_lines}
+use Rattle.drill.specs.Record.{after_events, outcomes}
 use Rattle.drill.specs.Report.{hashes}
 use Rattle.drill.specs.Stage.{progress_of, IsWhole, IsSound}
 
@@ -24,31 +24,9 @@ Breaks out text out' lines =
     (first : Option (List ℕ)) (rest whole : List ℕ) →
     WroteUpTo first out (text ++ (lines ++ rest)) whole → WroteFront first out' whole
 
--- All or nothing of the text that is kept back was written.
-abbrev pub Spills : Option (List ℕ) → List ℕ → Option (List ℕ) → List ℕ → Type 0
-Spills out text out' text' =
-    (first : Option (List ℕ)) (rest whole : List ℕ) →
-    WroteUpTo first out (text ++ rest) whole → WroteUpTo first out' (text' ++ rest) whole
-
--- One event: the stage becomes what the record says, and its line is printed.
-pub record Plays {W E : Type 0} (after : W → List Entry → W) (hash : W → ℕ) (clients lag number : ℕ) (event : Event) (sent : List Sent) (server : ServerState W) (peers : List (PeerState W)) (out : Option (List ℕ)) (text : List ℕ) (sent' : List Sent) (server' : ServerState W) (peers' : List (PeerState W)) (out' : Option (List ℕ)) (text' : List ℕ) (result : Result (Unit {0}) E) : Type 0 where
-  pub whole : OnOk result (IsWhole clients lag sent' server' peers')
-  pub left :
-      OnOk result
-      ((start : W) → IsSound after hash start server peers →
-      (progress_of sent' server' peers' ≡ after_event clients lag (hashes after hash start) (progress_of sent server peers) event)
-      × IsSound after hash start server' peers')
-  pub printed :
-      OnOk result
-      ((start : W) → IsSound after hash start server peers →
-      Prints out text out' text' (event_line number (outcome_of clients lag (hashes after hash start) (progress_of sent server peers) event)))
-  pub broken :
-      OnErr result
-      ((start : W) → IsSound after hash start server peers →
-      Breaks out text out' (event_line number (outcome_of clients lag (hashes after hash start) (progress_of sent server peers) event)))
-
--- All events, in the same way. Their lines are numbered from 0.
-pub record PlaysAll {W E : Type 0} (after : W → List Entry → W) (hash : W → ℕ) (clients lag : ℕ) (events : List Event) (sent : List Sent) (server : ServerState W) (peers : List (PeerState W)) (out : Option (List ℕ)) (text : List ℕ) (sent' : List Sent) (server' : ServerState W) (peers' : List (PeerState W)) (out' : Option (List ℕ)) (text' : List ℕ) (result : Result (Unit {0}) E) : Type 0 where
+-- These events happen, and their lines are numbered from this number on: the stage becomes what the record says, and the
+-- lines are printed.
+pub record Plays {W E : Type 0} (after : W → List Entry → W) (hash : W → ℕ) (clients lag number : ℕ) (events : List Event) (sent : List Sent) (server : ServerState W) (peers : List (PeerState W)) (out : Option (List ℕ)) (text : List ℕ) (sent' : List Sent) (server' : ServerState W) (peers' : List (PeerState W)) (out' : Option (List ℕ)) (text' : List ℕ) (result : Result (Unit {0}) E) : Type 0 where
   pub whole : OnOk result (IsWhole clients lag sent' server' peers')
   pub left :
       OnOk result
@@ -58,11 +36,11 @@ pub record PlaysAll {W E : Type 0} (after : W → List Entry → W) (hash : W �
   pub printed :
       OnOk result
       ((start : W) → IsSound after hash start server peers →
-      Prints out text out' text' (event_lines 0 (outcomes clients lag (hashes after hash start) (progress_of sent server peers) events)))
+      Prints out text out' text' (event_lines number (outcomes clients lag (hashes after hash start) (progress_of sent server peers) events)))
   pub broken :
       OnErr result
       ((start : W) → IsSound after hash start server peers →
-      Breaks out text out' (event_lines 0 (outcomes clients lag (hashes after hash start) (progress_of sent server peers) events)))
+      Breaks out text out' (event_lines number (outcomes clients lag (hashes after hash start) (progress_of sent server peers) events)))
 
 -- What holds of a run when some events are behind it and these are left.
 pub record SoFar {W : Type 0} (after : W → List Entry → W) (hash : W → ℕ) (clients lag number : ℕ) (left : List Event) (sent₀ : List Sent) (server₀ : ServerState W) (peers₀ : List (PeerState W)) (out₀ : Option (List ℕ)) (text₀ : List ℕ) (events : List Event) (sent : List Sent) (server : ServerState W) (peers : List (PeerState W)) (out : Option (List ℕ)) (text : List ℕ) : Type 0 where

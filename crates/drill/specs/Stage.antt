@@ -2,14 +2,15 @@
 use Rattle.std.specs.Prelude.{◌≡◌, ℕ, ◌+◌, ◌<◌, List, [], ◌∷◌, length, map, Result, IfOk, OnOk}
 use Rattle.std.specs.List.{AllByRecursion}
 use Rattle.game_orders.specs.declared.entry.Entry.{Entry}
+use Rattle.frame_core.specs.Column.{IsWithinFrames}
 use Rattle.peer_core.specs.declared.delivered.Delivered.{Delivered}
-use Rattle.peer_core.specs.declared.delivered.Delivered.TheVariants.{Kept, Repeat as Again, Conflict, Past, Beyond}
+use Rattle.peer_core.specs.declared.delivered.Delivered.TheVariants.{Kept, Repeat, Conflict, Past, Beyond}
 use Rattle.peer_core.specs.Peer.{PeerState}
 use Rattle.peer_core.specs.Faithful.{IsFaithful}
 use Rattle.server_core.specs.Server.{ServerState}
 use Rattle.server_core.specs.Served.{IsServed}
 use Rattle.drill.specs.declared.sent.Sent.{Sent}
-use Rattle.drill.specs.declared.event.Event.{Event}
+use Rattle.drill_words.specs.declared.event.Event.{Event}
 use Rattle.drill.specs.declared.outcome.Outcome.{Outcome}
 use Rattle.drill.specs.declared.outcome.Outcome.TheVariants.{Arrived, Repeated}
 use Rattle.drill.specs.Record.{Reached, Progress, outcome_of, after_event}
@@ -30,10 +31,11 @@ progress_of sent server peers =
       ticked = server.ticked;
     }
 
--- What a delivery comes to where the entry is agreed: all but `Kept` is a repetition.
+-- What a delivery comes to where the entry is agreed: `Kept` is an arrival and `Repeat` is a repetition. The last three
+-- never come for an agreed entry.
 abbrev pub arrival_of : ℕ → ℕ → Delivered → Outcome
 arrival_of client frame Kept = Arrived client frame
-arrival_of client frame Again = Repeated client frame
+arrival_of client frame Repeat = Repeated client frame
 arrival_of client frame (Conflict kept) = Repeated client frame
 arrival_of client frame (Past at) = Repeated client frame
 arrival_of client frame Beyond = Repeated client frame
@@ -49,11 +51,13 @@ abbrev pub AreNumbered : {W : Type 0} → ℕ → ℕ → ℕ → List (PeerStat
 AreNumbered clients lag number [] = Unit {0}
 AreNumbered clients lag number (peer ∷ rest) = IsNumbered clients lag number peer × AreNumbered clients lag (number + 1) rest
 
--- The server and the peers are those of a match of so many clients with this lag.
+-- The server and the peers are those of a match of so many clients with this lag, and no column is longer than a match
+-- may be.
 pub record IsWhole {W : Type 0} (clients lag : ℕ) (sent : List Sent) (server : ServerState W) (peers : List (PeerState W)) : Type 0 where
   pub senders : AllByRecursion (λ packet. packet.client < clients) sent
   pub columned : length server.columns ≡ clients
   pub boarded : length server.reports ≡ clients
+  pub within : AllByRecursion IsWithinFrames server.columns
   pub counted : length peers ≡ clients
   pub numbered : AreNumbered clients lag 0 peers
 

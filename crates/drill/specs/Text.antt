@@ -7,14 +7,14 @@ use Rattle.frame_core.specs.declared.tick_answer.TickAnswer.{TickAnswer}
 use Rattle.frame_core.specs.declared.tick_answer.TickAnswer.TheVariants.{Ticked, NotYet, Over}
 use Rattle.frame_core.specs.declared.summary.Summary.{Summary}
 use Rattle.frame_core.specs.declared.leaving.Leaving.{Leaving}
-use Rattle.frame_core.specs.declared.leaving.Leaving.TheVariants.{Already, Fixed as FixedAt}
+use Rattle.frame_core.specs.declared.leaving.Leaving.TheVariants as leave
 use Rattle.server_core.specs.declared.reported.Reported.{Reported as ReportAnswer}
-use Rattle.server_core.specs.declared.reported.Reported.TheVariants.{Kept as First, Repeat as Second, Beyond as TooFar}
+use Rattle.server_core.specs.declared.reported.Reported.TheVariants as report
 use Rattle.server_core.specs.declared.alarm.Alarm.{Alarm}
 use Rattle.peer_core.specs.declared.seal_fault.SealFault.{SealFault}
 use Rattle.peer_core.specs.declared.seal_fault.SealFault.TheVariants.{TooEarly, LeftAlready, MatchFull}
 use Rattle.drill.specs.declared.outcome.Outcome.{Outcome}
-use Rattle.drill.specs.declared.outcome.Outcome.TheVariants.{Sealed, NotSealed, NoPacket, Entered, Reported, Leaves, Ignored, NoEntry, Arrived, Repeated, Ticking, ReportSent, NoFrame, ByeSent}
+use Rattle.drill.specs.declared.outcome.Outcome.TheVariants.{Sealed, NotSealed, NoPacket, Entered, Reported, Leaves, NoEntry, Arrived, Repeated, Ticking, ReportSent, NoFrame, ByeSent}
 
 -- A digit 0 to 15, in lower case.
 abbrev pub hex_digit : ℕ → ℕ
@@ -50,14 +50,14 @@ put_text client frame Full = codes "full " ++ decimal client
 
 -- What the board answered to a report.
 abbrev pub reported_text : ℕ → ℕ → ReportAnswer → List ℕ
-reported_text client frame First = place_text (codes "report") client frame
-reported_text client frame Second = place_text (codes "report repeated") client frame
-reported_text client frame TooFar = place_text (codes "report beyond") client frame
+reported_text client frame report.Kept = place_text (codes "report") client frame
+reported_text client frame report.Repeat = place_text (codes "report repeated") client frame
+reported_text client frame report.Beyond = place_text (codes "report beyond") client frame
 
 -- What a column answered to a departure.
 abbrev pub leaving_text : ℕ → Leaving → List ℕ
-leaving_text client (FixedAt at) = place_text (codes "leave") client at
-leaving_text client (Already at) = place_text (codes "already") client at
+leaving_text client (leave.Fixed at) = place_text (codes "leave") client at
+leaving_text client (leave.Already at) = place_text (codes "already") client at
 
 -- What the tick of a peer or of the server answered.
 abbrev pub tick_text : TickAnswer → List ℕ
@@ -73,7 +73,6 @@ outcome_text NoPacket = codes "no packet"
 outcome_text (Entered client frame put) = put_text client frame put
 outcome_text (Reported client frame reported) = reported_text client frame reported
 outcome_text (Leaves client leaving) = leaving_text client leaving
-outcome_text Ignored = codes "ignored"
 outcome_text NoEntry = codes "no entry"
 outcome_text (Arrived client frame) = place_text (codes "kept") client frame
 outcome_text (Repeated client frame) = place_text (codes "repeat") client frame

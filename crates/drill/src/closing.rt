@@ -1,8 +1,7 @@
 //! The lines behind the events.
 ghost use Rattle.std.specs.Prelude.{◌≡◌, ◌<◌, ◌≤◌, ◌++◌, string_bytes, length, OnOk};
 ghost use Rattle.server_core.specs.Board.{reports_of, alarm_from};
-ghost use Rattle.drill.specs.Report.{column_lines, alarm_text, alarm_lines};
-ghost use Rattle.drill.specs.Closing.{own_lines, own_closing};
+ghost use Rattle.drill.specs.Report.{column_lines, peer_lines, alarm_text, alarm_lines, closing};
 
 use crate::text::{
     add_alarm_line, add_column_line, add_end_line, add_peer_head, add_server_head, add_world,
@@ -20,7 +19,7 @@ pub(crate) fn add_closing<S: Sim>(
     peers: &[Peer<S>],
 ) -> Result<(), NoMemory>
     requires { length peers.now ≤ MAX_CLIENTS }
-    ensures { OnOk result (string_bytes text.new ≡ string_bytes text.old ++ own_closing S.hash_of S.summary_of server.now peers.now) }
+    ensures { OnOk result (string_bytes text.new ≡ string_bytes text.old ++ closing S.hash_of S.summary_of server.now peers.now) }
 {
     add_columns(text, server.columns())?;
     add_peers(text, peers)?;
@@ -43,7 +42,7 @@ fn add_columns(text: &mut String, columns: &Columns) -> Result<(), NoMemory>
 /// Adds the line of each peer.
 fn add_peers<S: Sim>(text: &mut String, peers: &[Peer<S>]) -> Result<(), NoMemory>
     requires { length peers.now ≤ MAX_CLIENTS }
-    ensures { OnOk result (string_bytes text.new ≡ string_bytes text.old ++ own_lines S.hash_of S.summary_of 0 peers.now) }
+    ensures { OnOk result (string_bytes text.new ≡ string_bytes text.old ++ peer_lines S.hash_of S.summary_of 0 peers.now) }
 {
     for (p, peer) in peers.iter().enumerate() {
         add_peer_head(text, p as u8, peer.ticked(), peer.sealed())?;

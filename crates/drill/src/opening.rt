@@ -12,7 +12,6 @@ use server_core::Server;
 use std::alloc::Global;
 
 /// The peers of 1 to `MAX_CLIENTS` clients, each with a world that the maker makes.
-#[tactic(auto, using(crate::proofs::OpeningLemmas::fresh_step))]
 fn open_peers<M: Maker>(
     alloc: Global,
     maker: &M,

@@ -36,8 +36,6 @@ pub enum Outcome {
         /// What the client's column answered.
         leaving: Leaving,
     },
-    /// The server has no use for the packet. No event of a drill sends such a packet.
-    Ignored,
     /// The server's column has no entry there.
     NoEntry,
     /// An agreed entry reached the peer, which keeps it.
@@ -60,6 +58,6 @@ pub enum Outcome {
     ReportSent(u32),
     /// The peer has ticked no frame to report on.
     NoFrame,
-    /// A departure was sent up.
+    /// A farewell was sent up.
     ByeSent,
 }

@@ -1,27 +1,24 @@
 //! Runs drills.
-ghost use Rattle.std.specs.Prelude.{◌≡◌, ◌<◌, ◌≤◌, ◌++◌, [], true, string_bytes, length, IfOk, OnOk, OnErr, IsErrOf};
+ghost use Rattle.std.specs.Prelude.{◌≡◌, ◌<◌, ◌≤◌, ◌++◌, [], ◌∷◌, true, string_bytes, length, IfOk, OnOk, OnErr, IsErrOf};
 ghost use Rattle.std.specs.List.{list_all};
 ghost use Rattle.base.specs.Cause.{Rose};
 ghost use Rattle.base.specs.Told.{Wrote, WroteFront};
 ghost use Rattle.frame_core.specs.World.{world_at};
 ghost use Rattle.server_core.specs.Server.{ServerState};
-ghost use Rattle.drill.specs.Event.{event_fits};
-ghost use Rattle.drill.specs.Report.{report, final};
+ghost use Rattle.drill_words.specs.Event.{event_fits};
+ghost use Rattle.drill.specs.Report.{report, final, closing};
 ghost use Rattle.drill.specs.Stage.{IsWhole};
-ghost use Rattle.drill.specs.Run.{Prints, Breaks, Spills, Plays, PlaysAll};
-ghost use Rattle.drill.specs.Left.{left_server, left_peers};
-ghost use Rattle.drill.specs.Closing.{own_closing};
+ghost use Rattle.drill.specs.Run.{Prints, Breaks, Plays};
+ghost use Rattle.drill.specs.Shown.{shown_server, shown_peers};
 
 use crate::closing::add_closing;
-use crate::drill_file::Drill;
 use crate::drilled::Drilled;
-use crate::event::Event;
-use crate::limits::MAX_EVENTS;
 use crate::opening::open;
 use crate::peers::Peers;
 use crate::run_fault::RunFault;
 use crate::stage::Stage;
 use crate::text::add_event_line;
+use drill_words::{Drill, Event, MAX_EVENTS};
 use frame_core::{Maker, Sim};
 use game_io::Sink;
 use game_orders::MAX_CLIENTS;
@@ -33,8 +30,9 @@ const PIECE: usize = 65_536;
 /// Runs a drill, and writes its report: a line for each event as it happens, then a line for each client's column, for
 /// each peer, for the server and for each alarm, and `end`.
 ///
-/// Every world is made by the maker, from the drill's seed, and stepped by itself. `Err` with `Write` only where the
-/// sink's count of faults rose, or with `NoMemory`; the sink then got a front of the report.
+/// Every world is made by the maker from the drill's seed and number of clients. What is handed back is as the events left
+/// it: the world of the server and that of each peer is the agreed world after its own ticked frames. `Err` with `Write`
+/// only where the sink's count of faults rose, or with `NoMemory`; the sink then got a front of the report.
 pub fn run_drill<M: Maker, K: Sink>(
     alloc: Global,
     d: &Drill,
@@ -53,9 +51,9 @@ pub fn run_drill<M: Maker, K: Sink>(
     ensures columns { IfOk result (λ left. length left.server.columns ≡ d.now.clients) }
 
     // What it hands back is what the record says, and each world is the agreed world of its own ticked frames.
-    ensures server { IfOk result (λ left. left.server ≡ left_server M.World.after M.World.hash_of (M.made maker.now d.now.seed d.now.clients)
+    ensures server { IfOk result (λ left. left.server ≡ shown_server M.World.after M.World.hash_of (M.made maker.now d.now.seed d.now.clients)
         (final M.World.after M.World.hash_of (M.made maker.now d.now.seed d.now.clients) d.now.clients d.now.lag d.now.events)) }
-    ensures peers { IfOk result (λ left. left.peers ≡ left_peers M.World.after (M.made maker.now d.now.seed d.now.clients) d.now.clients d.now.lag
+    ensures peers { IfOk result (λ left. left.peers ≡ shown_peers M.World.after (M.made maker.now d.now.seed d.now.clients) d.now.clients d.now.lag
         (final M.World.after M.World.hash_of (M.made maker.now d.now.seed d.now.clients) d.now.clients d.now.lag d.now.events)) }
 {
     let Ok(mut stage) = open(alloc, maker, d.seed, d.clients, d.lag) else {
@@ -87,7 +85,7 @@ fn play_all<W: Sim, K: Sink>(
     requires few { length events.now ≤ MAX_EVENTS }
     ensures clients { stage.new.clients ≡ stage.old.clients }
     ensures lag { stage.new.lag ≡ stage.old.lag }
-    ensures plays { PlaysAll W.after W.hash_of stage.old.clients stage.old.lag events.now stage.old.sent.items stage.old.server stage.old.peers.items (K.written out.old) (string_bytes text.old)
+    ensures plays { Plays W.after W.hash_of stage.old.clients stage.old.lag 0 events.now stage.old.sent.items stage.old.server stage.old.peers.items (K.written out.old) (string_bytes text.old)
         stage.new.sent.items stage.new.server stage.new.peers.items (K.written out.new) (string_bytes text.new) result }
     ensures later { K.faults out.old ≤ K.faults out.new }
     ensures failed { IsErrOf result RunFault.Write → Rose (K.faults out.old) (K.faults out.new) }
@@ -112,7 +110,7 @@ fn play<W: Sim, K: Sink>(
     requires fits { event_fits stage.old.clients event.now ≡ true }
     ensures clients { stage.new.clients ≡ stage.old.clients }
     ensures lag { stage.new.lag ≡ stage.old.lag }
-    ensures plays { Plays W.after W.hash_of stage.old.clients stage.old.lag number event.now stage.old.sent.items stage.old.server stage.old.peers.items (K.written out.old) (string_bytes text.old)
+    ensures plays { Plays W.after W.hash_of stage.old.clients stage.old.lag number (event.now ∷ []) stage.old.sent.items stage.old.server stage.old.peers.items (K.written out.old) (string_bytes text.old)
         stage.new.sent.items stage.new.server stage.new.peers.items (K.written out.new) (string_bytes text.new) result }
     ensures later { K.faults out.old ≤ K.faults out.new }
     ensures failed { IsErrOf result RunFault.Write → Rose (K.faults out.old) (K.faults out.new) }
@@ -123,15 +121,12 @@ fn play<W: Sim, K: Sink>(
     let Ok(()) = add_event_line(text, number, &outcome) else {
         return Err(RunFault::NoMemory);
     };
-    if let Err(fault) = spill(text, out) {
-        return Err(fault);
-    }
-    Ok(())
+    spill(text, out)
 }
 
 /// Writes the text that is kept back, if it is a piece.
 fn spill<K: Sink>(text: &mut String, out: &mut K) -> Result<(), RunFault>
-    ensures spills { OnOk result (Spills (K.written out.old) (string_bytes text.old) (K.written out.new) (string_bytes text.new)) }
+    ensures printed { OnOk result (Prints (K.written out.old) (string_bytes text.old) (K.written out.new) (string_bytes text.new) []) }
     ensures front { OnErr result (WroteFront (K.written out.old) (K.written out.new) (string_bytes text.old)) }
     ensures later { K.faults out.old ≤ K.faults out.new }
     ensures failed { OnErr result (Rose (K.faults out.old) (K.faults out.new)) }
@@ -139,10 +134,7 @@ fn spill<K: Sink>(text: &mut String, out: &mut K) -> Result<(), RunFault>
     if text.len() < PIECE {
         return Ok(());
     }
-    if let Err(fault) = flush(text, out) {
-        return Err(fault);
-    }
-    Ok(())
+    flush(text, out)
 }
 
 /// Prints the closing lines, and all that is kept back.
@@ -150,20 +142,17 @@ fn finish<W: Sim, K: Sink>(stage: &Stage<W>, text: &mut String, out: &mut K) -> 
     requires whole { IsWhole stage.now.clients stage.now.lag stage.now.sent.items stage.now.server stage.now.peers.items }
     requires most { stage.now.clients ≤ MAX_CLIENTS }
     ensures printed { OnOk result (Prints (K.written out.old) (string_bytes text.old) (K.written out.new) (string_bytes text.new)
-        (own_closing W.hash_of W.summary_of stage.now.server stage.now.peers.items)) }
+        (closing W.hash_of W.summary_of stage.now.server stage.now.peers.items)) }
     ensures empty { OnOk result (string_bytes text.new ≡ []) }
     ensures broken { OnErr result (Breaks (K.written out.old) (string_bytes text.old) (K.written out.new)
-        (own_closing W.hash_of W.summary_of stage.now.server stage.now.peers.items)) }
+        (closing W.hash_of W.summary_of stage.now.server stage.now.peers.items)) }
     ensures later { K.faults out.old ≤ K.faults out.new }
     ensures failed { IsErrOf result RunFault.Write → Rose (K.faults out.old) (K.faults out.new) }
 {
     let Ok(()) = add_closing(text, &stage.server, &stage.peers) else {
         return Err(RunFault::NoMemory);
     };
-    if let Err(fault) = flush(text, out) {
-        return Err(fault);
-    }
-    Ok(())
+    flush(text, out)
 }
 
 /// Writes the text that is kept back.

@@ -1,4 +1,4 @@
-use order_packets::Up;
+use crate::packet::Packet;
 
 /// A packet that was sent up.
 #[derive(Debug, Drop)]
@@ -6,5 +6,5 @@ pub struct Sent {
     /// The client that sent it.
     pub client: u8,
     /// The packet.
-    pub packet: Up,
+    pub packet: Packet,
 }

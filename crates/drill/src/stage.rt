@@ -1,15 +1,17 @@
 //! The server and the peers of a running drill, and what each event does to them.
-ghost use Rattle.std.specs.Prelude.{◌≡◌, ◌<◌, true, slice_get};
+ghost use Rattle.std.specs.Prelude.{◌≡◌, ◌<◌, true, slice_get, length, IfOk, OnOk};
 ghost use Rattle.std.specs.Option.{option_copied};
-ghost use Rattle.drill.specs.Event.{event_fits};
-ghost use Rattle.drill.specs.Record.{frame_in, answered};
-ghost use Rattle.drill.specs.declared.event.Event.TheVariants.{Seal, Up as Give, Down, Tick, TickServer, DropClient, Report, Forge, Bye as SendBye};
+ghost use Rattle.drill_words.specs.Event.{event_fits};
+ghost use Rattle.server_core.specs.Server.{told_server};
+ghost use Rattle.drill.specs.Packet.{up_of};
+ghost use Rattle.drill.specs.Record.{packet_outcome};
 ghost use Rattle.drill.specs.Stage.{arrival_of, IsWhole, Does};
 
-use crate::event::Event;
 use crate::outcome::Outcome;
+use crate::packet::Packet;
 use crate::sent::Sent;
 use base::NoMemory;
+use drill_words::Event;
 use frame_core::Sim;
 use game_orders::Orders;
 use order_packets::Up;
@@ -68,14 +70,14 @@ impl<W: Sim> Stage<W> {
         requires own { p < self.old.clients }
         ensures clients { self.new.clients ≡ self.old.clients }
         ensures lag { self.new.lag ≡ self.old.lag }
-        ensures does { Does W.after W.hash_of self.old.clients self.old.lag (Seal p orders.now) self.old.sent.items self.old.server self.old.peers.items
+        ensures does { Does W.after W.hash_of self.old.clients self.old.lag (Event.Seal p orders.now) self.old.sent.items self.old.server self.old.peers.items
             self.new.sent.items self.new.server self.new.peers.items result }
     {
         let peer = &mut self.peers[p as usize];
         match peer.seal() {
             Ok(frame) => {
                 let orders = orders.copy();
-                let packet = Up::Orders { frame, orders };
+                let packet = Packet::Orders { frame, orders };
                 self.sent.push(Sent { client: p, packet })?;
                 Ok(Outcome::Sealed(frame))
             }
@@ -84,18 +86,17 @@ impl<W: Sim> Stage<W> {
     }
 
     /// The server gets the packet of this number.
-    fn give(&mut self, packet: u32) -> Result<Outcome, NoMemory>
+    fn give(&mut self, number: u32) -> Result<Outcome, NoMemory>
         requires whole { IsWhole self.old.clients self.old.lag self.old.sent.items self.old.server self.old.peers.items }
         ensures clients { self.new.clients ≡ self.old.clients }
         ensures lag { self.new.lag ≡ self.old.lag }
-        ensures does { Does W.after W.hash_of self.old.clients self.old.lag (Give packet) self.old.sent.items self.old.server self.old.peers.items
+        ensures does { Does W.after W.hash_of self.old.clients self.old.lag (Event.Up number) self.old.sent.items self.old.server self.old.peers.items
             self.new.sent.items self.new.server self.new.peers.items result }
     {
-        let Some(sent) = sent_at(&self.sent, packet) else {
+        let Some(sent) = sent_at(&self.sent, number) else {
             return Ok(Outcome::NoPacket);
         };
-        let answer = self.server.up(sent.client, &sent.packet)?;
-        Ok(answered(sent.client, frame_in(&sent.packet), answer))
+        take_packet(&mut self.server, sent.client, &sent.packet)
     }
 
     /// Peer `p` gets the agreed entry of client `c` at frame `n`.
@@ -105,11 +106,10 @@ impl<W: Sim> Stage<W> {
         requires other { c < self.old.clients }
         ensures clients { self.new.clients ≡ self.old.clients }
         ensures lag { self.new.lag ≡ self.old.lag }
-        ensures does { Does W.after W.hash_of self.old.clients self.old.lag (Down p c n) self.old.sent.items self.old.server self.old.peers.items
+        ensures does { Does W.after W.hash_of self.old.clients self.old.lag (Event.Down p c n) self.old.sent.items self.old.server self.old.peers.items
             self.new.sent.items self.new.server self.new.peers.items result }
     {
         let columns = self.server.columns();
-        let _length = columns.plays(c);
         let Some(entry) = columns.entry(c, n) else {
             return Ok(Outcome::NoEntry);
         };
@@ -125,7 +125,7 @@ impl<W: Sim> Stage<W> {
         requires own { p < self.old.clients }
         ensures clients { self.new.clients ≡ self.old.clients }
         ensures lag { self.new.lag ≡ self.old.lag }
-        ensures does { Does W.after W.hash_of self.old.clients self.old.lag (Tick p) self.old.sent.items self.old.server self.old.peers.items
+        ensures does { Does W.after W.hash_of self.old.clients self.old.lag (Event.Tick p) self.old.sent.items self.old.server self.old.peers.items
             self.new.sent.items self.new.server self.new.peers.items result }
     {
         let peer = &mut self.peers[p as usize];
@@ -138,7 +138,7 @@ impl<W: Sim> Stage<W> {
         requires whole { IsWhole self.old.clients self.old.lag self.old.sent.items self.old.server self.old.peers.items }
         ensures clients { self.new.clients ≡ self.old.clients }
         ensures lag { self.new.lag ≡ self.old.lag }
-        ensures does { Does W.after W.hash_of self.old.clients self.old.lag TickServer self.old.sent.items self.old.server self.old.peers.items
+        ensures does { Does W.after W.hash_of self.old.clients self.old.lag Event.TickServer self.old.sent.items self.old.server self.old.peers.items
             self.new.sent.items self.new.server self.new.peers.items result }
     {
         let answer = self.server.tick()?;
@@ -151,7 +151,7 @@ impl<W: Sim> Stage<W> {
         requires other { c < self.old.clients }
         ensures clients { self.new.clients ≡ self.old.clients }
         ensures lag { self.new.lag ≡ self.old.lag }
-        ensures does { Does W.after W.hash_of self.old.clients self.old.lag (DropClient c) self.old.sent.items self.old.server self.old.peers.items
+        ensures does { Does W.after W.hash_of self.old.clients self.old.lag (Event.DropClient c) self.old.sent.items self.old.server self.old.peers.items
             self.new.sent.items self.new.server self.new.peers.items result }
     {
         let leaving = self.server.drop_client(c);
@@ -164,7 +164,7 @@ impl<W: Sim> Stage<W> {
         requires own { p < self.old.clients }
         ensures clients { self.new.clients ≡ self.old.clients }
         ensures lag { self.new.lag ≡ self.old.lag }
-        ensures does { Does W.after W.hash_of self.old.clients self.old.lag (Report p) self.old.sent.items self.old.server self.old.peers.items
+        ensures does { Does W.after W.hash_of self.old.clients self.old.lag (Event.Report p) self.old.sent.items self.old.server self.old.peers.items
             self.new.sent.items self.new.server self.new.peers.items result }
     {
         let Some(report) = self.peers[p as usize].report() else {
@@ -179,43 +179,73 @@ impl<W: Sim> Stage<W> {
         requires other { c < self.old.clients }
         ensures clients { self.new.clients ≡ self.old.clients }
         ensures lag { self.new.lag ≡ self.old.lag }
-        ensures does { Does W.after W.hash_of self.old.clients self.old.lag (Forge c n hash) self.old.sent.items self.old.server self.old.peers.items
+        ensures does { Does W.after W.hash_of self.old.clients self.old.lag (Event.Forge c n hash) self.old.sent.items self.old.server self.old.peers.items
             self.new.sent.items self.new.server self.new.peers.items result }
     {
-        let packet = Up::Sync { frame: n, hash };
+        let packet = Packet::Sync { frame: n, hash };
         self.sent.push(Sent { client: c, packet })?;
         Ok(Outcome::ReportSent(n))
     }
 
-    /// The departure of peer `p` is sent up.
+    /// The farewell of peer `p` is sent up.
     fn bye(&mut self, p: u8) -> Result<Outcome, NoMemory>
         requires whole { IsWhole self.old.clients self.old.lag self.old.sent.items self.old.server self.old.peers.items }
         requires own { p < self.old.clients }
         ensures clients { self.new.clients ≡ self.old.clients }
         ensures lag { self.new.lag ≡ self.old.lag }
-        ensures does { Does W.after W.hash_of self.old.clients self.old.lag (SendBye p) self.old.sent.items self.old.server self.old.peers.items
+        ensures does { Does W.after W.hash_of self.old.clients self.old.lag (Event.Bye p) self.old.sent.items self.old.server self.old.peers.items
             self.new.sent.items self.new.server self.new.peers.items result }
     {
-        let packet = Up::Bye;
+        let packet = Packet::Bye;
         self.sent.push(Sent { client: p, packet })?;
         Ok(Outcome::ByeSent)
     }
 }
 
 /// The packet of this number.
-fn sent_at(sent: &[Sent], packet: u32) -> Option<&Sent>
-    ensures { option_copied result ≡ slice_get sent.now packet }
+fn sent_at(sent: &[Sent], number: u32) -> Option<&Sent>
+    ensures { option_copied result ≡ slice_get sent.now number }
 {
-    sent.get(packet as usize)
+    sent.get(number as usize)
 }
 
-/// The frame that a packet speaks of, or 0 where it speaks of none.
-fn frame_in(packet: &Up) -> u32
-    ensures { result ≡ frame_in packet.now }
+/// The server takes a packet of client `c`.
+fn take_packet<W: Sim>(server: &mut Server<W>, c: u8, packet: &Packet) -> Result<Outcome, NoMemory>
+    requires { c < length server.old.columns }
+    ensures came { IfOk result (λ outcome. outcome ≡ packet_outcome server.old.columns server.old.reports c packet.now) }
+    ensures after { OnOk result (server.new ≡ told_server server.old c (up_of packet.now)) }
 {
     match packet {
-        Up::Orders { frame, .. } | Up::Sync { frame, .. } => *frame,
-        Up::Hello { .. } | Up::Bye => 0,
+        Packet::Orders { frame, orders } => {
+            let frame = *frame;
+            let orders = orders.copy();
+            let UpAnswer::Entry(put) = server.up(c, &Up::Orders { frame, orders })? else {
+                unreachable!()
+            };
+            Ok(Outcome::Entered {
+                client: c,
+                frame,
+                put,
+            })
+        }
+        Packet::Sync { frame, hash } => {
+            let frame = *frame;
+            let hash = *hash;
+            let UpAnswer::Report(reported) = server.up(c, &Up::Sync { frame, hash })? else {
+                unreachable!()
+            };
+            Ok(Outcome::Reported {
+                client: c,
+                frame,
+                reported,
+            })
+        }
+        Packet::Bye => {
+            let UpAnswer::Bye(leaving) = server.up(c, &Up::Bye)? else {
+                unreachable!()
+            };
+            Ok(Outcome::Leaves { client: c, leaving })
+        }
     }
 }
 
@@ -226,21 +256,5 @@ fn arrival(client: u8, frame: u32, delivered: Delivered) -> Outcome
     match delivered {
         Delivered::Kept => Outcome::Arrived { client, frame },
         _ => Outcome::Repeated { client, frame },
-    }
-}
-
-/// What the server's answer to a client's packet comes to.
-fn answered(client: u8, frame: u32, answer: UpAnswer) -> Outcome
-    ensures { result ≡ answered client frame answer }
-{
-    match answer {
-        UpAnswer::Entry(put) => Outcome::Entered { client, frame, put },
-        UpAnswer::Report(reported) => Outcome::Reported {
-            client,
-            frame,
-            reported,
-        },
-        UpAnswer::Bye(leaving) => Outcome::Leaves { client, leaving },
-        UpAnswer::Ignored => Outcome::Ignored,
     }
 }

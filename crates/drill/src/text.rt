@@ -37,7 +37,6 @@ fn add_outcome(text: &mut String, outcome: &Outcome) -> Result<(), NoMemory>
             reported,
         } => add_reported(text, *client, *frame, reported),
         Outcome::Leaves { client, leaving } => add_leaving(text, *client, leaving),
-        Outcome::Ignored => write!(text, "ignored"),
         Outcome::NoEntry => write!(text, "no entry"),
         Outcome::Arrived { client, frame } => write!(text, "kept {client} {frame}"),
         Outcome::Repeated { client, frame } => write!(text, "repeat {client} {frame}"),

@@ -1,7 +1,5 @@
-use Rattle.std.proofs.Common.{◌<◌, ◌≤◌, ℕ, ◌≡◌, sym, subst, ◌∙◌, ap}
+use Rattle.std.proofs.Common.{◌<◌, ℕ, sym, subst, ◌∙◌, ap}
 use Rattle.std.specs.Prelude.{Some}
-use Rattle.game_orders.specs.declared.limits.TheConstants.{MAX_FRAMES}
-use Rattle.frame_core.specs.Column.{column_of, length_of}
 use Rattle.drill.proofs.StageLemmas.{peer_number}
 use Rattle.drill.proofs.HappenLemmas.{down_does}
 use Rattle.drill.proofs.stage.Stage.down.Goals as goal
@@ -17,10 +15,6 @@ deliver-requires g c =
 
 pub returns-clause-does : goal.returns-clause-does
 returns-clause-does g c =
-    let length_is : c.plays-length.result ≡ length_of (column_of c.args.self.now.server.columns c.args.c) =
-    rw c.columns-columns.ensures at c.plays-length.ensures.value in
-    let P : ℕ → Type 0 = λ n. n ≤ MAX_FRAMES in
     rw c.arrival.ensures
     (down_does _ _ _ _ _ _ _ _ _ _ c.copy-entry.result c.index_mut-peer.result.now _ _ c.requires.whole c.requires.own c.index_mut-peer.ensures.value
-    (subst P length_is c.plays-length.ensures.limit)
     (ap Some c.copy-entry.ensures ∙ rw c.columns-columns.ensures at c.in-Some.ensures) c.in_ok-delivered.ensures.answer c.in_ok-delivered.ensures.after)

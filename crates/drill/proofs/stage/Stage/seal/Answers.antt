@@ -1,5 +1,5 @@
 use Rattle.std.proofs.Common.{Ok, Err, sym, ◌∙◌, ap, ◌++◌, ◌∷◌, [], append-nil}
-use Rattle.order_packets.specs.declared.up.Up.TheVariants.{Orders}
+use Rattle.drill.specs.declared.packet.Packet.TheVariants.{Orders}
 use Rattle.drill.proofs.HappenLemmas.{seal_does}
 use Rattle.drill.proofs.stage.Stage.seal.Goals as goal
 
