@@ -3,6 +3,7 @@ use Rattle.std.proofs.Common.{◌≡◌, ℕ, ◌+◌, ◌<◌, true, false, Lis
 use Rattle.std.proofs.lemmas.Bool.{cond-true, cond-false}
 use Rattle.std.proofs.lemmas.List.{drop_more}
 use Rattle.std.specs.Str.{bytes_eq}
+use Rattle.base.specs.Steps.{◌>>=◌}
 use Rattle.yaml_lines.specs.declared.forest.Node.{Node}
 use Rattle.yaml_lines.specs.declared.forest.Forest.{Forest}
 use Rattle.yaml_lines.specs.declared.forest.Forest.TheViews.{out-Node, out-Forest}
@@ -10,14 +11,14 @@ use Rattle.yaml_lines.specs.declared.place.Place.{Place}
 use Rattle.yaml_lines.specs.Trees.{Trees, trees_of, before, trees_of_nodes}
 use Rattle.yaml_lines.proofs.TreeSteps.{trees_out, before_out}
 use Rattle.rule_traits.specs.declared.fault.RuleFault.{RuleFault}
-use Rattle.rule_traits.specs.Typed.{after, each, step_at, has_field}
+use Rattle.rule_traits.specs.Typed.{each, step_at, has_field}
 
 -- What a step takes: what was made so far, and a node's key, value, place and children.
 abbrev pub Step : Type 0 → Type 0
 Step S = S → (key value : List ℕ) → Place → Trees → Result S RuleFault
 
 each_at : {S : Type 0} (step : Step S) (nodes : List Node) (at : ℕ) (node : Node) (made : S) → at < length nodes → node ≡ get_or nodes at node →
-    each step made (trees_of_nodes (drop at nodes)) ≡ after (step_at step made node) (λ next. each step next (trees_of_nodes (drop (at + 1) nodes)))
+    each step made (trees_of_nodes (drop at nodes)) ≡ (step_at step made node >>= λ next. each step next (trees_of_nodes (drop (at + 1) nodes)))
 each_at step nodes at node made h n =
     let rest = trees_of_nodes (drop (at + 1) nodes) in
     ap (λ l. each step made (trees_of_nodes l)) (drop_more nodes at node h)
@@ -31,7 +32,7 @@ pub each_next : {S : Type 0} (step : Step S) (nodes : List Node) (at : ℕ) (nod
     each step made (trees_of_nodes (drop at nodes)) ≡ all → each step next (trees_of_nodes (drop (at + 1) nodes)) ≡ all
 each_next {S} step nodes at node made next all h n t e =
     let rest : S → Result S RuleFault = λ made. each step made (trees_of_nodes (drop (at + 1) nodes)) in
-    sym (each_at step nodes at node made h n ∙ ap (λ o. after o rest) t) ∙ e
+    sym (each_at step nodes at node made h n ∙ ap (λ o. o >>= rest) t) ∙ e
 
 -- A node at which the step fails.
 pub each_fault : {S : Type 0} (step : Step S) (nodes : List Node) (at : ℕ) (node : Node) (made : S) (fault : RuleFault) (all : Result S RuleFault) →
@@ -40,7 +41,7 @@ pub each_fault : {S : Type 0} (step : Step S) (nodes : List Node) (at : ℕ) (no
     each step made (trees_of_nodes (drop at nodes)) ≡ all → all ≡ Err fault
 each_fault {S} step nodes at node made fault all h n t e =
     let rest : S → Result S RuleFault = λ made. each step made (trees_of_nodes (drop (at + 1) nodes)) in
-    sym e ∙ each_at step nodes at node made h n ∙ ap (λ o. after o rest) t
+    sym e ∙ each_at step nodes at node made h n ∙ ap (λ o. o >>= rest) t
 
 pub each_out : {S : Type 0} (step : Step S) (made : S) (list : Forest) → each step made (trees_of list) ≡ each step made (trees_of_nodes (out-Forest list).nodes.items)
 each_out step made list = ap (each step made) (trees_out list)

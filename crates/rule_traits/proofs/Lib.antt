@@ -1,2 +1,3 @@
 pub mod EachSteps
 pub mod KindSteps
+pub mod KindLaws

@@ -12,6 +12,11 @@ abbrev pub is_kind : List ℕ → Bool
 is_kind [] = true
 is_kind (byte ∷ rest) = not (byte == 94)
 
+-- The keys of the top-level nodes that are kinds, in order.
+abbrev pub kind_keys : Trees → List (List ℕ)
+kind_keys none = []
+kind_keys (more key value place children rest) = if is_kind key then key ∷ kind_keys rest else kind_keys rest
+
 -- The number after this one. All kinds that are too many share the number `MAX_KINDS`.
 abbrev pub next_number : ℕ → ℕ
 next_number number = if nat_lt number MAX_KINDS then number + 1 else number

@@ -1,6 +1,7 @@
 -- Typed rules: the kinds of a forest and what is passed over in it, or its first fault in preorder.
-use Rattle.std.specs.Prelude.{ℕ, Bool, true, false, not, List, [], ◌∷◌, ◌++◌, length, codes, if◌then◌else◌, nat_le, Option, Some, None, Result, Ok, Err}
+use Rattle.std.specs.Prelude.{ℕ, Bool, true, false, not, List, [], ◌∷◌, ◌++◌, length, map, codes, if◌then◌else◌, nat_le, Option, Some, None, Result, Ok, Err}
 use Rattle.std.specs.Str.{bytes_eq}
+use Rattle.base.specs.Steps.{◌>>=◌}
 use Rattle.yaml_lines.specs.declared.place.Place.{Place}
 use Rattle.yaml_lines.specs.declared.forest.Node.{Node}
 use Rattle.yaml_lines.specs.declared.forest.Forest.TheViews.{out-Node}
@@ -18,15 +19,10 @@ use Rattle.rule_traits.specs.Kinds.{is_kind}
 use Rattle.rule_traits.specs.Traits.{has_trait, trait_of}
 use Rattle.rule_traits.specs.Values.{After, plain_health, health_with, plain_mobile, mobile_with, plain_harvester, harvester_with, plain_refinery, refinery_with, plain_production, production_with, plain_buildable, buildable_with, plain_valued, valued_with, plain_armament, armament_with}
 
--- What comes after a step that may have failed.
-abbrev pub after : {A B : Type 0} → Result A RuleFault → (A → Result B RuleFault) → Result B RuleFault
-after (Ok value) next = next value
-after (Err fault) next = Err fault
-
 -- The nodes of a list taken in order, each by a step from what was made so far. Its first fault ends it.
 abbrev pub each : {S : Type 0} → (S → (key value : List ℕ) → Place → Trees → Result S RuleFault) → S → Trees → Result S RuleFault
 each step made none = Ok made
-each step made (more key value place children rest) = after (step made key value place children) (λ next. each step next rest)
+each step made (more key value place children rest) = step made key value place children >>= λ next. each step next rest
 
 -- Such a step at a node.
 abbrev pub step_at : {S : Type 0} → (S → (key value : List ℕ) → Place → Trees → Result S RuleFault) → S → Node → Result S RuleFault
@@ -99,7 +95,7 @@ with_trait kind (Armament t) = record kind { armament = Some t }
 unfoldable pub trait_joined : Trees → Kind × List Skipped → Place → Trees → Trait → Result (Kind × List Skipped) RuleFault
 trait_joined top made place fields trait =
     if lacks_field trait fields then Err (MissingField place)
-    else after (each (field_taken top) (plain trait, made.1) fields) (λ read. Ok (with_trait made.0 read.0, read.1))
+    else each (field_taken top) (plain trait, made.1) fields >>= λ read. Ok (with_trait made.0 read.0, read.1)
 
 -- A trait that isn't known is passed over, and so is one that the kind has.
 abbrev pub trait_step : Trees → Kind × List Skipped → List ℕ → Place → Trees → Option Trait → Result (Kind × List Skipped) RuleFault
@@ -132,10 +128,14 @@ unfoldable pub kind_taken : Trees → List Kind × List Skipped → (key value :
 kind_taken top made key value place traits =
     if is_kind key then
     (if nat_le MAX_KINDS (length made.0) then Err (TooManyKinds place)
-    else after (each (trait_taken top) (plain_kind key, made.1) traits) (λ read. Ok (made.0 ++ read.0 ∷ [], read.1)))
+    else each (trait_taken top) (plain_kind key, made.1) traits >>= λ read. Ok (made.0 ++ read.0 ∷ [], read.1))
     else Ok made
 
 -- The kinds of a forest in order and what is passed over in it in preorder, or its first fault in preorder, where a
 -- trait's node comes before its fields.
 unfoldable pub typed : Trees → Result (List Kind × List Skipped) RuleFault
 typed top = each (kind_taken top) ([], []) top
+
+-- The names of kinds, by their numbers.
+abbrev pub names_of_kinds : List Kind → List (List ℕ)
+names_of_kinds kinds = map (λ (kind : Kind). kind.name) kinds

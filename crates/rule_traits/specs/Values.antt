@@ -1,8 +1,9 @@
 -- What the fields of each trait hold: the trait without any field, and the trait after one field was read.
 use Rattle.std.specs.Prelude.{ℕ, Bool, true, false, ◌&&◌, List, [], codes, if◌then◌else◌, nat_le, Option, Some, None, Result, Ok, Err}
 use Rattle.std.specs.Str.{bytes_eq}
+use Rattle.base.specs.Numbers.{number_of}
 use Rattle.rule_values.specs.NameList.{names_of}
-use Rattle.rule_values.specs.Numbers.{number_of, dist_of}
+use Rattle.rule_values.specs.Distances.{dist_of}
 use Rattle.yaml_lines.specs.declared.place.Place.{Place}
 use Rattle.yaml_lines.specs.Trees.{Trees}
 use Rattle.rule_traits.specs.declared.fault.RuleFault.{RuleFault}

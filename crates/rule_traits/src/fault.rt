@@ -5,25 +5,41 @@ use std::alloc::AllocFailed;
 use thiserror::Error;
 use yaml_lines::Place;
 
-/// Why a forest has no typed rules. Each place is that of the first node at fault, in preorder.
+/// Why a forest has no typed rules: the first fault in preorder. Each place is that at which the node at fault was read
+/// last.
 #[derive(Debug, Drop, Error)]
 pub enum RuleFault {
-    /// The field's value is not of its form.
+    /// Comes at a field whose value is not of its form.
     #[error("line {} has a value that can't be read", .place.line)]
-    BadValue { place: Place },
-    /// The field's value is outside its range.
+    BadValue {
+        /// The place of the field's node.
+        place: Place,
+    },
+    /// Comes at a field whose value is of its form and outside its range.
     #[error("line {} has a value outside its range", .place.line)]
-    OutOfRange { place: Place },
-    /// The trait lacks a field that it needs. The place is that of the trait's node.
+    OutOfRange {
+        /// The place of the field's node.
+        place: Place,
+    },
+    /// Comes at a trait that lacks a field that it needs: at a `Production` without `Produces`.
     #[error("line {} lacks a field that its trait needs", .place.line)]
-    MissingField { place: Place },
-    /// A name in the field `Needs` is no kind.
+    MissingField {
+        /// The place of the trait's node.
+        place: Place,
+    },
+    /// Comes at a field `Needs` where one of its names is no kind of the forest.
     #[error("line {} names a kind that isn't there", .place.line)]
-    UnknownKindName { place: Place },
-    /// The kind comes after `MAX_KINDS` kinds.
+    UnknownKindName {
+        /// The place of the field's node.
+        place: Place,
+    },
+    /// Comes at the kind that follows `MAX_KINDS` kinds.
     #[error("line {} has a kind too many", .place.line)]
-    TooManyKinds { place: Place },
-    /// Want of memory.
+    TooManyKinds {
+        /// The place of the kind's node.
+        place: Place,
+    },
+    /// Want of memory. It may come in place of any other answer.
     #[error("out of memory")]
     NoMemory,
 }

@@ -10,23 +10,23 @@ use yaml_lines::Text;
 pub struct Kind {
     /// Its name, the key of its node.
     pub name: Text,
-    /// Its hit points.
+    /// Its hit points. `None`: it has not the trait `Health`, and 1 hit point.
     pub health: Option<Health>,
-    /// How it moves.
+    /// How it moves. `None`: it has not the trait `Mobile`.
     pub mobile: Option<Mobile>,
-    /// Whether it is a building.
+    /// Whether it has the trait `Building`, which has no fields.
     pub building: bool,
-    /// How it gathers ore.
+    /// How it gathers ore. `None`: it has not the trait `Harvester`.
     pub harvester: Option<Harvester>,
-    /// What it pays for ore.
+    /// What it pays for ore. `None`: it has not the trait `Refinery`.
     pub refinery: Option<Refinery>,
-    /// What it builds.
+    /// From which queues it builds. `None`: it has not the trait `Production`.
     pub production: Option<Production>,
-    /// How it is built.
+    /// How it is built. `None`: it has not the trait `Buildable`.
     pub buildable: Option<Buildable>,
-    /// What it costs. A kind without this trait costs 0.
+    /// What it costs. `None`: it has not the trait `Valued`, and costs 0.
     pub valued: Option<Valued>,
-    /// How it shoots.
+    /// How it shoots. `None`: it has not the trait `Armament`.
     pub armament: Option<Armament>,
 }
 

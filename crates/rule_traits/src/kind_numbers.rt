@@ -2,7 +2,7 @@ ghost use Rattle.std.specs.Prelude.{◌≡◌};
 
 use std::marker::Model;
 
-/// A list of kinds, each by its number.
+/// A list of kinds, each by its number, from 0.
 #[derive(Drop)]
 pub struct KindNumbers {
     held: Vec<u16>,

@@ -3,7 +3,8 @@ ghost use Rattle.rule_values.specs.NameList.{names_of};
 ghost use Rattle.yaml_lines.specs.Trees.{trees_of};
 ghost use Rattle.rule_traits.specs.Kinds.{numbers_after};
 ghost use Rattle.rule_traits.specs.Values.{field_value};
-ghost use Rattle.rule_traits.specs.Sets.{IsFault};
+ghost use Rattle.base.specs.Steps.{IsFault};
+ghost use Rattle.rule_traits.specs.declared.fault.RuleFault.TheVariants.{NoMemory};
 
 use crate::fault::RuleFault;
 use crate::field::{Field, Form};
@@ -55,7 +56,7 @@ pub fn read_kinds(
     place: Place,
 ) -> Result<KindNumbers, RuleFault>
     ensures numbers { IfOk result (λ list. numbers_after (trees_of kinds.now) place (names_of text.now) [] ≡ Ok list) }
-    ensures fault { IfErr result (λ fault. IsFault fault (numbers_after (trees_of kinds.now) place (names_of text.now) [])) }
+    ensures fault { IfErr result (λ fault. IsFault NoMemory fault (numbers_after (trees_of kinds.now) place (names_of text.now) [])) }
 {
     let mut held = Vec::new(alloc);
     for name in names(text) {

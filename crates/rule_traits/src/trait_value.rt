@@ -17,14 +17,23 @@ use yaml_lines::Node;
 /// A trait with the values of its fields.
 #[derive(Drop)]
 pub enum TraitValue {
+    /// It has hit points.
     Health(Health),
+    /// It moves and turns.
     Mobile(Mobile),
+    /// It stands on its cell and blocks it.
     Building,
+    /// It gathers ore.
     Harvester(Harvester),
+    /// It takes in ore for cash.
     Refinery(Refinery),
+    /// It builds kinds of certain queues.
     Production(Production),
+    /// It can be built.
     Buildable(Buildable),
+    /// It has a price.
     Valued(Valued),
+    /// It shoots.
     Armament(Armament),
 }
 

@@ -1,8 +1,10 @@
 ghost use Rattle.std.specs.Prelude.{◌≡◌, [], IfOk, IfErr, OnOk, Ok};
 ghost use Rattle.yaml_lines.specs.Trees.{trees_of};
 ghost use Rattle.yaml_lines.specs.declared.forest.Forest.TheViews.{out-Node};
-ghost use Rattle.rule_traits.specs.Sets.{IsFault};
-ghost use Rattle.rule_traits.specs.Typed.{each, field_taken, has_field, kind_taken, lacks_field, passed, plain, plain_kind, step_at, trait_joined, trait_taken, typed};
+ghost use Rattle.base.specs.Steps.{IsFault};
+ghost use Rattle.rule_traits.specs.declared.fault.RuleFault.TheVariants.{NoMemory};
+ghost use Rattle.rule_traits.specs.Kinds.{kind_keys};
+ghost use Rattle.rule_traits.specs.Typed.{each, field_taken, has_field, kind_taken, lacks_field, names_of_kinds, passed, plain, plain_kind, step_at, trait_joined, trait_taken, typed};
 
 use crate::MAX_KINDS;
 use crate::fault::RuleFault;
@@ -39,7 +41,7 @@ fn read_trait(
     skipped: &mut Vec<Skipped>,
 ) -> Result<TraitValue, RuleFault>
     ensures read { IfOk result (λ value. each (field_taken (trees_of kinds.now)) (plain known, skipped.old.items) (trees_of fields.now) ≡ Ok (value, skipped.new.items)) }
-    ensures fault { IfErr result (λ fault. IsFault fault (each (field_taken (trees_of kinds.now)) (plain known, skipped.old.items) (trees_of fields.now))) }
+    ensures fault { IfErr result (λ fault. IsFault NoMemory fault (each (field_taken (trees_of kinds.now)) (plain known, skipped.old.items) (trees_of fields.now))) }
 {
     let mut value = TraitValue::plain(alloc, known);
     for node in &fields.nodes {
@@ -81,7 +83,7 @@ fn join_trait(
     skipped: &mut Vec<Skipped>,
 ) -> Result<(), RuleFault>
     ensures joined { OnOk result (trait_joined (trees_of kinds.now) (kind.old, skipped.old.items) (out-Node node.now).place (trees_of (out-Node node.now).children) known ≡ Ok (kind.new, skipped.new.items)) }
-    ensures fault { IfErr result (λ fault. IsFault fault (trait_joined (trees_of kinds.now) (kind.old, skipped.old.items) (out-Node node.now).place (trees_of (out-Node node.now).children) known)) }
+    ensures fault { IfErr result (λ fault. IsFault NoMemory fault (trait_joined (trees_of kinds.now) (kind.old, skipped.old.items) (out-Node node.now).place (trees_of (out-Node node.now).children) known)) }
 {
     if lacks_field(known, &node.children) {
         return Err(RuleFault::MissingField { place: node.place });
@@ -101,7 +103,7 @@ fn take_trait(
     skipped: &mut Vec<Skipped>,
 ) -> Result<(), RuleFault>
     ensures taken { OnOk result (step_at (trait_taken (trees_of kinds.now)) (kind.old, skipped.old.items) node.now ≡ Ok (kind.new, skipped.new.items)) }
-    ensures fault { IfErr result (λ fault. IsFault fault (step_at (trait_taken (trees_of kinds.now)) (kind.old, skipped.old.items) node.now)) }
+    ensures fault { IfErr result (λ fault. IsFault NoMemory fault (step_at (trait_taken (trees_of kinds.now)) (kind.old, skipped.old.items) node.now)) }
 {
     match Trait::of_key(node.key.as_str()) {
         Some(known) if !kind.has(known) => join_trait(alloc, kinds, kind, known, node, skipped),
@@ -118,7 +120,7 @@ fn read_kind(
     skipped: &mut Vec<Skipped>,
 ) -> Result<Kind, RuleFault>
     ensures read { IfOk result (λ kind. each (trait_taken (trees_of kinds.now)) (plain_kind (out-Node node.now).key, skipped.old.items) (trees_of (out-Node node.now).children) ≡ Ok (kind, skipped.new.items)) }
-    ensures fault { IfErr result (λ fault. IsFault fault (each (trait_taken (trees_of kinds.now)) (plain_kind (out-Node node.now).key, skipped.old.items) (trees_of (out-Node node.now).children))) }
+    ensures fault { IfErr result (λ fault. IsFault NoMemory fault (each (trait_taken (trees_of kinds.now)) (plain_kind (out-Node node.now).key, skipped.old.items) (trees_of (out-Node node.now).children))) }
 {
     let mut kind = Kind::plain(node.key.copy(alloc)?);
     for below in &node.children.nodes {
@@ -137,7 +139,7 @@ fn take_kind(
     skipped: &mut Vec<Skipped>,
 ) -> Result<(), RuleFault>
     ensures taken { OnOk result (step_at (kind_taken (trees_of kinds.now)) (made.old.items, skipped.old.items) node.now ≡ Ok (made.new.items, skipped.new.items)) }
-    ensures fault { IfErr result (λ fault. IsFault fault (step_at (kind_taken (trees_of kinds.now)) (made.old.items, skipped.old.items) node.now)) }
+    ensures fault { IfErr result (λ fault. IsFault NoMemory fault (step_at (kind_taken (trees_of kinds.now)) (made.old.items, skipped.old.items) node.now)) }
 {
     if !is_kind(node.key.as_str()) {
         return Ok(());
@@ -158,7 +160,7 @@ fn read_rules(
     forest: &Forest,
 ) -> Result<(Rules, SkippedList), RuleFault>
     ensures read { IfOk result (λ made. each (kind_taken (trees_of kinds.now)) ([], []) (trees_of forest.now) ≡ Ok made) }
-    ensures fault { IfErr result (λ fault. IsFault fault (each (kind_taken (trees_of kinds.now)) ([], []) (trees_of forest.now))) }
+    ensures fault { IfErr result (λ fault. IsFault NoMemory fault (each (kind_taken (trees_of kinds.now)) ([], []) (trees_of forest.now))) }
 {
     let mut made = Vec::new(alloc);
     let mut skipped = Vec::new(alloc);
@@ -170,17 +172,20 @@ fn read_rules(
 
 /// The kinds of a resolved rule forest, and what was passed over in it in preorder.
 ///
-/// The top-level nodes whose keys don't begin with `^` are the kinds, numbered from 0. What stands before the first `@`
-/// of the key of a node below a kind is the trait's name. A trait that isn't known or that the kind has already, and a
-/// field that its trait hasn't, are passed over. Where a trait has a field twice, both are read and the later one holds.
+/// The top-level nodes whose keys don't begin with `^` are the kinds, numbered from 0 in their order. What stands before
+/// the first `@` of the key of a node below a kind is the trait's name. A trait that isn't known or that the kind has
+/// already, and a field that its trait hasn't, are passed over. Where a trait has a field twice, both are read and the
+/// later one holds; in a resolved forest none has.
 ///
 /// The fault is the first in preorder: `BadValue` and `OutOfRange` at a field, `MissingField` at the node of a
 /// `Production` without `Produces`, before the faults of its fields, `UnknownKindName` at a field `Needs` that names no
-/// kind of the forest, and `TooManyKinds` at the kind that comes after `MAX_KINDS` kinds.
+/// kind of the forest, and `TooManyKinds` at the kind that comes after `MAX_KINDS` kinds. `NoMemory` is want of memory, and
+/// may come in place of any answer.
 #[tactic(auto, unfolding(crate::specs::Typed::typed))]
 pub fn type_rules(alloc: Global, forest: &Forest) -> Result<(Rules, SkippedList), RuleFault>
     ensures typed { IfOk result (λ made. typed (trees_of forest.now) ≡ Ok made) }
-    ensures fault { IfErr result (λ fault. IsFault fault (typed (trees_of forest.now))) }
+    ensures kinds { IfOk result (λ made. names_of_kinds made.0 ≡ kind_keys (trees_of forest.now)) }
+    ensures fault { IfErr result (λ fault. IsFault NoMemory fault (typed (trees_of forest.now))) }
 {
     let kinds = KindNames::of(alloc, forest)?;
     read_rules(alloc, &kinds, forest)

@@ -1,4 +1,2 @@
 pub mod Cuts
-pub mod Digits
 pub mod NameLists
-pub mod Trims

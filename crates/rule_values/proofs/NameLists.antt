@@ -2,24 +2,29 @@
 use Rattle.std.proofs.Common.{◌≡◌, ℕ, ◌<◌, ◌≤◌, List, [], ◌∷◌, length, map, Bool, true, false, cond, ltb, ◌==◌, Option, Some, None, refl, sym, ap, ◌∙◌, arith, length-drop, ◌+◌, ◌-◌}
 use Rattle.std.proofs.lemmas.Bool.Decides.{nat_tests}
 use Rattle.std.proofs.lemmas.List.Splits.{slice_split_first, slice_split-cons_no}
-use Rattle.std.proofs.lemmas.Str.{chars-nil}
 use Rattle.std.specs.List.{filter, slice_split, onto_first, position_or_len, before_first, after_first}
-use Rattle.rule_values.specs.Blanks.{trimmed_front, trimmed_back, trimmed_of}
-use Rattle.rule_values.specs.NameList.{has_bytes, names_of, with_name}
+use Rattle.base.specs.Lines.{has_bytes}
+use Rattle.yaml_lines.specs.Blanks.{trim}
+use Rattle.rule_values.specs.NameList.{names_of, with_name}
 use Rattle.rule_values.specs.Parts.{parts_at}
-
-trimmed-nil : trimmed_of [] ≡ []
-unfolding trimmed_front trimmed_back
-trimmed-nil = rw chars-nil (rw chars-nil refl)
 
 -- The empty text has no names.
 pub no_names : names_of [] ≡ []
 unfolding names_of
-no_names = rw trimmed-nil refl
+no_names = refl
 
 pub none_left : (text : List ℕ) → length text ≡ 0 → names_of text ≡ []
 none_left [] empty = no_names
 none_left (b ∷ text) empty = absurd (omega arith)
+
+-- A text has bytes exactly where it isn't empty.
+pub some_bytes : (text : List ℕ) → 0 < length text → has_bytes text ≡ true
+some_bytes [] h = absurd (omega arith)
+some_bytes (b ∷ text) h = refl
+
+pub no_bytes : (text : List ℕ) → length text ≡ 0 → has_bytes text ≡ false
+no_bytes [] h = refl
+no_bytes (b ∷ text) h = absurd (omega arith)
 
 -- The test for a comma.
 abbrev is_comma : ℕ → Bool
@@ -64,21 +69,21 @@ is-parts c text before after cut =
 -- Where a comma stands, the names are the one before it and those behind it.
 pub names_at_comma :
     (text before after : List ℕ) → parts_at 44 text ≡ Some (before, after) →
-    names_of text ≡ with_name (trimmed_of before) (names_of after)
+    names_of text ≡ with_name (trim before) (names_of after)
 unfolding names_of
 names_at_comma text before after cut =
     let is = is-parts 44 text before after cut in
-    ap (λ parts. filter has_bytes (map trimmed_of parts)) (slice_split_first is_comma text 0 is.0)
-    ∙ ap (λ part. with_name (trimmed_of part) (names_of (after_first is_comma text))) (sym is.1)
-    ∙ ap (λ rest. with_name (trimmed_of before) (names_of rest)) (sym is.2)
+    ap (λ parts. filter has_bytes (map trim parts)) (slice_split_first is_comma text 0 is.0)
+    ∙ ap (λ part. with_name (trim part) (names_of (after_first is_comma text))) (sym is.1)
+    ∙ ap (λ rest. with_name (trim before) (names_of rest)) (sym is.2)
 
 -- Where none stands, the text is the one name.
-pub names_without_comma : (text : List ℕ) → parts_at 44 text ≡ None → names_of text ≡ with_name (trimmed_of text) (names_of [])
+pub names_without_comma : (text : List ℕ) → parts_at 44 text ≡ None → names_of text ≡ with_name (trim text) (names_of [])
 unfolding names_of parts_at
 names_without_comma text none =
     let no : ltb (position_or_len is_comma text) (length text) ≡ false = parts-none _ (before_first is_comma text, after_first is_comma text) none in
-    ap (λ parts. filter has_bytes (map trimmed_of parts)) (one-part is_comma text (grind (arith, nat_tests)))
-    ∙ ap (with_name (trimmed_of text)) (sym no_names)
+    ap (λ parts. filter has_bytes (map trim parts)) (one-part is_comma text (grind (arith, nat_tests)))
+    ∙ ap (with_name (trim text)) (sym no_names)
 
 -- The part behind a separator is shorter than the text.
 pub after_shorter : (c : ℕ) (text before after : List ℕ) → parts_at c text ≡ Some (before, after) → length after < length text

@@ -1,7 +1,7 @@
 -- Cells, as two numbers up to 255 with a comma between them.
 use Rattle.std.specs.Prelude.{ℕ, nat_lt, List, Option, Some, None, if◌then◌else◌}
-use Rattle.rule_values.specs.Blanks.{trimmed_of}
-use Rattle.rule_values.specs.Numbers.{number_of}
+use Rattle.base.specs.Numbers.{number_of}
+use Rattle.yaml_lines.specs.Blanks.{trim}
 use Rattle.rule_values.specs.Parts.{parts_at}
 
 abbrev pub up_to_255 : Option ℕ → Option ℕ
@@ -10,7 +10,7 @@ up_to_255 None = None
 
 -- A number up to 255, with blanks round it or none.
 unfoldable pub coordinate_of : List ℕ → Option ℕ
-coordinate_of text = up_to_255 (number_of (trimmed_of text))
+coordinate_of text = up_to_255 (number_of (trim text))
 
 abbrev pub pair_of : Option ℕ → Option ℕ → Option (ℕ × ℕ)
 pair_of (Some x) (Some y) = Some (x, y)

@@ -1,5 +1,4 @@
-pub mod Blanks
 pub mod Cells
+pub mod Distances
 pub mod NameList
-pub mod Numbers
 pub mod Parts

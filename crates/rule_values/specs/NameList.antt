@@ -1,15 +1,13 @@
 -- Lists of names.
-use Rattle.std.specs.Prelude.{ℕ, Bool, List, ◌∷◌, map, length, nat_lt, ◌==◌, if◌then◌else◌}
+use Rattle.std.specs.Prelude.{ℕ, List, ◌∷◌, map, ◌==◌, if◌then◌else◌}
 use Rattle.std.specs.List.{filter, slice_split}
-use Rattle.rule_values.specs.Blanks.{trimmed_of}
+use Rattle.base.specs.Lines.{has_bytes}
+use Rattle.yaml_lines.specs.Blanks.{trim}
 use Rattle.rule_values.specs.declared.name_list.Names.{Names}
-
-abbrev pub has_bytes : List ℕ → Bool
-has_bytes text = nat_lt 0 (length text)
 
 -- The parts between commas (44), trimmed of blanks, without the empty ones.
 unfoldable pub names_of : List ℕ → List (List ℕ)
-names_of text = filter has_bytes (map trimmed_of (slice_split (λ b. b == 44) text))
+names_of text = filter has_bytes (map trim (slice_split (λ b. b == 44) text))
 
 -- A name before others, where it is not empty.
 abbrev pub with_name : List ℕ → List (List ℕ) → List (List ℕ)

@@ -1,7 +1,7 @@
-//! The value forms of rule and map files: numbers, distances, cells and lists of names.
+//! The value forms of rule files: numbers, distances, cells and lists of names.
 //!
-//! Each reader answers a value exactly where the text has its form, and the value is that of the form. A blank
-//! is a space, a tab, a carriage return or the character U+FEFF. No call takes memory.
+//! Stands on `base` for numbers and on `yaml_lines` for blanks. Each reader answers a value exactly where the text
+//! has its form, and the value is that of the form. No call takes memory.
 #![tactic(auto)]
 
 mod cell;
@@ -9,12 +9,11 @@ mod lists;
 mod name_list;
 mod number;
 mod parts;
-mod trim;
 
 pub use cell::read_cell;
 pub use lists::names;
 pub use name_list::Names;
-pub use number::{MAX_DIGITS, read_dist, read_number};
+pub use number::{read_dist, read_number};
 
 #[cfg(test)]
 mod tests {

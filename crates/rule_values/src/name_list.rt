@@ -1,9 +1,9 @@
 ghost use Rattle.std.specs.Prelude.{◌≡◌, ◌<◌, length};
 ghost use Rattle.rule_values.specs.NameList.{names_of, with_name};
-ghost use Rattle.rule_values.specs.Blanks.{trimmed_of};
+ghost use Rattle.yaml_lines.specs.Blanks.{trim};
 
 use crate::parts::cut;
-use crate::trim::trimmed;
+use yaml_lines::trim;
 
 /// The names of a list that are still to come. See `names`.
 #[derive(Clone, Copy, Debug)]
@@ -21,12 +21,12 @@ impl<'a> Iterator for Names<'a> {
 
     ghost remaining = { item_count names_left };
 
-    #[tactic(auto, using(crate::proofs::NameLists::none_left))]
+    #[tactic(auto, using(crate::proofs::NameLists::none_left, crate::proofs::NameLists::some_bytes, crate::proofs::NameLists::no_bytes))]
     fn next(&mut self) -> Option<&'a str> {
         while !self.rest.is_empty() {
             let (part, rest) = first_part(self.rest);
             self.rest = rest;
-            let name = trimmed(part);
+            let name = trim(part);
             if !name.is_empty() {
                 return Some(name);
             }
@@ -39,7 +39,7 @@ impl<'a> Iterator for Names<'a> {
 #[tactic(auto, using(crate::proofs::NameLists::names_at_comma, crate::proofs::NameLists::names_without_comma, crate::proofs::NameLists::after_shorter))]
 fn first_part(text: &str) -> (&str, &str)
     requires { 0 < length text.now }
-    ensures names { names_of text.now ≡ with_name (trimmed_of result.0.now) (names_of result.1.now) }
+    ensures names { names_of text.now ≡ with_name (trim result.0.now) (names_of result.1.now) }
     ensures shorter { length result.1.now < length text.now }
 {
     match cut(text, ',') {

@@ -2,7 +2,8 @@
 use Rattle.std.proofs.Common.{◌≡◌, ℕ, suc, ◌+◌, false, List, [], ◌++◌, Ok, refl, sym, ap, subst, ◌∙◌, arith, append_assoc, append-nil}
 use Rattle.std.proofs.lemmas.Bool.{cond-false}
 use Rattle.yaml_lines.specs.declared.place.Place.{Place}
-use Rattle.yaml_lines.specs.Kept.{Kept, lines_of, kept_from, kept_lines, fault_from, first_line_fault}
+use Rattle.base.specs.Lines.{lines_of}
+use Rattle.yaml_lines.specs.Kept.{Kept, kept_from, kept_lines, fault_from, first_line_fault}
 use Rattle.yaml_lines.specs.Trees.{Trees, none, more, flat}
 use Rattle.yaml_lines.specs.Built.{is_empty, added_last, below_last, at_level, joined_by, forest_of, parsed_by, parsed}
 

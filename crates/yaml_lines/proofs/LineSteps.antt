@@ -2,24 +2,25 @@
 use Rattle.std.proofs.Common.{◌≡◌, ℕ, ◌+◌, ◌<◌, ◌≤◌, ◌≢◌, List, [], ◌∷◌, ◌++◌, length, take, drop, get_or, refl, sym, ap, ◌∙◌, arith, eqb}
 use Rattle.std.proofs.lemmas.Bool.{cond-true, cond-false, eq-eqb, ne_eqb}
 use Rattle.std.proofs.lemmas.List.{drop_more, drop_all, take_more, take_all, take_rest}
-use Rattle.yaml_lines.specs.Kept.{lines_of, longer_by}
+use Rattle.std.specs.List.{onto_first}
+use Rattle.base.specs.Lines.{lines_of}
 
 -- Lines of which the first begins with these bytes.
 abbrev pub led_by : List ℕ → List (List ℕ) → List (List ℕ)
 led_by [] lines = lines
-led_by (byte ∷ rest) lines = longer_by byte (led_by rest lines)
+led_by (byte ∷ rest) lines = onto_first byte (led_by rest lines)
 
-led_by-push : (front : List ℕ) (byte : ℕ) (lines : List (List ℕ)) → led_by (front ++ byte ∷ []) lines ≡ led_by front (longer_by byte lines)
+led_by-push : (front : List ℕ) (byte : ℕ) (lines : List (List ℕ)) → led_by (front ++ byte ∷ []) lines ≡ led_by front (onto_first byte lines)
 led_by-push [] byte lines = refl
-led_by-push (first ∷ front) byte lines = ap (longer_by first) (led_by-push front byte lines)
+led_by-push (first ∷ front) byte lines = ap (onto_first first) (led_by-push front byte lines)
 
 led_by-whole : (front : List ℕ) (lines : List (List ℕ)) → led_by front ([] ∷ lines) ≡ front ∷ lines
 led_by-whole [] lines = refl
-led_by-whole (first ∷ front) lines = ap (longer_by first) (led_by-whole front lines)
+led_by-whole (first ∷ front) lines = ap (onto_first first) (led_by-whole front lines)
 
 led_by-last : (first : ℕ) (front : List ℕ) → led_by (first ∷ front) [] ≡ (first ∷ front) ∷ []
 led_by-last first [] = refl
-led_by-last first (next ∷ front) = ap (longer_by first) (led_by-last next front)
+led_by-last first (next ∷ front) = ap (onto_first first) (led_by-last next front)
 
 -- One byte more that is no LF.
 pub led_by_more : (bytes : List ℕ) (at : ℕ) → at < length bytes → get_or bytes at 0 ≢ 10 →

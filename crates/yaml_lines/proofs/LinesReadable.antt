@@ -4,7 +4,9 @@ use Rattle.std.proofs.lemmas.Bool.{cases_Bool, cond-true, cond-false, and_parts,
 use Rattle.yaml_lines.specs.declared.place.Place.{Place}
 use Rattle.yaml_lines.specs.Blanks.{is_blank_byte, begins_191, begins_187_191, blank_len, begins_blank, after_blanks, only_blanks, is_blank_text, ends_blank, trim_start, trim_end, trim}
 use Rattle.yaml_lines.specs.Reading.{Words, begins_with, ends_with, without_last, unescape, after_indent, level_of, without_comment, before_colon, after_colon, unguarded_start, unguarded_end, key_of, value_of, words_of}
-use Rattle.yaml_lines.specs.Kept.{Kept, lines_of, longer_by, kept_of, kept_from, kept_lines}
+use Rattle.std.specs.List.{onto_first}
+use Rattle.base.specs.Lines.{lines_of}
+use Rattle.yaml_lines.specs.Kept.{Kept, kept_of, kept_from, kept_lines}
 use Rattle.yaml_lines.specs.Readable.{lacks, begins_guarded, ends_guarded, IsReadable, AllReadable}
 use Rattle.yaml_lines.proofs.BlankSteps.{front_cases}
 use Rattle.yaml_lines.proofs.BlankEnds.{ends_blank-append, last_one}
@@ -16,7 +18,7 @@ abbrev AllLines : List (List ℕ) → Type 0
 AllLines [] = Unit {0}
 AllLines (line ∷ rest) = (lacks 10 line ≡ true) × AllLines rest
 
-longer_lacks : (byte : ℕ) (lines : List (List ℕ)) → eqb byte 10 ≡ false → AllLines lines → AllLines (longer_by byte lines)
+longer_lacks : (byte : ℕ) (lines : List (List ℕ)) → eqb byte 10 ≡ false → AllLines lines → AllLines (onto_first byte lines)
 longer_lacks byte [] h l = (and_from _ _ (ap not h) refl, tt)
 longer_lacks byte (line ∷ rest) h l = (and_from _ _ (ap not h) l.0, l.1)
 

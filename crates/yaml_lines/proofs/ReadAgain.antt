@@ -4,7 +4,9 @@ use Rattle.std.proofs.lemmas.Bool.{cases_Bool, cond-true, cond-false, and_parts,
 use Rattle.std.proofs.lemmas.List.{length_push, take_at, get_or_push}
 use Rattle.yaml_lines.specs.Blanks.{is_blank_byte, begins_191, begins_187_191, blank_len, begins_blank, is_blank_text, ends_blank, trim_end, trim}
 use Rattle.yaml_lines.specs.Reading.{Words, without_last, unescape, after_indent, indent_tabs, indent_spaces, level_of, without_comment, before_colon, after_colon, unguarded_start, unguarded_end, key_of, value_of, words_of}
-use Rattle.yaml_lines.specs.Kept.{Kept, lines_of, longer_by, kept_of, kept_from, kept_lines}
+use Rattle.std.specs.List.{onto_first}
+use Rattle.base.specs.Lines.{lines_of}
+use Rattle.yaml_lines.specs.Kept.{Kept, kept_of, kept_from, kept_lines}
 use Rattle.yaml_lines.specs.Printed.{escape, start_guard, end_guard, printed_value, printed_text, tabs, printed_line, printed}
 use Rattle.yaml_lines.specs.Readable.{lacks, begins_guarded, ends_guarded, IsReadable, AllReadable, said}
 use Rattle.yaml_lines.proofs.BlankSteps.{trim_start-none}
@@ -16,7 +18,7 @@ pub lines_of-line : (line rest : List ℕ) → lacks 10 line ≡ true → lines_
 lines_of-line [] rest h = refl
 lines_of-line (byte ∷ line) rest h =
     let p = and_parts (not (eqb byte 10)) (lacks 10 line) h in
-    cond-false _ _ _ (not-true _ p.0) ∙ ap (longer_by byte) (lines_of-line line rest p.1)
+    cond-false _ _ _ (not-true _ p.0) ∙ ap (onto_first byte) (lines_of-line line rest p.1)
 
 -- Texts that lack a byte, joined.
 lacks-append : (byte : ℕ) (xs ys : List ℕ) → lacks byte xs ≡ true → lacks byte ys ≡ true → lacks byte (xs ++ ys) ≡ true

@@ -1,21 +1,12 @@
 -- The kept lines of a text, and its first line at fault.
-use Rattle.std.specs.Prelude.{◌≡◌, ℕ, ◌+◌, not, List, [], ◌∷◌, ◌++◌, length, if◌then◌else◌, ◌==◌, nat_lt, nat_le, Option, Some, None, ◌⊎◌}
+use Rattle.std.specs.Prelude.{◌≡◌, ℕ, ◌+◌, not, List, [], ◌∷◌, ◌++◌, length, if◌then◌else◌, nat_lt, nat_le, Option, Some, None, ◌⊎◌}
 use Rattle.std.specs.Str.{is_utf8}
+use Rattle.base.specs.Lines.{lines_of}
 use Rattle.yaml_lines.specs.declared.place.Place.{Place}
 use Rattle.yaml_lines.specs.declared.fault.LineFault.{LineFault}
 use Rattle.yaml_lines.specs.declared.fault.LineFault.TheVariants.{NotUtf8, BadIndent, TooDeep, LineTooLong, TooManyLines, NoMemory}
 use Rattle.yaml_lines.specs.declared.TheConstants.{MAX_LINES, MAX_LINE_BYTES, MAX_LEVELS}
 use Rattle.yaml_lines.specs.Reading.{Words, words_of}
-
--- A line begins with this byte.
-abbrev pub longer_by : ℕ → List (List ℕ) → List (List ℕ)
-longer_by byte [] = (byte ∷ []) ∷ []
-longer_by byte (line ∷ lines) = (byte ∷ line) ∷ lines
-
--- The lines of a file, each without its LF. A rest without LF is a line if it isn't empty.
-abbrev pub lines_of : List ℕ → List (List ℕ)
-lines_of [] = []
-lines_of (byte ∷ rest) = if byte == 10 then [] ∷ lines_of rest else longer_by byte (lines_of rest)
 
 -- A kept line, or a node of a forest: what it says, and where it stands.
 pub record Kept : Type 0 where
@@ -71,5 +62,5 @@ abbrev pub first_line_fault : ℕ → List ℕ → Option LineFault
 first_line_fault file bytes = fault_from file 1 0 (lines_of bytes)
 
 -- The answer is this fault, but for want of memory.
-abbrev pub IsFault : LineFault → Option LineFault → Type 0
-IsFault fault first = (fault ≡ NoMemory) ⊎ (first ≡ Some fault)
+abbrev pub IsLineFault : LineFault → Option LineFault → Type 0
+IsLineFault fault first = (fault ≡ NoMemory) ⊎ (first ≡ Some fault)

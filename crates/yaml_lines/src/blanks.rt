@@ -80,7 +80,7 @@ pub fn trim_end(text: &str) -> &str
     }
 }
 
-/// The text without the blanks at both ends.
+/// The text without the blanks at both ends. A blank is a space, a tab, a carriage return or the character U+FEFF.
 pub fn trim(text: &str) -> &str
     ensures { result.now ≡ trim text.now }
 {

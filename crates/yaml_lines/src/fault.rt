@@ -4,26 +4,43 @@ use crate::place::Place;
 use base::NoMemory;
 use thiserror::Error;
 
-/// Why a text has no forest. Each place is that of the first line at fault.
+/// Why a text has no forest: what the earliest line at fault has. Where one line has several, the order is
+/// `TooManyLines`, `NotUtf8`, `LineTooLong`, `BadIndent`, `TooDeep`. A line is kept where more than blanks and a comment
+/// stands in it.
 #[derive(Debug, Drop, Error)]
 pub enum LineFault {
-    /// The line isn't UTF-8.
+    /// Comes at a line that isn't UTF-8, kept or not.
     #[error("line {} isn't UTF-8", .place.line)]
-    NotUtf8 { place: Place },
-    /// The line is kept, and its level is above that of the last kept line plus one, or it is the first
-    /// kept line and its level is above 0.
+    NotUtf8 {
+        /// The line at fault.
+        place: Place,
+    },
+    /// Comes at a kept line whose level is more than one above that of the kept line before it, and at a first kept
+    /// line whose level is above 0.
     #[error("line {} is indented too far", .place.line)]
-    BadIndent { place: Place },
-    /// The line is kept, and its level is `MAX_LEVELS`.
+    BadIndent {
+        /// The line at fault.
+        place: Place,
+    },
+    /// Comes at a kept line at level `MAX_LEVELS`, which follows one at the deepest level.
     #[error("line {} is too deep", .place.line)]
-    TooDeep { place: Place },
-    /// The line has more than `MAX_LINE_BYTES` bytes before its LF.
+    TooDeep {
+        /// The line at fault.
+        place: Place,
+    },
+    /// Comes at a line of more than `MAX_LINE_BYTES` bytes before its LF, kept or not.
     #[error("line {} is too long", .place.line)]
-    LineTooLong { place: Place },
-    /// The line comes after `MAX_LINES` lines.
+    LineTooLong {
+        /// The line at fault.
+        place: Place,
+    },
+    /// Comes at line `MAX_LINES` + 1, whatever stands in it.
     #[error("line {} is a line too many", .place.line)]
-    TooManyLines { place: Place },
-    /// Want of memory.
+    TooManyLines {
+        /// The line at fault.
+        place: Place,
+    },
+    /// Want of memory. It may come in place of any other answer.
     #[error("out of memory")]
     NoMemory,
 }

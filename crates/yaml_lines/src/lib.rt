@@ -21,6 +21,7 @@ mod place;
 mod printing;
 mod text;
 
+pub use blanks::trim;
 pub use fault::LineFault;
 pub use forest::{Forest, Node};
 pub use parsing::parse;

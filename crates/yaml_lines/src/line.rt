@@ -1,5 +1,5 @@
 ghost use Rattle.std.specs.Prelude.{◌≡◌, ◌<◌, ◌≤◌, ◌+◌, ◌-◌, ◌/◌, ◌==◌, true, false, ◌++◌, MatchOption, slice_index, length, take, drop, string_bytes, IfOk, IfErr, IfSome, OnOk, Some, None, option_map};
-ghost use Rattle.yaml_lines.specs.Kept.{line_fault, IsFault};
+ghost use Rattle.yaml_lines.specs.Kept.{line_fault, IsLineFault};
 ghost use Rattle.yaml_lines.specs.Found.{words_found};
 ghost use Rattle.yaml_lines.specs.Reading.{words_of, after_indent, level_of, without_comment, before_colon, after_colon, unguarded_start, unguarded_end, unescape, key_of, value_of};
 
@@ -133,7 +133,7 @@ pub fn read_line(
     ensures sound { OnOk result (line_fault place allowed line.now ≡ None) }
     ensures found { IfOk result (λ found. option_map words_found found ≡ words_of line.now) }
     ensures level { IfOk result (λ found. IfSome found (λ f. f.level ≤ allowed)) }
-    ensures fault { IfErr result (λ fault. IsFault fault (line_fault place allowed line.now)) }
+    ensures fault { IfErr result (λ fault. IsLineFault fault (line_fault place allowed line.now)) }
 {
     if place.line > MAX_LINES {
         return Err(LineFault::TooManyLines { place });

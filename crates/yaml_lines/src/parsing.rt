@@ -1,7 +1,8 @@
 ghost use Rattle.std.specs.Prelude.{◌≡◌, ◌<◌, ◌≤◌, ◌+◌, ◌++◌, ◌∷◌, [], length, IfOk, IfErr, OnOk, MatchOption, None};
 ghost use Rattle.yaml_lines.specs.Built.{parsed};
 ghost use Rattle.yaml_lines.specs.Grown.{flat_grown, height};
-ghost use Rattle.yaml_lines.specs.Kept.{lines_of, kept_of, kept_lines, line_fault, allowed_after, first_line_fault, IsFault};
+ghost use Rattle.base.specs.Lines.{lines_of};
+ghost use Rattle.yaml_lines.specs.Kept.{kept_of, kept_lines, line_fault, allowed_after, first_line_fault, IsLineFault};
 ghost use Rattle.yaml_lines.specs.Readable.{AllReadable};
 ghost use Rattle.yaml_lines.specs.Reading.{words_of};
 ghost use Rattle.yaml_lines.specs.Trees.{trees_of, flat};
@@ -38,7 +39,7 @@ fn add_line(alloc: Global, grown: &mut Growing, place: Place, line: &[u8]) -> Re
     ensures sound { OnOk result (line_fault place (height grown.old) line.now ≡ None) }
     ensures added { OnOk result (flat_grown grown.new ≡ flat_grown grown.old ++ kept_of place (words_of line.now)) }
     ensures level { OnOk result (height grown.new ≡ allowed_after (height grown.old) (words_of line.now)) }
-    ensures fault { IfErr result (λ fault. IsFault fault (line_fault place (height grown.old) line.now)) }
+    ensures fault { IfErr result (λ fault. IsLineFault fault (line_fault place (height grown.old) line.now)) }
 {
     match read_line(alloc, place, grown.open.len(), line)? {
         Some(found) => Ok(grow::add(alloc, grown, place, found)?),
@@ -46,13 +47,18 @@ fn add_line(alloc: Global, grown: &mut Growing, place: Place, line: &[u8]) -> Re
     }
 }
 
-/// Reads a file: its kept lines as a forest, or its first line fault. `file` is the file's number.
+/// Reads a file: its kept lines as a forest, or its first line fault. `file` is the file's number, which each place has;
+/// its lines are numbered from 1.
+///
+/// The fault is that of the earliest line that has one. In one line the order is: `TooManyLines`, `NotUtf8`,
+/// `LineTooLong`, each also where the line isn't kept, then `BadIndent` and `TooDeep`. `NoMemory` is want of memory, and
+/// may come in place of any answer.
 pub fn parse(alloc: Global, file: u16, bytes: &[u8]) -> Result<Forest, LineFault>
     ensures sound { OnOk result (first_line_fault file bytes.now ≡ None) }
     ensures done { IfOk result (λ forest. parsed file bytes.now ≡ Ok (trees_of forest)) }
     ensures reads { IfOk result (λ forest. flat 0 (trees_of forest) ≡ kept_lines file bytes.now) }
     ensures readable { IfOk result (λ forest. AllReadable (flat 0 (trees_of forest))) }
-    ensures fault { IfErr result (λ fault. IsFault fault (first_line_fault file bytes.now)) }
+    ensures fault { IfErr result (λ fault. IsLineFault fault (first_line_fault file bytes.now)) }
 {
     let mut grown = grow::start(alloc);
     let mut rest = bytes;

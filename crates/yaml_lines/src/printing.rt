@@ -74,7 +74,8 @@ fn write_forest(out: &mut Vec<u8>, indent: &mut Vec<u8>, forest: &Forest) -> Res
 }
 
 /// Writes a forest as lines: each node in preorder with one tab a level, its key, a colon and its value. Where the keys
-/// and values came out of lines, the lines have the same levels, keys and values when they are read again.
+/// and values came out of lines, the lines have the same levels, keys and values when they are read again. It fails only
+/// for want of memory.
 #[tactic(auto, using(crate::proofs::ReadAgain::read_again))]
 pub fn print(alloc: Global, forest: &Forest) -> Result<Vec<u8>, NoMemory>
     ensures written { IfOk result (λ bytes. bytes.items ≡ printed (flat 0 (trees_of forest.now))) }

@@ -2,6 +2,7 @@
 use Rattle.std.proofs.Common.{◌≡◌, ℕ, ◌+◌, ◌-◌, ◌<◌, true, false, List, [], ◌∷◌, map, length, drop, get_or, sym, ap, ◌∙◌, Ok, Err}
 use Rattle.std.proofs.lemmas.Bool.{cond-true, cond-false}
 use Rattle.std.proofs.lemmas.List.{drop_more}
+use Rattle.base.specs.Steps.{◌>>=◌}
 use Rattle.yaml_lines.specs.declared.forest.Node.{Node}
 use Rattle.yaml_lines.specs.declared.forest.Forest.{Forest}
 use Rattle.yaml_lines.specs.declared.forest.Forest.TheViews.{out-Node}
@@ -11,7 +12,7 @@ use Rattle.yaml_lines.proofs.TreeSteps.{trees_out, trees_roll, before_out}
 use Rattle.yaml_merge.specs.declared.fault.MergeFault.{MergeFault}
 use Rattle.yaml_merge.specs.declared.TheConstants.{MAX_PATH, MAX_FOREST_NODES}
 use Rattle.yaml_merge.specs.Merging.{merged_into, merged_files}
-use Rattle.yaml_merge.specs.Resolving.{Outcome, after, within, removes, resolved_list, added, resolved_tops}
+use Rattle.yaml_merge.specs.Resolving.{Outcome, within, removes, resolved_list, added, resolved_tops}
 
 -- What is left after a removal is passed over.
 pub tops_past : (nodes : List Node) (at : ℕ) (d : Node) (tops done : Trees) → at < length nodes → removes (out-Node (get_or nodes at d)).key ≡ true →
@@ -29,10 +30,9 @@ merge_file files at d list next all h n e =
 
 tops_at : (nodes : List Node) (at : ℕ) (node : Node) (tops start : Trees) → at < length nodes → node ≡ get_or nodes at node → removes (out-Node node).key ≡ false →
     resolved_tops (trees_of_nodes (drop at nodes)) tops start
-    ≡ after
-    (after (resolved_list (MAX_PATH - 1) (trees_of (out-Node node).children) (MAX_LEVELS - 1) tops ((out-Node node).key ∷ []) none)
-    (λ below. within MAX_FOREST_NODES (out-Node node).place (added (out-Node node).key (out-Node node).value (out-Node node).place below start)))
-    (λ next. resolved_tops (trees_of_nodes (drop (at + 1) nodes)) tops next)
+    ≡ (resolved_list (MAX_PATH - 1) (trees_of (out-Node node).children) (MAX_LEVELS - 1) tops ((out-Node node).key ∷ []) none
+    >>= (λ below. within MAX_FOREST_NODES (out-Node node).place (added (out-Node node).key (out-Node node).value (out-Node node).place below start))
+    >>= λ next. resolved_tops (trees_of_nodes (drop (at + 1) nodes)) tops next)
 tops_at nodes at node tops start h n r =
     let rest = trees_of_nodes (drop (at + 1) nodes) in
     ap (λ l. resolved_tops (trees_of_nodes l) tops start) (drop_more nodes at node h)
@@ -50,9 +50,9 @@ tops_next nodes at node tops start below next kept all h n r b x w e =
     let o = out-Node node in
     let rest : Trees → Outcome = λ t. resolved_tops (trees_of_nodes (drop (at + 1) nodes)) tops t in
     sym (tops_at nodes at node tops start h n r
-    ∙ ap (λ u. after (after u (λ c. within MAX_FOREST_NODES o.place (added o.key o.value o.place c start))) rest) b
-    ∙ ap (λ t. after (within MAX_FOREST_NODES o.place t) rest) (sym x)
-    ∙ ap (λ u. after u rest) w)
+    ∙ ap (λ u. u >>= (λ c. within MAX_FOREST_NODES o.place (added o.key o.value o.place c start)) >>= rest) b
+    ∙ ap (λ t. within MAX_FOREST_NODES o.place t >>= rest) (sym x)
+    ∙ ap (λ u. u >>= rest) w)
     ∙ e
 
 pub tops_large : (nodes : List Node) (at : ℕ) (node : Node) (tops start below next : Trees) (fault : MergeFault) (all : Outcome) → at < length nodes → node ≡ get_or nodes at node →
@@ -66,8 +66,8 @@ tops_large nodes at node tops start below next fault all h n r b x w e =
     let rest : Trees → Outcome = λ t. resolved_tops (trees_of_nodes (drop (at + 1) nodes)) tops t in
     sym e
     ∙ tops_at nodes at node tops start h n r
-    ∙ ap (λ u. after (after u (λ c. within MAX_FOREST_NODES o.place (added o.key o.value o.place c start))) rest) b
-    ∙ ap (λ t. after (within MAX_FOREST_NODES o.place t) rest) (sym x)
-    ∙ ap (λ u. after u rest) w
+    ∙ ap (λ u. u >>= (λ c. within MAX_FOREST_NODES o.place (added o.key o.value o.place c start)) >>= rest) b
+    ∙ ap (λ t. within MAX_FOREST_NODES o.place t >>= rest) (sym x)
+    ∙ ap (λ u. u >>= rest) w
 
 pub ruleset top_steps = (tops_past, trees_roll, trees_out)

@@ -6,16 +6,18 @@ use Rattle.yaml_lines.specs.declared.forest.Forest.TheViews.{out-Node}
 use Rattle.yaml_lines.specs.declared.place.Place.{Place}
 use Rattle.yaml_lines.specs.Trees.{Trees, trees_of, before, trees_of_nodes}
 use Rattle.yaml_lines.proofs.TreeSteps.{before_out}
-use Rattle.yaml_merge.specs.Levels.{put_at, Belongs}
+use Rattle.yaml_merge.specs.Levels.{emptied}
 use Rattle.yaml_merge.specs.Merging.{joined, children_at, merged_into}
-use Rattle.yaml_merge.proofs.LevelLaws.{joined_below}
+use Rattle.yaml_merge.proofs.LevelLaws.{joined_below, joined_emptied}
 
 -- A node whose children were taken out, changed and put back.
-pub joined_back : (key value : List ℕ) (place : Place) (at : ℕ) (old left taken children next : Trees) (below : Trees → Trees) →
-    Belongs key old left at → taken ≡ children_at key old → children ≡ below taken → next ≡ put_at at value place children left → next ≡ joined key value place below old
-joined_back key value place at old left taken children next below b t c n =
+pub joined_back : (key value : List ℕ) (place : Place) (old left taken children next : Trees) (below : Trees → Trees) →
+    left ≡ emptied key old → taken ≡ children_at key old → children ≡ below taken → next ≡ joined key value place (λ _. children) left →
+    next ≡ joined key value place below old
+joined_back key value place old left taken children next below l t c n =
     n
-    ∙ b.back value place children
+    ∙ ap (joined key value place (λ _. children)) l
+    ∙ joined_emptied key value place children old
     ∙ ap (λ x. joined key value place (λ _. x) old) (c ∙ ap below t)
     ∙ joined_below key value place below old
 

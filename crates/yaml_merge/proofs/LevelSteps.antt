@@ -14,15 +14,15 @@ use Rattle.std.specs.Str.{bytes_eq}
 use Rattle.yaml_lines.specs.declared.place.Place.{Place}
 use Rattle.yaml_lines.specs.Trees.{Trees, none, more}
 use Rattle.yaml_merge.specs.declared.level.Body.{Body}
-use Rattle.yaml_merge.specs.Levels.{zipped, width, keys_of, Lacks, Stands, children_from, put_at, removed_from}
-use Rattle.yaml_merge.specs.Merging.{count, newer_value}
+use Rattle.yaml_merge.specs.Levels.{zipped, width, keys_of, Stands, children_from, emptied_at, put_at, removed_from}
+use Rattle.yaml_merge.specs.Merging.{Lacks, count, newer_value}
 use Rattle.yaml_merge.specs.Resolving.{added}
 
 -- The test by which a key is looked up.
 abbrev pub is_key : List ℕ → String Global → Bool
 is_key key held = bytes_eq key (string_bytes held)
 
-bytes_flip : (one other : List ℕ) → bytes_eq one other ≡ bytes_eq other one
+pub bytes_flip : (one other : List ℕ) → bytes_eq one other ≡ bytes_eq other one
 bytes_flip one other =
     let d = bytes_eq-Decides other one in
     same_from_decides (bytes_eq one other) (bytes_eq other one) (bytes_eq-Decides one other) (λ e. sym (d.0 e), λ e. d.1 (sym e))
@@ -107,6 +107,16 @@ put_zipped zero (key ∷ keys) (body ∷ bodies) d fresh value place below h w e
 put_zipped (suc at) (key ∷ keys) (body ∷ bodies) d fresh value place below h w e m =
     ap (λ rest. more (string_bytes key) body.value body.place body.children rest) (put_zipped at keys bodies d fresh value place below (omega arith) (omega arith) e m)
 
+pub emptied_zipped : (at : ℕ) (keys : List (String Global)) (bodies : List Body) (d : Body) (below : Trees) → length keys ≡ length bodies → at < length bodies → d ≡ get_or bodies at d → below ≡ none →
+    zipped keys (set bodies at (record { value = d.value; place = d.place; children = below })) ≡ emptied_at at (zipped keys bodies)
+emptied_zipped at [] bodies d below h w e n = absurd (omega arith)
+emptied_zipped at (key ∷ keys) [] d below h w e n = absurd (omega arith)
+emptied_zipped zero (key ∷ keys) (body ∷ bodies) d below h w e n =
+    ap (λ b. more (string_bytes key) b.value b.place below (zipped keys bodies)) e
+    ∙ ap (λ b. more (string_bytes key) body.value body.place b (zipped keys bodies)) n
+emptied_zipped (suc at) (key ∷ keys) (body ∷ bodies) d below h w e n =
+    ap (λ rest. more (string_bytes key) body.value body.place body.children rest) (emptied_zipped at keys bodies d below (omega arith) (omega arith) e n)
+
 count_set : (at : ℕ) (keys : List (String Global)) (bodies : List Body) (d made : Body) → length keys ≡ length bodies → at < length bodies → d ≡ get_or bodies at d →
     count (zipped keys (set bodies at made)) + count d.children ≡ count (zipped keys bodies) + count made.children
 count_set at [] bodies d made h w e = absurd (omega arith)
@@ -153,14 +163,13 @@ count_added key value place children none = omega arith
 count_added key value place children (more first old last others rest) = omega (arith, count_added key value place children rest)
 
 pub whole_added : (keys news : List (String Global)) (bodies more_bodies : List Body) (key : String Global) (body : Body) (total new : ℕ) → length keys ≡ length bodies →
-    total ≡ count (zipped keys bodies) → news ≡ keys ++ key ∷ [] → more_bodies ≡ bodies ++ body ∷ [] → body.children ≡ none → new ≡ total + 1 →
+    total ≡ count (zipped keys bodies) → news ≡ keys ++ key ∷ [] → more_bodies ≡ bodies ++ body ∷ [] → new ≡ total + count body.children + 1 →
     (length news ≡ length more_bodies) × (new ≡ count (zipped news more_bodies))
-whole_added keys news bodies more_bodies key body total new h t k b c n = (
+whole_added keys news bodies more_bodies key body total new h t k b n = (
   ap length k ∙ length-append keys (key ∷ []) ∙ ap (λ l. l + 1) h ∙ sym (length-append bodies (body ∷ [])) ∙ ap length (sym b),
   omega (
     arith,
     count_added (string_bytes key) body.value body.place body.children (zipped keys bodies),
-    ap count c,
     ap count (added_zipped keys bodies key body h),
     ap (λ l. count (zipped l more_bodies)) k,
     ap (λ l. count (zipped (keys ++ key ∷ []) l)) b,

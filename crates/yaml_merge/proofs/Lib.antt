@@ -9,3 +9,4 @@ pub mod ListSteps
 pub mod RemoveSteps
 pub mod FileSteps
 pub mod ReadableSteps
+pub mod SettledSteps

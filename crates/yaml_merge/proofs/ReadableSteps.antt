@@ -6,6 +6,7 @@ use Rattle.std.specs.Result.{IfOk}
 use Rattle.std.specs.Str.{bytes_eq}
 use Rattle.std.proofs.lemmas.List.Elements.{All-head, All-tail}
 use Rattle.std.proofs.lemmas.Result.{IfOk-weaker}
+use Rattle.base.specs.Steps.{◌>>=◌}
 use Rattle.yaml_lines.specs.declared.place.Place.{Place}
 use Rattle.yaml_lines.specs.declared.forest.Forest.{Forest}
 use Rattle.yaml_lines.specs.declared.TheConstants.{MAX_LEVELS}
@@ -16,7 +17,7 @@ use Rattle.yaml_merge.specs.declared.fault.MergeFault.{MergeFault}
 use Rattle.yaml_merge.specs.declared.fault.MergeFault.TheVariants.{Cycle, TooLarge, TooDeep}
 use Rattle.yaml_merge.specs.declared.TheConstants.{MAX_PATH, MAX_LIST_NODES, MAX_FOREST_NODES}
 use Rattle.yaml_merge.specs.Merging.{newer_value, joined, children_at, merged_into, merged_files, behind, without, count, levels}
-use Rattle.yaml_merge.specs.Resolving.{inherits, removes, parent_of, in_path, Outcome, after, within, inherited, removed, inherit_step, node_step, resolved_list, added, resolved_tops, removed_tops, resolved_files}
+use Rattle.yaml_merge.specs.Resolving.{inherits, removes, parent_of, in_path, Outcome, within, inherited, removed, inherit_step, node_step, resolved_list, added, resolved_tops, removed_tops, resolved_files}
 
 -- A readable node, wherever it stands.
 abbrev ReadableNode : (key value : List ℕ) → Type 0
@@ -137,7 +138,7 @@ parent_of_readable name (more key value place children rest) h =
     (either_left (bytes_eq key name) (Some children) (parent_of name rest) h.1 (parent_of_readable name rest h.2))
 
 after_readable : (outcome : Outcome) (next : Trees → Outcome) → IfDone outcome → ((trees : Trees) → Readable trees → IfDone (next trees)) →
-    IfDone (after outcome next)
+    IfDone (outcome >>= next)
 after_readable (Ok trees) next h n = n trees h
 after_readable (Err fault) next h n = tt
 
@@ -159,7 +160,7 @@ inherit_step_readable : (free room : ℕ) (place : Place) (name : List ℕ) (pat
     IfDone (inherit_step free room place name path parents list parent)
 inherit_step_readable free room place name path parents list None p h f = tt
 inherit_step_readable free room place name path parents list (Some children) p h f =
-    let taken = after (parents children) (inherited room place list) in
+    let taken = parents children >>= inherited room place list in
     either_done (in_path name path) (Err (Cycle place)) (cond (eqb free 0) (Err (TooDeep place)) taken) tt
     (either_done (eqb free 0) (Err (TooDeep place)) taken tt
     (after_readable (parents children) (inherited room place list) (p children f) (λ trees t. inherited_readable room place list trees h t)))
@@ -172,7 +173,7 @@ node_step_readable free room tops path key value place parents below list t n p 
     let taken = inherit_step free room place value path parents list (parent_of value tops) in
     let less = removed place (without (drop 1 key) list) in
     let add : Trees → Outcome = λ children. Ok (joined key value place (λ _. children) list) in
-    let more_node = after (below (children_at key list)) add in
+    let more_node = below (children_at key list) >>= add in
     either_done (inherits key) taken (cond (removes key) less more_node)
     (inherit_step_readable free room place value path parents list (parent_of value tops) p h (parent_of_readable value tops t))
     (either_done (removes key) less more_node (removed_readable place (without (drop 1 key) list) (without_readable (drop 1 key) list h))

@@ -5,7 +5,8 @@ use Rattle.yaml_lines.specs.declared.forest.Node.{Node}
 use Rattle.yaml_lines.specs.declared.forest.Forest.TheViews.{out-Node}
 use Rattle.yaml_lines.specs.Trees.{Trees, none, more, trees_of, trees_of_nodes}
 use Rattle.yaml_lines.proofs.TreeSteps.{before_out}
-use Rattle.yaml_merge.specs.Levels.{width, Lacks, Stands, children_from}
+use Rattle.yaml_merge.specs.Levels.{width, Stands, children_from}
+use Rattle.yaml_merge.specs.Merging.{Lacks}
 use Rattle.yaml_merge.specs.Resolving.{removes, parent_of}
 
 pub parent_none : (name : List ℕ) (tops : Trees) → removes name ≡ true → parent_of name tops ≡ None

@@ -1,11 +1,11 @@
 -- A list of nodes as the code holds it while it grows: the keys in order, and beside each key what else its node has.
-use Rattle.std.specs.Prelude.{◌≡◌, ℕ, zero, suc, ◌<◌, true, false, List, [], ◌∷◌, String, string_bytes}
+use Rattle.std.specs.Prelude.{◌≡◌, ℕ, zero, suc, true, false, List, [], ◌∷◌, if◌then◌else◌, String, string_bytes}
 use Rattle.std.proofs.Common.{Global}
 use Rattle.std.specs.Str.{bytes_eq}
 use Rattle.yaml_lines.specs.declared.place.Place.{Place}
 use Rattle.yaml_lines.specs.Trees.{Trees, none, more}
 use Rattle.yaml_merge.specs.declared.level.Body.{Body}
-use Rattle.yaml_merge.specs.Merging.{newer_value, joined}
+use Rattle.yaml_merge.specs.Merging.{newer_value}
 
 -- Keys and bodies side by side, as plain trees.
 abbrev pub zipped : List (String Global) → List Body → Trees
@@ -23,11 +23,6 @@ abbrev pub keys_of : Trees → List (List ℕ)
 keys_of none = []
 keys_of (more key value place children rest) = key ∷ keys_of rest
 
--- No node of the list has this key.
-abbrev pub Lacks : List ℕ → Trees → Type 0
-Lacks key none = Unit {0}
-Lacks key (more first value place children rest) = (bytes_eq first key ≡ false) × Lacks key rest
-
 -- The first node with this key stands at this place of the list.
 abbrev pub Stands : List ℕ → ℕ → Trees → Type 0
 Stands key at none = ⊥
@@ -40,6 +35,17 @@ children_from at none = none
 children_from zero (more key value place children rest) = children
 children_from (suc at) (more key value place children rest) = children_from at rest
 
+-- The list without the children of the node at a place, and the list without the children under a key.
+abbrev pub emptied_at : ℕ → Trees → Trees
+emptied_at at none = none
+emptied_at zero (more key value place children rest) = more key value place none rest
+emptied_at (suc at) (more key value place children rest) = more key value place children (emptied_at at rest)
+
+abbrev pub emptied : List ℕ → Trees → Trees
+emptied key none = none
+emptied key (more first value place children rest) =
+    if bytes_eq first key then more first value place none rest else more first value place children (emptied key rest)
+
 -- The list with a newer value, a new place and other children for the node at a place.
 abbrev pub put_at : ℕ → List ℕ → Place → Trees → Trees → Trees
 put_at at value place below none = none
@@ -51,9 +57,3 @@ abbrev pub removed_from : ℕ → Trees → Trees
 removed_from at none = none
 removed_from zero (more key value place children rest) = rest
 removed_from (suc at) (more key value place children rest) = more key value place children (removed_from at rest)
-
--- What was taken for a key out of the list `old`, which left `new`: the children under the key, and the place that its
--- node now has in the list.
-pub record Belongs (key : List ℕ) (old new : Trees) (at : ℕ) : Type 0 where
-  pub within : at < width new
-  pub back : (value : List ℕ) (place : Place) (below : Trees) → put_at at value place below new ≡ joined key value place (λ _. below) old

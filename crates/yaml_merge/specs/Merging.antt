@@ -1,5 +1,5 @@
 -- Merging on plain trees.
-use Rattle.std.specs.Prelude.{ℕ, suc, ◌+◌, List, [], ◌∷◌, if◌then◌else◌, max, Option, Some, None}
+use Rattle.std.specs.Prelude.{◌≡◌, ℕ, suc, ◌+◌, false, List, [], ◌∷◌, if◌then◌else◌, max, Option, Some, None}
 use Rattle.std.specs.Str.{bytes_eq}
 use Rattle.yaml_lines.specs.declared.place.Place.{Place}
 use Rattle.yaml_lines.specs.Trees.{Trees, none, more}
@@ -21,6 +21,11 @@ joined key value place below (more first old at children rest) =
 abbrev pub children_at : List ℕ → Trees → Trees
 children_at key none = none
 children_at key (more first value place children rest) = if bytes_eq first key then children else children_at key rest
+
+-- No node of the list has this key.
+abbrev pub Lacks : List ℕ → Trees → Type 0
+Lacks key none = Unit {0}
+Lacks key (more first value place children rest) = (bytes_eq first key ≡ false) × Lacks key rest
 
 -- The nodes of the first list taken in order into the second.
 abbrev pub merged_into : Trees → Trees → Trees

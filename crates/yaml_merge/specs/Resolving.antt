@@ -1,11 +1,12 @@
 -- Resolving: each parent is resolved anew each time it is inherited.
-use Rattle.std.specs.Prelude.{◌≡◌, ℕ, zero, suc, ◌-◌, Bool, false, ◌||◌, List, [], ◌∷◌, ◌++◌, if◌then◌else◌, ◌==◌, nat_lt, take, drop, codes, Option, Some, None, Result, Ok, Err, ◌⊎◌}
+use Rattle.std.specs.Prelude.{ℕ, zero, suc, ◌-◌, Bool, false, ◌||◌, List, [], ◌∷◌, ◌++◌, if◌then◌else◌, ◌==◌, nat_lt, take, drop, codes, Option, Some, None, Result, Ok, Err}
 use Rattle.std.specs.Str.{bytes_eq}
+use Rattle.base.specs.Steps.{◌>>=◌}
 use Rattle.yaml_lines.specs.declared.place.Place.{Place}
 use Rattle.yaml_lines.specs.declared.TheConstants.{MAX_LEVELS}
 use Rattle.yaml_lines.specs.Trees.{Trees, none, more}
 use Rattle.yaml_merge.specs.declared.fault.MergeFault.{MergeFault}
-use Rattle.yaml_merge.specs.declared.fault.MergeFault.TheVariants.{NoParent, Cycle, NothingToRemove, TooLarge, TooDeep, NoMemory}
+use Rattle.yaml_merge.specs.declared.fault.MergeFault.TheVariants.{NoParent, Cycle, NothingToRemove, TooLarge, TooDeep}
 use Rattle.yaml_merge.specs.declared.TheConstants.{MAX_PATH, MAX_LIST_NODES, MAX_FOREST_NODES}
 use Rattle.yaml_merge.specs.Merging.{joined, children_at, merged_into, merged_files, without, count, levels}
 
@@ -32,11 +33,6 @@ in_path name (first ∷ path) = bytes_eq first name || in_path name path
 abbrev pub Outcome : Type 0
 Outcome = Result Trees MergeFault
 
--- What comes after a step that may have failed.
-abbrev pub after : Outcome → (Trees → Outcome) → Outcome
-after (Ok trees) next = next trees
-after (Err fault) next = Err fault
-
 -- A list that may have grown too large at this place.
 unfoldable pub within : ℕ → Place → Trees → Outcome
 within limit place list = if nat_lt limit (count list) then Err (TooLarge place) else Ok list
@@ -54,7 +50,12 @@ abbrev pub inherit_step : (free room : ℕ) → Place → List ℕ → List (Lis
 inherit_step free room place name path parents list None = Err (NoParent place)
 inherit_step free room place name path parents list (Some children) =
     if in_path name path then Err (Cycle place)
-    else (if free == 0 then Err (TooDeep place) else after (parents children) (inherited room place list))
+    else (if free == 0 then Err (TooDeep place) else parents children >>= inherited room place list)
+
+-- A node that joins the list with its children, of which `below` says how they are resolved.
+abbrev pub join_step : (key value : List ℕ) → Place → (below : Trees → Outcome) → Trees → Outcome
+join_step key value place below list =
+    below (children_at key list) >>= λ children. Ok (joined key value place (λ _. children) list)
 
 -- One node of a list that is being resolved: what it inherits or removes, or the node with its children, of which
 -- `below` says how they are resolved.
@@ -62,26 +63,22 @@ unfoldable pub node_step : (free room : ℕ) → (tops : Trees) → List (List �
 node_step free room tops path key value place parents below list =
     if inherits key then inherit_step free room place value path parents list (parent_of value tops)
     else (if removes key then removed place (without (drop 1 key) list)
-    else after (below (children_at key list)) (λ children. Ok (joined key value place (λ _. children) list)))
+    else join_step key value place below list)
 
 -- The nodes of a list taken in order into a list that is there: for the resolving of the top-level nodes `tops`, where
 -- the path may get `free` more names and the nodes may take up `room` levels.
 unfoldable pub resolved_list : (free : ℕ) → (list : Trees) → (room : ℕ) → (tops : Trees) → (path : List (List ℕ)) → Trees → Outcome
 resolved_list free none room tops path start = Ok start
 resolved_list zero (more key value place children rest) room tops path start =
-    after
-    (after
-    (node_step zero room tops path key value place (λ parent. Ok none) (λ old. resolved_list zero children (room - 1) tops path old) start)
-    (within MAX_LIST_NODES place))
-    (λ list. resolved_list zero rest room tops path list)
+    node_step zero room tops path key value place (λ parent. Ok none) (λ old. resolved_list zero children (room - 1) tops path old) start
+    >>= within MAX_LIST_NODES place
+    >>= λ list. resolved_list zero rest room tops path list
 resolved_list (suc free) (more key value place children rest) room tops path start =
-    after
-    (after
-    (node_step (suc free) room tops path key value place
+    node_step (suc free) room tops path key value place
     (λ parent. resolved_list free parent (MAX_LEVELS - 1) tops (path ++ value ∷ []) none)
-    (λ old. resolved_list (suc free) children (room - 1) tops path old) start)
-    (within MAX_LIST_NODES place))
-    (λ list. resolved_list (suc free) rest room tops path list)
+    (λ old. resolved_list (suc free) children (room - 1) tops path old) start
+    >>= within MAX_LIST_NODES place
+    >>= λ list. resolved_list (suc free) rest room tops path list
 
 -- How a parent is resolved for a node whose path may get `free` more names.
 abbrev pub parents : (free : ℕ) → (tops : Trees) → List (List ℕ) → List ℕ → Trees → Outcome
@@ -104,24 +101,19 @@ resolved_tops none tops done = Ok done
 resolved_tops (more key value place children rest) tops done =
     if removes key then resolved_tops rest tops done
     else
-    after
-    (after (resolved_list (MAX_PATH - 1) children (MAX_LEVELS - 1) tops (key ∷ []) none)
-    (λ below. within MAX_FOREST_NODES place (added key value place below done)))
-    (λ next. resolved_tops rest tops next)
+    resolved_list (MAX_PATH - 1) children (MAX_LEVELS - 1) tops (key ∷ []) none
+    >>= (λ below. within MAX_FOREST_NODES place (added key value place below done))
+    >>= λ next. resolved_tops rest tops next
 
 -- The removals at the top level, in order.
 abbrev pub removed_tops : Trees → Trees → Outcome
 removed_tops none done = Ok done
 removed_tops (more key value place children rest) done =
-    if removes key then after (removed place (without (drop 1 key) done)) (λ next. removed_tops rest next)
+    if removes key then removed place (without (drop 1 key) done) >>= (λ next. removed_tops rest next)
     else removed_tops rest done
 
 -- The resolved forest of some files, or the first fault in the order of resolving.
 unfoldable pub resolved_files : List Trees → Outcome
 resolved_files files =
     let tops = merged_files files none in
-    after (resolved_tops tops tops none) (λ done. removed_tops tops done)
-
--- The answer is this fault, but for want of memory.
-abbrev pub IsFault : MergeFault → Outcome → Type 0
-IsFault fault outcome = (fault ≡ NoMemory) ⊎ (outcome ≡ Err fault)
+    resolved_tops tops tops none >>= λ done. removed_tops tops done

@@ -5,25 +5,43 @@ use std::alloc::AllocFailed;
 use thiserror::Error;
 use yaml_lines::Place;
 
-/// Why files have no resolved forest. Each place is that of the node at hand.
+/// Why files have no resolved forest: the first fault in the order of resolving. Each place is that at which the node at
+/// hand was read last.
 #[derive(Debug, Drop, Error)]
 pub enum MergeFault {
-    /// No top-level node has the name that is inherited.
+    /// Comes at an `Inherits` whose value is the key of no top-level node, or begins with `-`.
     #[error("line {} inherits a name that isn't there", .place.line)]
-    NoParent { place: Place },
-    /// The name that is inherited is being resolved.
+    NoParent {
+        /// The place of the `Inherits` node.
+        place: Place,
+    },
+    /// Comes at an `Inherits` whose value names a top-level node that is being resolved.
     #[error("line {} closes a circle of parents", .place.line)]
-    Cycle { place: Place },
-    /// No node has the key that is removed.
+    Cycle {
+        /// The place of the `Inherits` node.
+        place: Place,
+    },
+    /// Comes at a removal where no node of the list so far has the key that is removed.
     #[error("line {} removes a node that isn't there", .place.line)]
-    NothingToRemove { place: Place },
-    /// A list has more than `MAX_LIST_NODES` nodes, or the forest more than `MAX_FOREST_NODES`.
+    NothingToRemove {
+        /// The place of the removal.
+        place: Place,
+    },
+    /// Comes at a node with which a list that is being resolved gets more than `MAX_LIST_NODES` nodes, or the forest more
+    /// than `MAX_FOREST_NODES`.
     #[error("line {} makes too large a list", .place.line)]
-    TooLarge { place: Place },
-    /// The path of parents has `MAX_PATH` names already, or inherited nodes would stand too deep.
+    TooLarge {
+        /// The place of the node that was taken in last; for the forest that of the top-level node.
+        place: Place,
+    },
+    /// Comes at an `Inherits` where the path of parents has `MAX_PATH` names already, or where an inherited node would
+    /// stand at level `MAX_LEVELS`.
     #[error("line {} goes too deep", .place.line)]
-    TooDeep { place: Place },
-    /// Want of memory.
+    TooDeep {
+        /// The place of the `Inherits` node.
+        place: Place,
+    },
+    /// Want of memory. It may come in place of any other answer.
     #[error("out of memory")]
     NoMemory,
 }

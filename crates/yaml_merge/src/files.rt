@@ -1,9 +1,12 @@
 ghost use Rattle.std.specs.Prelude.{◌≡◌, ◌-◌, [], ◌∷◌, map, All, IfOk, IfErr, Ok};
+ghost use Rattle.base.specs.Steps.{IsFault};
 ghost use Rattle.yaml_lines.specs.Readable.{IsReadableForest};
 ghost use Rattle.yaml_lines.specs.Trees.{none, more, trees_of, before};
 ghost use Rattle.yaml_lines.specs.declared.forest.Forest.TheViews.{out-Node};
+ghost use Rattle.yaml_merge.specs.declared.fault.MergeFault.TheVariants.{NoMemory};
 ghost use Rattle.yaml_merge.specs.Merging.{merged_files};
-ghost use Rattle.yaml_merge.specs.Resolving.{resolved_list, resolved_tops, removed_tops, resolved_files, IsFault};
+ghost use Rattle.yaml_merge.specs.Resolving.{resolved_list, resolved_tops, removed_tops, resolved_files};
+ghost use Rattle.yaml_merge.specs.Settled.{IsSettledForest};
 
 use crate::fault::MergeFault;
 use crate::level::Level;
@@ -20,7 +23,7 @@ use yaml_lines::{Forest, MAX_LEVELS, Node};
 /// The resolved children of a top-level node.
 fn resolve_top(alloc: Global, tops: &Tops, node: &Node) -> Result<Level, MergeFault>
     ensures done { IfOk result (λ level. resolved_list (MAX_PATH - 1) (trees_of (out-Node node.now).children) (MAX_LEVELS - 1) (trees_of tops.now.forest) ((out-Node node.now).key ∷ []) none ≡ Ok level) }
-    ensures fault { IfErr result (λ fault. IsFault fault (resolved_list (MAX_PATH - 1) (trees_of (out-Node node.now).children) (MAX_LEVELS - 1) (trees_of tops.now.forest) ((out-Node node.now).key ∷ []) none)) }
+    ensures fault { IfErr result (λ fault. IsFault NoMemory fault (resolved_list (MAX_PATH - 1) (trees_of (out-Node node.now).children) (MAX_LEVELS - 1) (trees_of tops.now.forest) ((out-Node node.now).key ∷ []) none)) }
 {
     let mut path = Vec::new(alloc);
     path.push(node.key.copy(alloc)?)?;
@@ -53,7 +56,7 @@ fn top_node(alloc: Global, node: &Node, children: Level) -> Result<Node, NoMemor
 /// Resolves the top-level nodes that are no removals, in order.
 fn resolve_tops(alloc: Global, tops: &Tops) -> Result<Forest, MergeFault>
     ensures done { IfOk result (λ forest. resolved_tops (trees_of tops.now.forest) (trees_of tops.now.forest) none ≡ Ok (trees_of forest)) }
-    ensures fault { IfErr result (λ fault. IsFault fault (resolved_tops (trees_of tops.now.forest) (trees_of tops.now.forest) none)) }
+    ensures fault { IfErr result (λ fault. IsFault NoMemory fault (resolved_tops (trees_of tops.now.forest) (trees_of tops.now.forest) none)) }
 {
     let mut nodes = Vec::new(alloc);
     let mut total = 0usize;
@@ -74,7 +77,7 @@ fn resolve_tops(alloc: Global, tops: &Tops) -> Result<Forest, MergeFault>
 /// Removes what the top-level removals name, in order.
 fn remove_tops(tops: &Forest, list: Forest) -> Result<Forest, MergeFault>
     ensures done { IfOk result (λ forest. removed_tops (trees_of tops.now) (trees_of list) ≡ Ok (trees_of forest)) }
-    ensures fault { IfErr result (λ fault. IsFault fault (removed_tops (trees_of tops.now) (trees_of list))) }
+    ensures fault { IfErr result (λ fault. IsFault NoMemory fault (removed_tops (trees_of tops.now) (trees_of list))) }
 {
     let mut done = list;
     for node in &tops.nodes {
@@ -99,13 +102,24 @@ fn merge_files(alloc: Global, files: &[Forest]) -> Result<Level, NoMemory>
     Ok(list)
 }
 
-/// Merges the files in order, and resolves what their nodes inherit and remove. Where lines can give the nodes of all
-/// files, they can give those of the answer.
+/// Merges the files in order, and resolves what their nodes inherit and remove.
+///
+/// In each list of the answer a key stands once, and nothing is left to resolve: no node is a removal, and none below
+/// the top level is an `Inherits`. Where lines can give the nodes of all files, they can give those of the answer.
+///
+/// The fault is the first in the order of resolving: the top-level nodes that are no removals, in order, each with the nodes
+/// below it in order, and then the removals at the top level. At an `Inherits` the order is: `NoParent`, `Cycle`, `TooDeep`
+/// where the path has `MAX_PATH` names already, the faults inside the parent, `TooDeep` where a node of the parent would
+/// stand at level `MAX_LEVELS`, `TooLarge`. At a removal `NothingToRemove` comes where the list so far has no such node.
+/// `TooLarge` comes after a node below the top level where its list has more than `MAX_LIST_NODES` nodes then, and after a
+/// top-level node where the forest has more than `MAX_FOREST_NODES` then. `NoMemory` is want of memory, and may come in
+/// place of any answer.
 #[tactic(auto, unfolding(crate::specs::Resolving::resolved_files))]
 pub fn resolve(alloc: Global, files: &[Forest]) -> Result<Forest, MergeFault>
     ensures done { IfOk result (λ forest. resolved_files (map trees_of files.now) ≡ Ok (trees_of forest)) }
+    ensures settled { IfOk result IsSettledForest }
     ensures readable { All IsReadableForest files.now → IfOk result IsReadableForest }
-    ensures fault { IfErr result (λ fault. IsFault fault (resolved_files (map trees_of files.now))) }
+    ensures fault { IfErr result (λ fault. IsFault NoMemory fault (resolved_files (map trees_of files.now))) }
 {
     let list = merge_files(alloc, files)?;
     let tops = Tops::of(alloc, list)?;

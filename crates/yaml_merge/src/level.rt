@@ -1,10 +1,9 @@
-ghost use Rattle.std.specs.Prelude.{◌≡◌, ◌<◌, [], IfOk, OnOk, MatchOption, if◌then◌else◌};
+ghost use Rattle.std.specs.Prelude.{◌≡◌, ◌<◌, OnOk, MatchOption, if◌then◌else◌};
 ghost use Rattle.yaml_lines.specs.Trees.{none};
-ghost use Rattle.yaml_merge.specs.Levels.{width, Lacks, Stands, children_from, put_at, removed_from, Belongs};
-ghost use Rattle.yaml_merge.specs.Merging.{count, children_at, newer_value, without};
+ghost use Rattle.yaml_merge.specs.Levels.{width, Stands, children_from, emptied, emptied_at, put_at, removed_from};
+ghost use Rattle.yaml_merge.specs.Merging.{Lacks, count, children_at, joined, newer_value, without};
 ghost use Rattle.yaml_merge.specs.Resolving.{added};
 
-use crate::taken::Taken;
 use base::NoMemory;
 use indexmap::IndexSet;
 use std::alloc::{AllocError, Global};
@@ -82,62 +81,61 @@ impl Level {
         self.keys.get_index_of(key)
     }
 
-    /// Takes the children of a node out of the list, and notes the node's new place.
-    fn empty_at(&mut self, alloc: Global, at: usize, place: Place) -> Level
+    /// Takes the children of the node at a place out of the list.
+    fn empty_at(&mut self, alloc: Global, at: usize) -> Level
         requires { at < width self.old }
         ensures children { result ≡ children_from at self.old }
-        ensures left { self.new ≡ put_at at [] place none self.old }
+        ensures left { self.new ≡ emptied_at at self.old }
     {
         let body = &mut self.bodies[at];
         let children = mem::replace(&mut body.children, Level::new(alloc));
-        body.place = place;
         self.total -= children.total();
         children
     }
 
-    /// Adds a node with no value and no children last.
-    fn add(&mut self, alloc: Global, key: &Text, place: Place) -> Result<(), NoMemory>
-        requires { Lacks key.now self.old }
-        ensures { OnOk result (self.new ≡ added key.now [] place none self.old) }
+    /// Takes the children under a key out of the list: none where no node has the key.
+    pub fn take(&mut self, alloc: Global, key: &Text) -> Level
+        ensures children { result ≡ children_at key.now self.old }
+        ensures left { self.new ≡ emptied key.now self.old }
     {
-        let Some(total) = self.total.checked_add(1) else {
+        match self.find(key.as_str()) {
+            Some(at) => self.empty_at(alloc, at),
+            None => Level::new(alloc),
+        }
+    }
+
+    /// Adds a node last.
+    fn add(
+        &mut self,
+        alloc: Global,
+        key: &Text,
+        value: &Text,
+        place: Place,
+        children: Level,
+    ) -> Result<(), NoMemory>
+        requires { Lacks key.now self.old }
+        ensures { OnOk result (self.new ≡ added key.now value.now place children self.old) }
+    {
+        let Some(others) = self.total.checked_add(1) else {
             return Err(AllocError);
         };
+        let Some(total) = others.checked_add(children.total()) else {
+            return Err(AllocError);
+        };
+        let value = value.copy(alloc)?;
         self.bodies.reserve(1)?;
         self.keys.insert(key.copy(alloc)?.into_string())?;
         self.bodies.push_reserved(Body {
-            value: Text::from_string(String::new(alloc)),
+            value,
             place,
-            children: Level::new(alloc),
+            children,
         });
         self.total = total;
         Ok(())
     }
 
-    /// Takes the children of the node with this key out of the list, and notes the node's new place. Where no node
-    /// has the key, one with no value is added last.
-    pub fn take(&mut self, alloc: Global, key: &Text, place: Place) -> Result<Taken, NoMemory>
-        ensures children { IfOk result (λ taken. taken.children ≡ children_at key.now self.old) }
-        ensures belongs { IfOk result (λ taken. Belongs key.now self.old self.new taken.at) }
-    {
-        match self.find(key.as_str()) {
-            Some(at) => Ok(Taken {
-                at,
-                children: self.empty_at(alloc, at, place),
-            }),
-            None => {
-                let at = self.bodies.len();
-                self.add(alloc, key, place)?;
-                Ok(Taken {
-                    at,
-                    children: Level::new(alloc),
-                })
-            }
-        }
-    }
-
     /// Gives the node at a place the value, unless that is empty, and the place and the children.
-    pub fn fill(
+    fn fill(
         &mut self,
         alloc: Global,
         at: usize,
@@ -158,6 +156,24 @@ impl Level {
         body.children = children;
         self.total = total;
         Ok(())
+    }
+
+    /// Joins a node to the list: the node with its key gets the value, unless that is empty, and the place and the
+    /// children. Where no node has the key, it comes last.
+    pub fn join(
+        &mut self,
+        alloc: Global,
+        key: &Text,
+        value: &Text,
+        place: Place,
+        children: Level,
+    ) -> Result<(), NoMemory>
+        ensures { OnOk result (self.new ≡ joined key.now value.now place (λ _. children) self.old) }
+    {
+        match self.find(key.as_str()) {
+            Some(at) => self.fill(alloc, at, value, place, children),
+            None => self.add(alloc, key, value, place, children),
+        }
     }
 
     /// Removes the node at a place.

@@ -12,7 +12,6 @@ mod removing;
 mod resolving;
 mod sizes;
 mod steps;
-mod taken;
 mod tops;
 
 pub use fault::MergeFault;
@@ -24,7 +23,7 @@ pub const MAX_PATH: usize = 64;
 /// The most nodes, at all depths, of a list that is being resolved.
 pub const MAX_LIST_NODES: usize = 262_144;
 
-/// The most nodes, at all depths, of the resolved forest.
+/// The most nodes, at all depths, of the resolved forest before the removals at its top level.
 pub const MAX_FOREST_NODES: usize = 2_097_152;
 
 #[cfg(test)]

@@ -3,7 +3,6 @@ ghost use Rattle.yaml_lines.specs.Trees.{trees_of};
 ghost use Rattle.yaml_merge.specs.Merging.{merged_into};
 
 use crate::level::Level;
-use crate::taken::Taken;
 use base::NoMemory;
 use std::alloc::Global;
 use yaml_lines::Forest;
@@ -14,9 +13,9 @@ pub fn merge(alloc: Global, new: &Forest, old: Level) -> Result<Level, NoMemory>
 {
     let mut list = old;
     for node in &new.nodes {
-        let Taken { at, children } = list.take(alloc, &node.key, node.place)?;
+        let children = list.take(alloc, &node.key);
         let children = merge(alloc, &node.children, children)?;
-        list.fill(alloc, at, &node.value, node.place, children)?;
+        list.join(alloc, &node.key, &node.value, node.place, children)?;
     }
     Ok(list)
 }

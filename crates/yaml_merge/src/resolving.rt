@@ -1,14 +1,14 @@
 ghost use Rattle.std.specs.Prelude.{◌≡◌, ◌-◌, IfOk, IfErr, OnOk, Ok};
+ghost use Rattle.base.specs.Steps.{IsFault};
 ghost use Rattle.yaml_lines.specs.Trees.{trees_of};
 ghost use Rattle.yaml_lines.specs.declared.forest.Forest.TheViews.{out-Node};
-ghost use Rattle.yaml_merge.specs.Merging.{joined, children_at};
-ghost use Rattle.yaml_merge.specs.Resolving.{after, parent_of, inherit_step, parents, taken_in, resolved_list, IsFault};
+ghost use Rattle.yaml_merge.specs.declared.fault.MergeFault.TheVariants.{NoMemory};
+ghost use Rattle.yaml_merge.specs.Resolving.{parent_of, inherit_step, join_step, parents, taken_in, resolved_list};
 
 use crate::MAX_LIST_NODES;
 use crate::fault::MergeFault;
 use crate::level::Level;
 use crate::steps::{in_path, inherit, inherits, removal, remove, within};
-use crate::taken::Taken;
 use crate::tops::Tops;
 use std::alloc::Global;
 use yaml_lines::{Forest, MAX_LEVELS, Node, Text};
@@ -27,7 +27,7 @@ fn inherit_node(
 ) -> Result<Level, MergeFault>
     ensures taken { IfOk result (λ level. inherit_step free room (out-Node node.now).place (out-Node node.now).value path.old.items (parents free (trees_of tops.now.forest) path.old.items (out-Node node.now).value) list (parent_of (out-Node node.now).value (trees_of tops.now.forest)) ≡ Ok level) }
     ensures path { OnOk result (path.new.items ≡ path.old.items) }
-    ensures fault { IfErr result (λ fault. IsFault fault (inherit_step free room (out-Node node.now).place (out-Node node.now).value path.old.items (parents free (trees_of tops.now.forest) path.old.items (out-Node node.now).value) list (parent_of (out-Node node.now).value (trees_of tops.now.forest)))) }
+    ensures fault { IfErr result (λ fault. IsFault NoMemory fault (inherit_step free room (out-Node node.now).place (out-Node node.now).value path.old.items (parents free (trees_of tops.now.forest) path.old.items (out-Node node.now).value) list (parent_of (out-Node node.now).value (trees_of tops.now.forest)))) }
 {
     let place = node.place;
     let name = node.value.as_str();
@@ -58,15 +58,15 @@ fn join_node(
     path: &mut Vec<Text>,
     list: Level,
 ) -> Result<Level, MergeFault>
-    ensures taken { IfOk result (λ level. after (resolved_list free (trees_of (out-Node node.now).children) (room - 1) (trees_of tops.now.forest) path.old.items (children_at (out-Node node.now).key list)) (λ children. Ok (joined (out-Node node.now).key (out-Node node.now).value (out-Node node.now).place (λ _. children) list)) ≡ Ok level) }
+    ensures taken { IfOk result (λ level. join_step (out-Node node.now).key (out-Node node.now).value (out-Node node.now).place (λ old. resolved_list free (trees_of (out-Node node.now).children) (room - 1) (trees_of tops.now.forest) path.old.items old) list ≡ Ok level) }
     ensures path { OnOk result (path.new.items ≡ path.old.items) }
-    ensures fault { IfErr result (λ fault. IsFault fault (after (resolved_list free (trees_of (out-Node node.now).children) (room - 1) (trees_of tops.now.forest) path.old.items (children_at (out-Node node.now).key list)) (λ children. Ok (joined (out-Node node.now).key (out-Node node.now).value (out-Node node.now).place (λ _. children) list)))) }
+    ensures fault { IfErr result (λ fault. IsFault NoMemory fault (join_step (out-Node node.now).key (out-Node node.now).value (out-Node node.now).place (λ old. resolved_list free (trees_of (out-Node node.now).children) (room - 1) (trees_of tops.now.forest) path.old.items old) list)) }
 {
     let mut list = list;
-    let Taken { at, children } = list.take(alloc, &node.key, node.place)?;
+    let children = list.take(alloc, &node.key);
     let room = room.saturating_sub(1);
     let children = resolve_list(alloc, tops, &node.children, free, room, path, children)?;
-    list.fill(alloc, at, &node.value, node.place, children)?;
+    list.join(alloc, &node.key, &node.value, node.place, children)?;
     Ok(list)
 }
 
@@ -84,7 +84,7 @@ fn take_in(
 ) -> Result<Level, MergeFault>
     ensures taken { IfOk result (λ level. taken_in free room (trees_of tops.now.forest) path.old.items (out-Node node.now).key (out-Node node.now).value (out-Node node.now).place (trees_of (out-Node node.now).children) list ≡ Ok level) }
     ensures path { OnOk result (path.new.items ≡ path.old.items) }
-    ensures fault { IfErr result (λ fault. IsFault fault (taken_in free room (trees_of tops.now.forest) path.old.items (out-Node node.now).key (out-Node node.now).value (out-Node node.now).place (trees_of (out-Node node.now).children) list)) }
+    ensures fault { IfErr result (λ fault. IsFault NoMemory fault (taken_in free room (trees_of tops.now.forest) path.old.items (out-Node node.now).key (out-Node node.now).value (out-Node node.now).place (trees_of (out-Node node.now).children) list)) }
 {
     let key = node.key.as_str();
     if inherits(key.as_bytes()) {
@@ -110,7 +110,7 @@ pub fn resolve_list(
 ) -> Result<Level, MergeFault>
     ensures done { IfOk result (λ level. resolved_list free (trees_of list.now) room (trees_of tops.now.forest) path.old.items start ≡ Ok level) }
     ensures path { OnOk result (path.new.items ≡ path.old.items) }
-    ensures fault { IfErr result (λ fault. IsFault fault (resolved_list free (trees_of list.now) room (trees_of tops.now.forest) path.old.items start)) }
+    ensures fault { IfErr result (λ fault. IsFault NoMemory fault (resolved_list free (trees_of list.now) room (trees_of tops.now.forest) path.old.items start)) }
 {
     let mut done = start;
     for node in &list.nodes {

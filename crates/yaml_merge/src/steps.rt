@@ -1,8 +1,10 @@
 ghost use Rattle.std.specs.Prelude.{◌≡◌, true, false, drop, MatchOption, IfOk, IfErr, Ok, Err};
 ghost use Rattle.std.specs.Str.{bytes_eq};
+ghost use Rattle.base.specs.Steps.{IsFault};
 ghost use Rattle.yaml_lines.specs.Trees.{trees_of};
+ghost use Rattle.yaml_merge.specs.declared.fault.MergeFault.TheVariants.{NoMemory};
 ghost use Rattle.yaml_merge.specs.Merging.{without};
-ghost use Rattle.yaml_merge.specs.Resolving.{inherits, removes, in_path, within, inherited, removed, IsFault};
+ghost use Rattle.yaml_merge.specs.Resolving.{inherits, removes, in_path, within, inherited, removed};
 
 use crate::fault::MergeFault;
 use crate::level::Level;
@@ -91,7 +93,7 @@ pub fn inherit(
     parent: Level,
 ) -> Result<Level, MergeFault>
     ensures taken { IfOk result (λ level. inherited room place list parent ≡ Ok level) }
-    ensures fault { IfErr result (λ fault. IsFault fault (inherited room place list parent)) }
+    ensures fault { IfErr result (λ fault. IsFault NoMemory fault (inherited room place list parent)) }
 {
     let Tops { forest, names: _ } = Tops::of(alloc, parent)?;
     if !has_levels(&forest, room) {

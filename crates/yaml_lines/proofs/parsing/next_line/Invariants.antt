@@ -1,5 +1,5 @@
 use Rattle.std.proofs.Common.{◌≡◌, take, drop}
-use Rattle.yaml_lines.specs.Kept.{lines_of}
+use Rattle.base.specs.Lines.{lines_of}
 use Rattle.yaml_lines.proofs.LineSteps.{led_by}
 use Rattle.yaml_lines.proofs.parsing.next_line.Given as goal
 

@@ -1,6 +1,7 @@
 use Rattle.std.proofs.Common.{◌≡◌, ◌+◌, ◌≤◌, ◌++◌, length}
 use Rattle.yaml_lines.specs.declared.TheConstants.{MAX_LINES}
-use Rattle.yaml_lines.specs.Kept.{lines_of, kept_from, kept_lines, fault_from, first_line_fault}
+use Rattle.base.specs.Lines.{lines_of}
+use Rattle.yaml_lines.specs.Kept.{kept_from, kept_lines, fault_from, first_line_fault}
 use Rattle.yaml_lines.specs.Grown.{flat_grown, height}
 use Rattle.yaml_lines.proofs.parsing.parse.Given as goal
 

@@ -9,8 +9,7 @@ pub loop-node-preserved : goal.loop-node-preserved
 loop-node-preserved t c =
     let node = c.node-item.result in
     let o = out-Node node in
-    let taken = c.in_ok-at.ensures {u = tt} in
-    merge_step c.deref-node-items.result.now c.loop-node.node-index node c.loop-node.list c.fill.new.self _ (omega arith) c.node-item.is
-    (joined_back o.key o.value o.place c.in_ok-at.field-0.at c.loop-node.list c.take.new.self c.in_ok-at.field-0.children c.in_ok-children.children c.fill.new.self
-    (merged_into (trees_of o.children)) taken.belongs taken.children (c.in_ok-children.ensures {u = tt}) (c.in_ok-fill.ensures {u = tt}))
+    merge_step c.deref-node-items.result.now c.loop-node.node-index node c.loop-node.list c.join.new.self _ (omega arith) c.node-item.is
+    (joined_back o.key o.value o.place c.loop-node.list c.take-children.new.self c.take-children.result c.in_ok-children.children c.join.new.self
+    (merged_into (trees_of o.children)) c.take-children.ensures.left c.take-children.ensures.children (c.in_ok-children.ensures {u = tt}) (c.in_ok-join.ensures {u = tt}))
     c.loop-node.invariant

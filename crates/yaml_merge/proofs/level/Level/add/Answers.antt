@@ -1,5 +1,4 @@
 use Rattle.std.proofs.Common.{◌≡◌, ◌∙◌, ◌++◌, ◌∷◌, [], ap, arith}
-use Rattle.yaml_lines.specs.Trees.{none}
 use Rattle.yaml_merge.specs.declared.level.Body.{Body}
 use Rattle.yaml_merge.specs.Levels.{keys_of, zipped}
 use Rattle.yaml_merge.specs.Resolving.{added}
@@ -11,24 +10,23 @@ invariant_of-self-2 c =
     let held = c.self.inside in
     let text = c.into_string.ensures ∙ c.in_ok-copy.ensures {u = tt} in
     let lacks = none_lacks c.args.key.now held.keys.keys c.args.self.now (keys_zipped held.keys.keys held.bodies.items c.self.invariant.0 ∙ ap keys_of c.self.view_is) c.requires in
-    let body : Body = record { value = c.from_string.result; place = c.args.place; children = c.new-2.result } in
+    let body : Body = record { value = c.in_ok-value.value; place = c.args.place; children = c.args.children } in
     let keys : c.insert.new.self.keys ≡ held.keys.keys ++ c.into_string.result ∷ [] = c.in_ok-insert.ensures.keys ∙ new_key c.args.key.now c.into_string.result held.keys.keys text lacks in
     let bodies : c.push_reserved.new.self.items ≡ held.bodies.items ++ body ∷ [] = c.push_reserved.ensures.items ∙ ap (λ l. l ++ body ∷ []) c.reserve.ensures.items in
-    whole_added held.keys.keys c.insert.new.self.keys held.bodies.items c.push_reserved.new.self.items c.into_string.result body held.total c.in-Some.total c.self.invariant.0 c.self.invariant.1
-    keys bodies c.new-2.ensures (omega (arith, c.in-Some.ensures))
+    whole_added held.keys.keys c.insert.new.self.keys held.bodies.items c.push_reserved.new.self.items c.into_string.result body held.total _ c.self.invariant.0 c.self.invariant.1
+    keys bodies (omega (arith, c.in-Some.ensures, c.in-Some-checked_add.ensures, c.total.ensures))
 
 pub returns : goal.returns
 returns c =
     let held = c.self.inside in
     let text = c.into_string.ensures ∙ c.in_ok-copy.ensures {u = tt} in
     let lacks = none_lacks c.args.key.now held.keys.keys c.args.self.now (keys_zipped held.keys.keys held.bodies.items c.self.invariant.0 ∙ ap keys_of c.self.view_is) c.requires in
-    let body : Body = record { value = c.from_string.result; place = c.args.place; children = c.new-2.result } in
+    let body : Body = record { value = c.in_ok-value.value; place = c.args.place; children = c.args.children } in
     let keys : c.insert.new.self.keys ≡ held.keys.keys ++ c.into_string.result ∷ [] = c.in_ok-insert.ensures.keys ∙ new_key c.args.key.now c.into_string.result held.keys.keys text lacks in
     let bodies : c.push_reserved.new.self.items ≡ held.bodies.items ++ body ∷ [] = c.push_reserved.ensures.items ∙ ap (λ l. l ++ body ∷ []) c.reserve.ensures.items in
     ap (λ l. zipped l c.push_reserved.new.self.items) keys
     ∙ ap (λ l. zipped (held.keys.keys ++ c.into_string.result ∷ []) l) bodies
     ∙ added_zipped held.keys.keys held.bodies.items c.into_string.result body c.self.invariant.0
-    ∙ ap (λ k. added k c.from_string.result c.args.place c.new-2.result (zipped held.keys.keys held.bodies.items)) text
-    ∙ ap (λ v. added c.args.key.now v c.args.place c.new-2.result (zipped held.keys.keys held.bodies.items)) (c.from_string.ensures ∙ c.new.ensures.bytes)
-    ∙ ap (λ b. added c.args.key.now [] c.args.place b (zipped held.keys.keys held.bodies.items)) c.new-2.ensures
-    ∙ ap (added c.args.key.now [] c.args.place none) c.self.view_is
+    ∙ ap (λ k. added k c.in_ok-value.value c.args.place c.args.children (zipped held.keys.keys held.bodies.items)) text
+    ∙ ap (λ v. added c.args.key.now v c.args.place c.args.children (zipped held.keys.keys held.bodies.items)) (c.in_ok-value.ensures {u = tt})
+    ∙ ap (added c.args.key.now c.args.value.now c.args.place c.args.children) c.self.view_is

@@ -1,7 +1,7 @@
-use Rattle.std.proofs.Common.{◌≤◌, [], ◌∙◌, ap, refl, arith}
-use Rattle.yaml_merge.specs.Levels.{children_from, put_at}
+use Rattle.std.proofs.Common.{◌≤◌, ◌∙◌, ap, arith}
+use Rattle.yaml_merge.specs.Levels.{children_from, emptied_at}
 use Rattle.yaml_merge.specs.Merging.{count}
-use Rattle.yaml_merge.proofs.LevelSteps.{at_body, below_total, children_zipped, put_zipped, whole_set}
+use Rattle.yaml_merge.proofs.LevelSteps.{at_body, below_total, children_zipped, emptied_zipped, whole_set}
 use Rattle.yaml_merge.proofs.level.Level.empty_at.Goals as goal
 
 pub index_mut-body-requires : goal.index_mut-body-requires
@@ -29,15 +29,6 @@ invariant_of-self c =
     whole_set c.args.at held.keys.keys held.bodies.items body _ held.total _ c.self.invariant.0 within c.index_mut-body.ensures.value c.self.invariant.1
     (omega (arith, least, ap count c.replace-children.ensures.value, ap count (c.replace-children.ensures.after ∙ c.new.ensures)))
 
-pub returns-clause-left : goal.returns-clause-left
-returns-clause-left c =
-    let held = c.self.inside in
-    let within = at_body c.args.at held.keys.keys held.bodies.items c.args.self.now c.self.invariant.0 c.self.view_is c.requires in
-    let body = c.index_mut-body.result.now in
-    put_zipped c.args.at held.keys.keys held.bodies.items body body.value [] c.args.place c.replace-children.new.dest c.self.invariant.0 within c.index_mut-body.ensures.value refl
-    ∙ ap (put_at c.args.at [] c.args.place c.replace-children.new.dest) c.self.view_is
-    ∙ ap (λ below. put_at c.args.at [] c.args.place below c.args.self.now) (c.replace-children.ensures.after ∙ c.new.ensures)
-
 pub returns-clause-children : goal.returns-clause-children
 returns-clause-children c =
     let held = c.self.inside in
@@ -46,3 +37,11 @@ returns-clause-children c =
     c.replace-children.ensures.value
     ∙ children_zipped c.args.at held.keys.keys held.bodies.items body c.self.invariant.0 within c.index_mut-body.ensures.value
     ∙ ap (children_from c.args.at) c.self.view_is
+
+pub returns-clause-left : goal.returns-clause-left
+returns-clause-left c =
+    let held = c.self.inside in
+    let within = at_body c.args.at held.keys.keys held.bodies.items c.args.self.now c.self.invariant.0 c.self.view_is c.requires in
+    let body = c.index_mut-body.result.now in
+    emptied_zipped c.args.at held.keys.keys held.bodies.items body c.replace-children.new.dest c.self.invariant.0 within c.index_mut-body.ensures.value (c.replace-children.ensures.after ∙ c.new.ensures)
+    ∙ ap (emptied_at c.args.at) c.self.view_is

@@ -1,16 +1,7 @@
--- Numbers in decimal digits, and distances.
-use Rattle.std.specs.Prelude.{ℕ, ◌+◌, ◌*◌, Bool, ◌&&◌, nat_lt, nat_le, List, length, Option, Some, None, if◌then◌else◌}
-use Rattle.std.specs.Str.{all_ascii_digits}
-use Rattle.std.specs.Str.Parse.{digits_value}
+-- Distances.
+use Rattle.std.specs.Prelude.{ℕ, ◌+◌, ◌*◌, List, Option, Some, None}
+use Rattle.base.specs.Numbers.{number_of}
 use Rattle.rule_values.specs.Parts.{parts_at}
-
--- One to ten decimal digits.
-abbrev pub is_number : List ℕ → Bool
-is_number text = nat_lt 0 (length text) && nat_le (length text) 10 && all_ascii_digits text
-
--- The number that the digits write.
-unfoldable pub number_of : List ℕ → Option ℕ
-number_of text = if is_number text then Some (digits_value 10 text) else None
 
 -- Cells of 1024 units, and units.
 abbrev pub cells_and_units : Option ℕ → Option ℕ → Option ℕ
