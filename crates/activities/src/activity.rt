@@ -1,19 +1,41 @@
 use world_units::CPos;
 
-/// One activity of an actor.
-///
-/// `waits` counts the steps in a row at which the next cell was occupied; at the eighth the actor gives up, so in a
-/// world it is below 8. `timer` counts the ticks of the load or unload at work, and is below the kind's delay for it.
+/// One activity of an actor. At the eighth step in a row at which the next cell is occupied the actor gives up, so in a
+/// world `waits` is below 8.
 #[derive(Clone, Copy, Debug, PartialEq, Eq)]
 pub enum Activity {
-    /// Go to the cell `goal`.
-    Move { goal: CPos, waits: u8 },
-    /// Attack the actor with the id `target`.
-    Attack { target: u32, waits: u8 },
-    /// Gather ore, at `cell` first.
-    Harvest { cell: CPos, timer: u16, waits: u8 },
-    /// Bring the load to a refinery, and then gather at `home` again, the cell where it was gathered.
-    Deliver { home: CPos, timer: u16, waits: u8 },
+    /// Go to a cell.
+    Move {
+        /// The cell to go to.
+        goal: CPos,
+        /// The steps in a row at which the next cell was occupied.
+        waits: u8,
+    },
+    /// Attack an actor.
+    Attack {
+        /// The id of the actor to attack, any `u32`.
+        target: u32,
+        /// The steps in a row at which the next cell was occupied.
+        waits: u8,
+    },
+    /// Gather ore.
+    Harvest {
+        /// The cell at which it gathers first.
+        cell: CPos,
+        /// The ticks so far of the load at work, in a world below the kind's delay for it.
+        timer: u16,
+        /// The steps in a row at which the next cell was occupied.
+        waits: u8,
+    },
+    /// Bring the load to a refinery, and then gather again.
+    Deliver {
+        /// The cell where the load was gathered, and where it gathers again.
+        home: CPos,
+        /// The ticks so far of the unload at work, in a world below the kind's delay for it.
+        timer: u16,
+        /// The steps in a row at which the next cell was occupied.
+        waits: u8,
+    },
 }
 
 impl Default for Activity {

@@ -59,7 +59,7 @@ impl Queue {
         self.held.as_slice().first()
     }
 
-    /// Changes the activity at work.
+    /// Puts this activity in place of the one at work. Only where there is one.
     pub fn set_head(&mut self, a: Activity)
         requires { 0 < length self.old }
         ensures { self.new ≡ a ∷ drop 1 self.old }
@@ -80,6 +80,7 @@ impl Queue {
     pub fn append(&mut self, a: Activity) -> bool
         ensures room { IsTrue result ↔ (length self.old < MAX_ACTIVITIES) }
         ensures after { self.new ≡ (if result then self.old ++ a ∷ [] else self.old) }
+        ensures fits { length self.new ≤ MAX_ACTIVITIES }
     {
         self.held.try_push(a).is_ok()
     }

@@ -1,6 +1,6 @@
 use std::marker::Model;
 
-/// Names of files, as the words have them, in their order.
+/// Names of files, as the words have them, in their order. In a `Request` they are 1 to `MAX_FILES`.
 #[derive(Debug, Drop)]
 pub struct FileNames<'a> {
     held: Vec<&'a str>,
@@ -24,7 +24,7 @@ impl<'a> FileNames<'a> {
         FileNames { held }
     }
 
-    /// The names.
+    /// The names in their order. In a `Request` they are 1 to `MAX_FILES`.
     pub fn as_slice(&self) -> &[&'a str]
         ensures { map (λ name. name.now) result.now ≡ self.now }
     {

@@ -4,11 +4,20 @@ use crate::file_names::FileNames;
 #[derive(Debug, Drop)]
 pub enum Request<'a> {
     /// `drill --script FILE`: run the drill that the file holds.
-    Drill { script: &'a str },
+    Drill {
+        /// The name of the drill's file.
+        script: &'a str,
+    },
 
-    /// `yaml FILES`: print what the files come to, taken together in this order. They are 1 to `MAX_FILES`.
-    Yaml { files: FileNames<'a> },
+    /// `yaml FILES`: print what the files come to, taken together in this order.
+    Yaml {
+        /// The names of the files, 1 to `MAX_FILES`.
+        files: FileNames<'a>,
+    },
 
-    /// `check RULES`: check the files as rules, taken together in this order. They are 1 to `MAX_FILES`.
-    Check { rules: FileNames<'a> },
+    /// `check RULES`: check the files as rules, taken together in this order.
+    Check {
+        /// The names of the files, 1 to `MAX_FILES`.
+        rules: FileNames<'a>,
+    },
 }

@@ -1,2 +1,3 @@
+pub mod WordsInOrder
 pub mod EarlierWords
 pub mod Renewals

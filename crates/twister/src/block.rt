@@ -1,5 +1,5 @@
 ghost use Rattle.std.specs.Prelude.{◌≡◌, ℕ, ◌+◌, ◌-◌, ◌<◌, ◌≤◌};
-ghost use Rattle.twister.specs.Sequence.{seeding_step, twisted_of, x_of};
+ghost use Rattle.twister.specs.Sequence.{seeding_step, tempered_of, twisted_of, word_of, x_of};
 ghost use Rattle.twister.specs.Block.{HoldsFrom, IsRenewedTo};
 
 use crate::twist::{seeding_word, twisted};
@@ -11,12 +11,14 @@ pub const LEN: usize = 624;
 const SHIFT: usize = 397;
 
 /// The recurrences that define the sequence, as laws of its definition: its first word is the seed, the next 623
-/// are made by the seeding, and every later one by the twist of three words before it. The call does nothing.
-#[tactic(auto, using(crate::proofs::EarlierWords::x_first, crate::proofs::EarlierWords::x_seeding, crate::proofs::EarlierWords::x_twist))]
+/// are made by the seeding, and every later one by the twist of three words before it. The words that are drawn are those
+/// from place 624 on, tempered. The call does nothing.
+#[tactic(auto, unfolding(crate::specs::Sequence::word_of), using(crate::proofs::EarlierWords::x_first, crate::proofs::EarlierWords::x_seeding, crate::proofs::EarlierWords::x_twist))]
 pub fn recurrences(seed: u32, i: u32, k: u64)
     ensures first { x_of seed 0 ≡ seed }
     ensures seeding { 0 < i → i < LEN → x_of seed i ≡ seeding_step (x_of seed (i - 1)) i }
     ensures twist { x_of seed (k + LEN) ≡ twisted_of (x_of seed (k + SHIFT)) (x_of seed k) (x_of seed (k + 1)) }
+    ensures drawn { word_of seed k ≡ tempered_of (x_of seed (k + LEN)) }
 {}
 
 /// The first block of the sequence.

@@ -1,5 +1,6 @@
-ghost use Rattle.std.specs.Prelude.{◌≡◌, ◌+◌, ◌-◌, ◌^◌, ◌<◌, ◌≤◌};
-ghost use Rattle.twister.specs.Sequence.{draw_of, word_of};
+ghost use Rattle.std.specs.Prelude.{◌≡◌, ◌-◌, ◌^◌, ◌<◌, ◌≤◌};
+ghost use Rattle.twister.specs.Sequence.{draw_of};
+ghost use Rattle.twister.specs.Place.{word_at, after_word};
 
 use crate::block::{LEN, first_block, next_place};
 use crate::twist::tempered;
@@ -51,13 +52,13 @@ impl Twister {
         self.drawn
     }
 
-    /// Draws the next word: any number of 32 bits.
+    /// Draws the next word: any number of 32 bits. Only where fewer than 2^64 - 1 words were drawn so far.
     #[inline]
     #[tactic(auto, unfolding(crate::specs::Sequence::word_of))]
     pub fn next_word(&mut self) -> u32
         requires { self.old.drawn < 2 ^ 64 - 1 }
-        ensures word { result ≡ word_of self.old.seed self.old.drawn }
-        ensures after { self.new ≡ record self.old { drawn = self.old.drawn + 1 } }
+        ensures word { result ≡ word_at self.old }
+        ensures after { self.new ≡ after_word self.old }
     {
         let place = next_place(&mut self.block, self.at);
         let word = tempered(self.block[place]);
@@ -66,13 +67,14 @@ impl Twister {
         word
     }
 
-    /// Draws one word for a number below `m`: the word modulo 2^31 - 1, and that modulo `m`.
+    /// Draws one word for a number below `m`: the word modulo 2^31 - 1, and that modulo `m`. `m` is at least 1, and fewer
+    /// than 2^64 - 1 words were drawn so far.
     pub fn below(&mut self, m: u32) -> u32
         requires bound { 1 ≤ m }
         requires more { self.old.drawn < 2 ^ 64 - 1 }
         ensures value { result ≡ draw_of self.old.seed self.old.drawn m }
         ensures within { result < m }
-        ensures after { self.new ≡ record self.old { drawn = self.old.drawn + 1 } }
+        ensures after { self.new ≡ after_word self.old }
     {
         self.next_word() % DRAW_MODULUS % m
     }

@@ -7,10 +7,12 @@
 
 mod block;
 mod draws;
+mod law;
 mod twist;
 
 pub use block::recurrences;
 pub use draws::Twister;
+pub use law::words_in_order;
 
 #[cfg(test)]
 mod tests {
@@ -137,6 +139,7 @@ mod tests {
     fn words_of_a_seed(rt: HostRuntime) {
         for (seed, first, ten_thousandth) in VECTORS {
             recurrences(seed, 1, 0);
+            words_in_order();
             let mut words = Twister::seeded(seed);
             for word in first {
                 assert_eq!(rt; next(&mut words), Some(word), "of seed {seed}");

@@ -3,10 +3,10 @@ ghost use Rattle.world_units.specs.Angles.{add_angle_of};
 
 use std::marker::Model;
 
-/// A full turn.
+/// A full turn, in units of angles.
 pub const FULL_TURN: u16 = 1024;
 
-/// Half a turn.
+/// Half a turn, in units of angles.
 pub const HALF_TURN: u16 = 512;
 
 /// An angle or a facing, always below `FULL_TURN`. 0 is north, and angles grow counter-clockwise, so that 256
@@ -27,7 +27,7 @@ impl Model for WAngle {
 }
 
 impl WAngle {
-    /// The angle of so many units.
+    /// The angle of so many units, which are below `FULL_TURN`.
     pub fn new(units: u16) -> Self
         requires { units < FULL_TURN }
         ensures { result ≡ units }

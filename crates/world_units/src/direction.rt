@@ -38,7 +38,7 @@ const DIAGONAL: u32 = 1448;
 /// The angle between two neighbouring directions.
 const EIGHTH_TURN: u16 = 128;
 
-/// The facing of a direction.
+/// The facing of direction `d`, which is below `DIRECTIONS`, in 1,024ths of a turn.
 pub fn dir_angle(d: u8) -> WAngle
     requires { d < DIRECTIONS }
     ensures { result ≡ dir_angle_of d }
@@ -46,7 +46,8 @@ pub fn dir_angle(d: u8) -> WAngle
     WAngle::new((FULL_TURN - EIGHTH_TURN * u16::from(d)) % FULL_TURN)
 }
 
-/// How many units it takes to the neighbour in a direction: 1024 straight on, 1448 across a corner.
+/// How many units it takes to the neighbour in direction `d`, which is below `DIRECTIONS`: 1024 straight on, 1448 across
+/// a corner.
 pub fn leg_length(d: u8) -> u32
     requires { d < DIRECTIONS }
     ensures { result ≡ leg_length_of d }
@@ -54,7 +55,7 @@ pub fn leg_length(d: u8) -> u32
     if d % 2 == 0 { CELL } else { DIAGONAL }
 }
 
-/// The direction the other way, half a turn from `d`.
+/// The direction the other way, half a turn from `d`, which is below `DIRECTIONS`.
 pub fn opposite(d: u8) -> u8
     requires { d < DIRECTIONS }
     ensures value { result ≡ opposite_of d }
@@ -65,7 +66,8 @@ pub fn opposite(d: u8) -> u8
     (d + DIRECTIONS / 2) % DIRECTIONS
 }
 
-/// The neighbour of a cell in a direction. `None` comes exactly where a coordinate would leave 0 to 255.
+/// The neighbour of a cell in direction `d`, which is below `DIRECTIONS`. `None` comes exactly where a coordinate would
+/// leave 0 to 255.
 pub fn step(p: CPos, d: u8) -> Option<CPos>
     requires { d < DIRECTIONS }
     ensures value { result ≡ step_of p d }

@@ -5,9 +5,12 @@ use crate::cell::{CELL, CPos};
 
 /// A distance in units, of which a cell has 1024.
 #[derive(Clone, Copy, Debug, Default, PartialEq, Eq, PartialOrd, Ord, Hash)]
-pub struct WDist(pub u32);
+pub struct WDist(
+    /// The units, any `u32`.
+    pub u32,
+);
 
-/// The squared distance of the centres of two cells, in square units: at most about 1.4e11.
+/// The squared distance of the centres of two cells, in square units: at most 136,367,308,800.
 pub fn dist_sq(a: CPos, b: CPos) -> u64
     ensures value { result ≡ dist_sq_of a b }
     ensures symmetric { result ≡ dist_sq_of b a }
