@@ -2,7 +2,7 @@
 use Rattle.std.proofs.Common.{◌≡◌, ◌+◌, ℕ, [], ◌∷◌, ◌++◌, List, Option, Err, sym, ap, subst, inl, inr, ◌∙◌}
 use Rattle.yaml_lines.specs.declared.fault.LineFault.{LineFault}
 use Rattle.yaml_lines.specs.declared.fault.LineFault.TheVariants as line
-use Rattle.yaml_lines.specs.Kept.{Kept, IsFault, first_line_fault, kept_lines}
+use Rattle.yaml_lines.specs.Kept.{Kept, IsLineFault, first_line_fault, kept_lines}
 use Rattle.yaml_lines.specs.Trees.{Trees}
 use Rattle.yaml_lines.specs.Built.{parsed_by, parsed}
 use Rattle.base.specs.Steps.{◌>>=◌}
@@ -37,7 +37,7 @@ line_told names line.NoMemory stop step tells e = memory_step stop step tells
 -- The first fault of a file's lines.
 pub line_stops :
     (names : List (List ℕ)) (fault : LineFault) (stop : Stop) (first : Option LineFault) (kept : List Kept) →
-    TellsLine names fault stop → IsFault fault first → StopsStep stop (line_step names (parsed_by first kept))
+    TellsLine names fault stop → IsLineFault fault first → StopsStep stop (line_step names (parsed_by first kept))
 line_stops names fault stop first kept tells (inl memory) =
     memory_step stop (line_step names (parsed_by first kept)) (subst (λ f. TellsLine names f stop) memory tells)
 line_stops names fault stop first kept tells (inr found) =
@@ -55,7 +55,7 @@ stop_stops NoMemory step next stops = tt
 pub parse_stops :
     (names : List (List ℕ)) (got : List Trees) (file : ℕ) (left : List (List ℕ)) (bytes : List ℕ) (rest : List (List ℕ)) (step : Step (List Trees))
     (fault : LineFault) (stop : Stop) →
-    left ≡ bytes ∷ rest → parsed_behind names got file left ≡ step → TellsLine names fault stop → IsFault fault (first_line_fault file bytes) → StopsStep stop step
+    left ≡ bytes ∷ rest → parsed_behind names got file left ≡ step → TellsLine names fault stop → IsLineFault fault (first_line_fault file bytes) → StopsStep stop step
 unfolding parsed
 parse_stops names got file left bytes rest step fault stop left_is so_far tells found =
     let next : Trees → Step (List Trees) = λ forest. parsed_behind names (got ++ forest ∷ []) (file + 1) rest in

@@ -1,11 +1,11 @@
 -- A whole request, over plain values.
 use Rattle.std.proofs.Common.{◌≡◌, ◌≤◌, ℕ, [], ◌∷◌, List, length, ap, Option, Some, None, Result, Ok, Err, IfSome, IfNone, refl, sym, subst, inl, inr}
 use Rattle.command_words.specs.Asked.{Asked, Drill}
-use Rattle.drill.specs.declared.drill_fault.DrillFault.{DrillFault}
-use Rattle.drill.specs.declared.drill_fault.DrillFault.TheVariants.{BadWord, BadNumber, NoSuchClient, TooManyOrders, TooManyEvents}
-use Rattle.drill.specs.declared.drill_fault.DrillFault.TheVariants as drill
-use Rattle.drill.specs.declared.limits.TheConstants.{MAX_DRILL_BYTES}
-use Rattle.drill.specs.Reading.{DrillPlain, read_of}
+use Rattle.drill_words.specs.declared.drill_fault.DrillFault.{DrillFault}
+use Rattle.drill_words.specs.declared.drill_fault.DrillFault.TheVariants.{BadWord, BadNumber, NoSuchClient, TooManyOrders, TooManyEvents}
+use Rattle.drill_words.specs.declared.drill_fault.DrillFault.TheVariants as drill
+use Rattle.drill_words.specs.declared.limits.TheConstants.{MAX_DRILL_BYTES}
+use Rattle.drill_words.specs.Reading.{DrillPlain, read_of}
 use Rattle.game_io.specs.Disk.{Files}
 use Rattle.base.specs.Steps.{◌>>=◌}
 use Rattle.match_cli.specs.Answers.{MayEnd, Answers}

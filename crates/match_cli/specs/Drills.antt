@@ -1,8 +1,8 @@
 -- What the command `drill` answers.
 use Rattle.std.specs.Prelude.{List, ℕ, Result, Ok, Err, codes}
-use Rattle.drill.specs.declared.drill_fault.DrillFault.{DrillFault}
-use Rattle.drill.specs.declared.drill_fault.DrillFault.TheVariants.{BadWord, BadNumber, NoSuchClient, TooManyOrders, TooManyEvents, NoMemory}
-use Rattle.drill.specs.Reading.{DrillPlain, read_of}
+use Rattle.drill_words.specs.declared.drill_fault.DrillFault.{DrillFault}
+use Rattle.drill_words.specs.declared.drill_fault.DrillFault.TheVariants.{BadWord, BadNumber, NoSuchClient, TooManyOrders, TooManyEvents, NoMemory}
+use Rattle.drill_words.specs.Reading.{DrillPlain, read_of}
 use Rattle.drill.specs.Report.{report}
 use Rattle.tick_core.specs.Game.{game_start, game_after, game_hash, game_summary}
 use Rattle.match_cli.specs.Reply.{Reply, done, refusal}

@@ -2,7 +2,7 @@
 use Rattle.std.specs.Prelude.{ℕ, List, [], ◌∷◌, map, Option, None, Some}
 use Rattle.game_io.specs.Disk.{Files}
 use Rattle.command_words.specs.Asked.{Asked, Drill, Yaml, Check}
-use Rattle.drill.specs.declared.limits.TheConstants.{MAX_DRILL_BYTES}
+use Rattle.drill_words.specs.declared.limits.TheConstants.{MAX_DRILL_BYTES}
 use Rattle.match_cli.specs.declared.files.TheConstants.{MAX_RULE_BYTES}
 use Rattle.match_cli.specs.Reply.{Reply, words_reply, refusal}
 use Rattle.match_cli.specs.Contents.{Wanted, ended, contents_of}

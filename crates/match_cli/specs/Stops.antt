@@ -1,8 +1,8 @@
 -- Steps of a command in code, and the steps of its definition.
 use Rattle.std.specs.Prelude.{◌≡◌, ℕ, List, Option, Result, Ok, Err}
 use Rattle.std.specs.Global.{Vec}
-use Rattle.drill.specs.declared.drill_fault.DrillFault.{DrillFault}
-use Rattle.drill.specs.declared.drill_fault.DrillFault.TheVariants as drill
+use Rattle.drill_words.specs.declared.drill_fault.DrillFault.{DrillFault}
+use Rattle.drill_words.specs.declared.drill_fault.DrillFault.TheVariants as drill
 use Rattle.rule_traits.specs.declared.fault.RuleFault.{RuleFault}
 use Rattle.rule_traits.specs.declared.fault.RuleFault.TheVariants as rule
 use Rattle.yaml_lines.specs.declared.fault.LineFault.{LineFault}

@@ -4,7 +4,7 @@ ghost use Rattle.match_cli.specs.RuleFiles.{name_at};
 ghost use Rattle.match_cli.specs.Stops.{Stops, TellsLine, TellsMerge, TellsRule, TellsDrill};
 
 use crate::stop::Stop;
-use drill::DrillFault;
+use drill_words::DrillFault;
 use rule_traits::RuleFault;
 use yaml_lines::{LineFault, Place};
 use yaml_merge::MergeFault;

@@ -7,7 +7,7 @@ mod schedules;
 mod texts;
 
 use super::run;
-use game_io::{FailingCall, Leaves, MemDisk, MemSink};
+use game_io::{FailingCall, MemDisk, MemSink, Remains};
 use std::alloc::{AllocError, Global};
 use std::test::Fail;
 
@@ -34,11 +34,11 @@ fn command_line(alloc: Global, words: &[&str]) -> Result<Vec<String>, AllocError
     Ok(line)
 }
 
-/// The first call is to fail, if it is said what that leaves.
-fn first_fails(alloc: Global, leaves: Option<Leaves>) -> Result<Vec<FailingCall>, AllocError> {
+/// The first call is to fail, if it is said what remains after it.
+fn first_fails(alloc: Global, remains: Option<Remains>) -> Result<Vec<FailingCall>, AllocError> {
     let mut failing = Vec::new(alloc);
-    if let Some(leaves) = leaves {
-        failing.push(FailingCall { call: 0, leaves })?;
+    if let Some(remains) = remains {
+        failing.push(FailingCall { call: 0, remains })?;
     }
     Ok(failing)
 }
@@ -47,7 +47,7 @@ fn first_fails(alloc: Global, leaves: Option<Leaves>) -> Result<Vec<FailingCall>
 fn disk_of(
     alloc: Global,
     files: &[(&str, &str)],
-    read: Option<Leaves>,
+    read: Option<Remains>,
 ) -> Result<MemDisk, AllocError> {
     let mut disk = MemDisk::new(alloc, first_fails(alloc, read)?);
     for (name, text) in files {
@@ -61,7 +61,7 @@ fn is_answered(
     alloc: Global,
     words: &[&str],
     mut disk: MemDisk,
-    put: Option<Leaves>,
+    put: Option<Remains>,
     status: u8,
     text: &str,
 ) -> Result<bool, AllocError> {
@@ -257,21 +257,21 @@ fn words_and_files_are_refused(rt: HostRuntime) -> Result<(), Fail> {
 }
 
 /// What fails: the words, the file `d`, what a failed read and a failed put leave, the status and the text.
-const FAILED: [(&[&str], &str, Option<Leaves>, Option<Leaves>, u8, &str); 14] = [
+const FAILED: [(&[&str], &str, Option<Remains>, Option<Remains>, u8, &str); 14] = [
     (
         &DRILL,
         SEALED,
-        Some(Leaves::Nothing),
+        Some(Remains::Nothing),
         None,
         4,
         "fault read\n",
     ),
-    (&DRILL, SEALED, None, Some(Leaves::Nothing), 5, ""),
+    (&DRILL, SEALED, None, Some(Remains::Nothing), 5, ""),
     (
         &DRILL,
         SEALED,
         None,
-        Some(Leaves::Front(16)),
+        Some(Remains::Front(16)),
         5,
         "0 sealed 0\ncolum",
     ),
@@ -279,16 +279,16 @@ const FAILED: [(&[&str], &str, Option<Leaves>, Option<Leaves>, u8, &str); 14] = 
     (
         &DRILL,
         SEALED,
-        Some(Leaves::Nothing),
-        Some(Leaves::Old),
+        Some(Remains::Nothing),
+        Some(Remains::Old),
         5,
         "",
     ),
     (
         &DRILL,
         SEALED,
-        Some(Leaves::Nothing),
-        Some(Leaves::Front(7)),
+        Some(Remains::Nothing),
+        Some(Remains::Front(7)),
         5,
         "fault r",
     ),
@@ -297,16 +297,16 @@ const FAILED: [(&[&str], &str, Option<Leaves>, Option<Leaves>, u8, &str); 14] = 
         &DRILL,
         OUTSIDE,
         None,
-        Some(Leaves::Front(9)),
+        Some(Remains::Front(9)),
         5,
         "refused d",
     ),
-    (&["drill"], SEALED, None, Some(Leaves::Nothing), 5, ""),
+    (&["drill"], SEALED, None, Some(Remains::Nothing), 5, ""),
     (
         &["dance"],
         SEALED,
         None,
-        Some(Leaves::Front(99)),
+        Some(Remains::Front(99)),
         5,
         "refused words\n",
     ),
@@ -314,7 +314,7 @@ const FAILED: [(&[&str], &str, Option<Leaves>, Option<Leaves>, u8, &str); 14] = 
     (
         &["yaml", "d"],
         SEALED,
-        Some(Leaves::Nothing),
+        Some(Remains::Nothing),
         None,
         4,
         "fault read\n",
@@ -323,7 +323,7 @@ const FAILED: [(&[&str], &str, Option<Leaves>, Option<Leaves>, u8, &str); 14] = 
         &["yaml", "d"],
         SEALED,
         None,
-        Some(Leaves::Front(5)),
+        Some(Remains::Front(5)),
         5,
         "match",
     ),
@@ -331,7 +331,7 @@ const FAILED: [(&[&str], &str, Option<Leaves>, Option<Leaves>, u8, &str); 14] = 
         &["check", "d"],
         SEALED,
         None,
-        Some(Leaves::Front(4)),
+        Some(Remains::Front(4)),
         5,
         "kind",
     ),
@@ -339,7 +339,7 @@ const FAILED: [(&[&str], &str, Option<Leaves>, Option<Leaves>, u8, &str); 14] = 
     (
         &["yaml", "a", "d"],
         SEALED,
-        Some(Leaves::Nothing),
+        Some(Remains::Nothing),
         None,
         3,
         "refused a 0 Missing\n",
@@ -347,7 +347,7 @@ const FAILED: [(&[&str], &str, Option<Leaves>, Option<Leaves>, u8, &str); 14] = 
     (
         &["yaml", "d", "a"],
         SEALED,
-        Some(Leaves::Nothing),
+        Some(Remains::Nothing),
         None,
         4,
         "fault read\n",
@@ -356,7 +356,7 @@ const FAILED: [(&[&str], &str, Option<Leaves>, Option<Leaves>, u8, &str); 14] = 
     (
         &["dance"],
         SEALED,
-        Some(Leaves::Nothing),
+        Some(Remains::Nothing),
         None,
         2,
         "refused words\n",

@@ -41,7 +41,7 @@ pub(super) const ROWS: [(&str, &str, &str); 3] = [
          end\n",
     ),
     (
-        "drill of the local match",
+        "three clients that move cash",
         "match 3 2 9\n\
          seal 0 donate 1 10\n\
          seal 1\n\
