@@ -1,4 +1,5 @@
--- The cause of a failed call: the count of faults of the object that was handed in rose in that call.
+-- The cause of a failed call: the count of faults of the object that was handed in rose in that
+-- call.
 use Rattle.std.specs.Prelude.{ℕ, ◌+◌, ◌-◌, ◌^◌, ◌≤◌, min}
 
 -- A count went up, or stands at the greatest 64-bit number, above which it cannot go.

@@ -1,5 +1,5 @@
 pub mod Cause
-pub mod Told
+pub mod Written
 pub mod Lines
 pub mod Numbers
 pub mod Steps

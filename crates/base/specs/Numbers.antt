@@ -1,12 +1,14 @@
 -- Numbers in decimal digits.
-use Rattle.std.specs.Prelude.{ℕ, ◌+◌, ◌-◌, ◌*◌, Bool, ◌&&◌, nat_lt, nat_le, List, length, fold, Option, Some, None, if◌then◌else◌}
+use Rattle.std.specs.Prelude.{ℕ, ◌+◌, ◌-◌, ◌*◌, Bool, ◌&&◌, nat_lt, nat_le, List, length, fold}
+use Rattle.std.specs.Prelude.{Option, Some, None, if◌then◌else◌}
 use Rattle.std.specs.Char.{is_ascii_digit}
 use Rattle.std.specs.List.{list_all}
 use Rattle.base.specs.declared.numbers.TheConstants.{MAX_DIGITS}
 
 -- One to ten decimal digits.
 abbrev pub is_number : List ℕ → Bool
-is_number word = nat_lt 0 (length word) && nat_le (length word) MAX_DIGITS && list_all is_ascii_digit word
+is_number word =
+    nat_lt 0 (length word) && nat_le (length word) MAX_DIGITS && list_all is_ascii_digit word
 
 -- What digits write in base ten.
 abbrev pub value_of : List ℕ → ℕ

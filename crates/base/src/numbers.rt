@@ -4,8 +4,8 @@ ghost use Rattle.base.specs.Numbers.{number_of};
 /// The most digits of a number.
 pub const MAX_DIGITS: usize = 10;
 
-/// The number that a word of one to ten decimal digits writes, which is below 10^10. `None` comes exactly where the
-/// word isn't of this form.
+/// The number that a word of one to ten decimal digits writes, which is below 10^10. `None` comes
+/// exactly where the word isn't of this form.
 #[tactic(auto, unfolding(crate::specs::Numbers::number_of))]
 pub fn read_number(word: &[u8]) -> Option<u64>
     ensures value { result ≡ number_of word.now }

@@ -1,7 +1,9 @@
 pub use Rattle.base.specs.Cause
-pub use Rattle.base.specs.Told
+pub use Rattle.base.specs.Written
 pub mod Plan
-pub mod Source
-pub mod Sink
-pub mod Disk
-pub mod Memory
+pub mod SourceState
+pub mod SinkState
+pub mod Files
+pub mod DiskState
+pub mod PlannedBytes
+pub mod PlannedFiles

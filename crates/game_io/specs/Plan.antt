@@ -1,5 +1,7 @@
--- The calls of a memory form: how many there were, which of them are to fail, and the count of faults.
-use Rattle.std.specs.Prelude.{ℕ, ◌+◌, ◌-◌, ◌^◌, ◌==◌, min, nat_lt, if◌then◌else◌, Bool, List, [], ◌∷◌, Option, None, Some, count_by}
+-- The calls of a memory form: how many there were, which of them are to fail, and the count of
+-- faults.
+use Rattle.std.specs.Prelude.{ℕ, ◌+◌, ◌-◌, ◌^◌, ◌==◌, min, nat_lt, if◌then◌else◌, Bool, List, []}
+use Rattle.std.specs.Prelude.{◌∷◌, Option, None, Some, count_by}
 use Rattle.game_io.specs.declared.failing_call.FailingCall.{FailingCall}
 use Rattle.game_io.specs.declared.failing_call.Remains.{Remains}
 
@@ -17,10 +19,12 @@ is_past calls planned = nat_lt planned.call calls
 abbrev pub faults_of : Plan → ℕ
 faults_of plan = min (count_by (is_past plan.calls) plan.failing + plan.unplanned) (2 ^ 64 - 1)
 
--- What remains after the call of this number, where it is to fail: as the first of the list says that has its number.
+-- What remains after the call of this number, where it is to fail: as the first of the list says
+-- that has its number.
 abbrev pub remains_at : ℕ → List FailingCall → Option Remains
 remains_at calls [] = None
-remains_at calls (planned ∷ rest) = if planned.call == calls then Some planned.remains else remains_at calls rest
+remains_at calls (planned ∷ rest) =
+    if planned.call == calls then Some planned.remains else remains_at calls rest
 
 -- What remains after the next call, where it is to fail.
 abbrev pub next_remains : Plan → Option Remains

@@ -12,7 +12,7 @@ pub enum DiskError {
     /// The file has more bytes than the caller's limit.
     #[error("the file is too long")]
     TooLong,
-    /// Want of memory.
+    /// Out of memory.
     #[error("out of memory")]
     NoMemory,
 }

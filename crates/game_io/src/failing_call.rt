@@ -1,5 +1,5 @@
-/// What remains after a call that is to fail of what it was to write. Of a call that reads, which writes nothing, it is
-/// not looked at.
+/// What remains of what a call was to write, after it failed as it was to. At a call that reads,
+/// which writes nothing, it is not looked at.
 #[derive(Clone, Copy, Debug, PartialEq, Eq)]
 pub enum Remains {
     /// All is as before the call.
@@ -7,11 +7,11 @@ pub enum Remains {
     /// A file isn't there any more. In a sink all is as before the call.
     Nothing,
     /// The first bytes of what was to be written, so many of them, or all where there are fewer.
-    Front(usize),
+    Prefix(usize),
 }
 
-/// A call of a memory form that is to fail. Of two of one number the first says what remains, and each is counted as a
-/// fault.
+/// A call of a memory form that is to fail. Of two of one number the first says what remains, and
+/// each is counted as a fault.
 #[derive(Clone, Copy, Debug, PartialEq, Eq)]
 pub struct FailingCall {
     /// The number of the call among all those of the object that can fail, from 0.

@@ -28,7 +28,7 @@ impl<'a, R: Files + AllocGlobal> FileDisk<'a, R> {
 }
 
 /// The first bytes of a file, at most so many.
-fn read_front<R: Files>(rt: &R, alloc: Global, name: &str, most: u64) -> io::Result<Vec<u8>> {
+fn read_prefix<R: Files>(rt: &R, alloc: Global, name: &str, most: u64) -> io::Result<Vec<u8>> {
     let mut bytes = Vec::new(alloc);
     fs::File::open(rt, name)?
         .take(most)
@@ -44,9 +44,7 @@ fn write_whole<R: Files>(rt: &R, name: &str, bytes: &[u8]) -> io::Result<()> {
 }
 
 impl<R: Files + AllocGlobal> Disk for FileDisk<'_, R> {
-    ghost files = { λ d. None };
-
-    ghost faults = { λ d. d.faults };
+    ghost state = { λ d. record { files = None; faults = d.faults } };
 
     fn faults(&self) -> u64 {
         self.faults.get()
@@ -54,7 +52,7 @@ impl<R: Files + AllocGlobal> Disk for FileDisk<'_, R> {
 
     /// It reads at most one byte more than `limit`.
     fn read_file(&mut self, alloc: Global, name: &str, limit: u32) -> Result<Vec<u8>, DiskError> {
-        match read_front(self.rt, alloc, name, u64::from(limit) + 1) {
+        match read_prefix(self.rt, alloc, name, u64::from(limit) + 1) {
             Ok(bytes) => {
                 if bytes.len() > limit as usize {
                     self.faults.raise();

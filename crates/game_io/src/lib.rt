@@ -1,9 +1,9 @@
 //! The outside as the core sees it: where bytes come from, where they go, and files.
 //!
-//! Each of `Source`, `Sink` and `Disk` has a count of faults that never falls, and may tell its contents.
-//! A call fails only where the count rose in it, and what an object tells changes only as the call says.
-//! The memory forms tell all that they hold and fail at the calls that they were told to; the adapters
-//! over std's writers and files tell nothing. It stands on `base`.
+//! Each of `Source`, `Sink` and `Disk` has a count of faults that never falls, and may tell its
+//! contents. A call fails only where the count rose in it, and what an object tells changes only as
+//! the call says. The memory forms tell all that they hold and fail at the calls that they were
+//! told to; the adapters over std's writers and files tell nothing. It stands on `base`.
 #![tactic(auto)]
 
 mod disk;

@@ -1,9 +1,10 @@
-ghost use Rattle.std.specs.Prelude.{◌≡◌, ℕ, List, [], ◌∷◌, Some, Option, OnOk, OnErr, IfSome, IfNone, IsSome, IsErr, Err};
+ghost use Rattle.std.specs.Prelude.{◌≡◌, ℕ, List, [], ◌∷◌, Some, Option, OnOk, OnErr, IfSome};
+ghost use Rattle.std.specs.Prelude.{IfNone, IsSome, IsErr, Err};
 ghost use Rattle.std.specs.Option.{option_map};
 ghost use Rattle.game_io.specs.declared.disk_error.DiskError.TheVariants.{Failed};
-ghost use Rattle.game_io.specs.Disk.{Reads, Writes, OnFailed};
-ghost use Rattle.game_io.specs.Plan.{faults_of, next_remains, fresh, called};
-ghost use Rattle.game_io.specs.Memory.{PlannedFiles, content_after, files_of};
+ghost use Rattle.game_io.specs.DiskState.{ReadsFile, WritesFile, OnFailed};
+ghost use Rattle.game_io.specs.Plan.{next_remains, fresh, called};
+ghost use Rattle.game_io.specs.PlannedFiles.{PlannedFiles, content_after, disk_state, files_of};
 
 use crate::disk::Disk;
 use crate::disk_error::DiskError;
@@ -46,10 +47,11 @@ impl MemDisk {
         self.disk.file(name)
     }
 
-    /// Gives the file of that name these bytes. This counts as no call. It fails only for want of memory, and then
-    /// nothing changes.
+    /// Gives the file of that name these bytes. This counts as no call. It fails only where it is
+    /// out of memory, and then nothing changes.
     pub fn add(&mut self, alloc: Global, name: &str, bytes: &[u8]) -> Result<(), NoMemory>
-        ensures ok { OnOk result (self.new.list ≡ record { name = name.now; content = Some bytes.now } ∷ self.old.list) }
+        ensures ok { OnOk result
+            (self.new.list ≡ record { name = name.now; content = Some bytes.now } ∷ self.old.list) }
         ensures err { OnErr result (self.new.list ≡ self.old.list) }
         ensures plan { self.new.plan ≡ self.old.plan }
     {
@@ -58,17 +60,17 @@ impl MemDisk {
 }
 
 impl Disk for MemDisk {
-    ghost files = { λ d. Some (files_of d.list) };
-
-    ghost faults = { λ d. faults_of d.plan };
+    ghost state = { λ d. disk_state d };
 
     fn faults(&self) -> u64 {
         self.schedule.faults()
     }
 
     fn read_file(&mut self, alloc: Global, name: &str, limit: u32) -> Result<Vec<u8>, DiskError>
-        ensures reads { Reads (Some (files_of self.old.list)) (Some (files_of self.new.list)) (faults_of self.old.plan) (faults_of self.new.plan) name.now limit result }
-        ensures planned { IsSome (next_remains self.old.plan) → IsSome (files_of self.old.list name.now) → result ≡ Err Failed }
+        ensures reads { ReadsFile (disk_state self.old) (disk_state self.new)
+            name.now limit result }
+        ensures planned { IsSome (next_remains self.old.plan) →
+            IsSome (files_of self.old.list name.now) → result ≡ Err Failed }
         ensures other { IfNone (next_remains self.old.plan) (OnFailed result ⊥) }
         ensures plan { self.new.plan ≡ called self.old.plan }
     {
@@ -80,8 +82,11 @@ impl Disk for MemDisk {
     }
 
     fn write_file(&mut self, alloc: Global, name: &str, bytes: &[u8]) -> Result<(), DiskError>
-        ensures writes { Writes (Some (files_of self.old.list)) (Some (files_of self.new.list)) (faults_of self.old.plan) (faults_of self.new.plan) name.now bytes.now result }
-        ensures planned { IfSome (next_remains self.old.plan) (λ remains. IsErr result × OnFailed result (files_of self.new.list name.now ≡ content_after remains (files_of self.old.list name.now) bytes.now)) }
+        ensures writes { WritesFile (disk_state self.old) (disk_state self.new)
+            name.now bytes.now result }
+        ensures planned { IfSome (next_remains self.old.plan)
+            (λ remains. IsErr result × OnFailed result (files_of self.new.list name.now
+            ≡ content_after remains (files_of self.old.list name.now) bytes.now)) }
         ensures other { IfNone (next_remains self.old.plan) (OnFailed result ⊥) }
         ensures plan { self.new.plan ≡ called self.old.plan }
     {

@@ -1,9 +1,11 @@
-ghost use Rattle.std.specs.Prelude.{◌≡◌, ◌⊎◌, ◌++◌, ◌≤◌, ℕ, List, [], Some, IfSome, IfNone, IsErr, OnOk, OnErr, is_ok, if◌then◌else◌};
+ghost use Rattle.std.specs.Prelude.{◌≡◌, ◌⊎◌, ◌++◌, ◌≤◌, ℕ, List, [], Some, IfSome, IfNone, IsErr};
+ghost use Rattle.std.specs.Prelude.{OnOk, OnErr, is_ok, if◌then◌else◌};
 ghost use Rattle.base.specs.Cause.{Rose};
-ghost use Rattle.base.specs.Told.{WroteFront};
-ghost use Rattle.game_io.specs.Sink.{Puts};
+ghost use Rattle.base.specs.Written.{WrotePrefix};
+ghost use Rattle.game_io.specs.SinkState.{WritesBytes};
 ghost use Rattle.game_io.specs.Plan.{faults_of, next_remains, fresh, missed};
-ghost use Rattle.game_io.specs.Memory.{PlannedBytes, remaining, with_bytes, without_memory};
+ghost use Rattle.game_io.specs.PlannedBytes.{PlannedBytes, sink_state, remaining, with_bytes};
+ghost use Rattle.game_io.specs.PlannedBytes.{without_memory};
 
 use crate::failed::Failed;
 use crate::failing_call::{FailingCall, Remains};
@@ -13,8 +15,8 @@ use crate::sink::Sink;
 use std::alloc::Global;
 use std::marker::Model;
 
-/// A sink that keeps what is written, and in which chosen calls of `put` fail. A `put` that finds no memory
-/// fails too.
+/// A sink that keeps what is written, and in which chosen calls of `put` fail. A `put` that is out
+/// of memory fails too.
 #[derive(Drop)]
 pub struct MemSink {
     bytes: Vec<u8>,
@@ -39,11 +41,13 @@ impl MemSink {
         }
     }
 
-    /// Appends these bytes, or counts a fault where there is no memory for them.
+    /// Appends these bytes, or counts a fault where it is out of memory for them.
     fn add(&mut self, bytes: &[u8]) -> Result<(), Failed>
-        ensures ok { OnOk result (self.new ≡ record { bytes = self.old.bytes ++ bytes.now; plan = self.old.plan }) }
-        ensures err { OnErr result (self.new ≡ record { bytes = self.old.bytes; plan = missed self.old.plan }) }
-        ensures front { WroteFront (Some self.old.bytes) (Some self.new.bytes) bytes.now }
+        ensures ok { OnOk result
+            (self.new ≡ record { bytes = self.old.bytes ++ bytes.now; plan = self.old.plan }) }
+        ensures err { OnErr result
+            (self.new ≡ record { bytes = self.old.bytes; plan = missed self.old.plan }) }
+        ensures prefix { WrotePrefix (Some self.old.bytes) (Some self.new.bytes) bytes.now }
         ensures later { faults_of self.old.plan ≤ faults_of self.new.plan }
         ensures rose { OnErr result (Rose (faults_of self.old.plan) (faults_of self.new.plan)) }
     {
@@ -65,18 +69,20 @@ impl MemSink {
 }
 
 impl Sink for MemSink {
-    ghost written = { λ s. Some s.bytes };
-
-    ghost faults = { λ s. faults_of s.plan };
+    ghost state = { λ s. sink_state s };
 
     fn faults(&self) -> u64 {
         self.schedule.faults()
     }
 
     fn put(&mut self, piece: &[u8]) -> Result<(), Failed>
-        ensures puts { Puts (Some self.old.bytes) (Some self.new.bytes) (faults_of self.old.plan) (faults_of self.new.plan) piece.now result }
-        ensures planned { IfSome (next_remains self.old.plan) (λ remains. IsErr result × ((self.new ≡ with_bytes self.old (remaining remains piece.now)) ⊎ (self.new ≡ without_memory self.old))) }
-        ensures other { IfNone (next_remains self.old.plan) (self.new ≡ (if is_ok result then with_bytes self.old piece.now else without_memory self.old)) }
+        ensures puts { WritesBytes (sink_state self.old) (sink_state self.new)
+            piece.now result (IsErr result) }
+        ensures planned { IfSome (next_remains self.old.plan) (λ remains. IsErr result
+            × ((self.new ≡ with_bytes self.old (remaining remains piece.now))
+            ⊎ (self.new ≡ without_memory self.old))) }
+        ensures other { IfNone (next_remains self.old.plan) (self.new
+            ≡ (if is_ok result then with_bytes self.old piece.now else without_memory self.old)) }
     {
         match self.schedule.next() {
             Some(remains) => {

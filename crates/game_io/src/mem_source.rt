@@ -1,7 +1,7 @@
-ghost use Rattle.std.specs.Prelude.{◌≡◌, ℕ, List, Some, is_err, is_some};
-ghost use Rattle.game_io.specs.Source.{Takes, Fills};
-ghost use Rattle.game_io.specs.Plan.{faults_of, next_remains, fresh, called};
-ghost use Rattle.game_io.specs.Memory.{PlannedBytes};
+ghost use Rattle.std.specs.Prelude.{◌≡◌, is_err, is_some};
+ghost use Rattle.game_io.specs.SourceState.{TakesBytes, FillsPlace};
+ghost use Rattle.game_io.specs.Plan.{next_remains, fresh, called};
+ghost use Rattle.game_io.specs.PlannedBytes.{PlannedBytes, source_state};
 
 use crate::failed::Failed;
 use crate::failing_call::FailingCall;
@@ -37,17 +37,15 @@ impl MemSource {
 }
 
 impl Source for MemSource {
-    ghost left = { λ s. Some s.bytes };
-
-    ghost faults = { λ s. faults_of s.plan };
+    ghost state = { λ s. source_state s };
 
     fn faults(&self) -> u64 {
         self.schedule.faults()
     }
 
     fn take(&mut self, into: &mut [u8]) -> Result<usize, Failed>
-        ensures takes { Takes (Some self.old.bytes) (Some self.new.bytes) (faults_of self.old.plan) (faults_of self.new.plan) into.new result }
-        ensures fills { Fills into.old into.new result }
+        ensures takes { TakesBytes (source_state self.old) (source_state self.new) into.new result }
+        ensures fills { FillsPlace into.old into.new result }
         ensures planned { is_err result ≡ is_some (next_remains self.old.plan) }
         ensures plan { self.new.plan ≡ called self.old.plan }
     {

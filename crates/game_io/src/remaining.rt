@@ -1,5 +1,5 @@
 ghost use Rattle.std.specs.Prelude.{◌≡◌};
-ghost use Rattle.game_io.specs.Memory.{remaining};
+ghost use Rattle.game_io.specs.PlannedBytes.{remaining};
 
 use crate::failing_call::Remains;
 
@@ -9,6 +9,6 @@ pub fn remaining(remains: Remains, bytes: &[u8]) -> &[u8]
 {
     match remains {
         Remains::Old | Remains::Nothing => &bytes[..0],
-        Remains::Front(count) => &bytes[..count.min(bytes.len())],
+        Remains::Prefix(count) => &bytes[..count.min(bytes.len())],
     }
 }

@@ -1,12 +1,14 @@
 ghost use Rattle.std.specs.Prelude.{◌≡◌, ℕ, ◌+◌, ◌^◌, ◌<◌, ◌≤◌, List, [], OnSome};
 ghost use Rattle.base.specs.Cause.{Rose};
-ghost use Rattle.game_io.specs.Plan.{Plan, remains_at, next_remains, fresh, faults_of, called, missed};
+ghost use Rattle.game_io.specs.Plan.{Plan, remains_at, next_remains, fresh, faults_of, called};
+ghost use Rattle.game_io.specs.Plan.{missed};
 
 use crate::failing_call::{FailingCall, Remains};
 use base::FaultCount;
 use std::marker::Model;
 
-/// The calls of a memory form: how many there were, which of them are to fail, and the faults beside those.
+/// The calls of a memory form: how many there were, which of them are to fail, and the faults
+/// beside those.
 #[derive(Drop)]
 pub struct Schedule {
     calls: u64,
@@ -17,7 +19,11 @@ pub struct Schedule {
 impl Model for Schedule {
     ghost Value = { Plan };
 
-    ghost view = { λ s. record { calls = s.calls; failing = s.failing.items; unplanned = s.unplanned } };
+    ghost view = { λ s. record {
+      calls = s.calls;
+      failing = s.failing.items;
+      unplanned = s.unplanned;
+    } };
 }
 
 /// What remains after the call of this number, where it is to fail.

@@ -6,8 +6,8 @@ use base::FaultCount;
 use std::io;
 use std::io::Write;
 
-/// A sink over any writer of std. Each `put` writes its whole piece and flushes, so nothing that was
-/// answered `Ok` waits in a buffer. It tells no bytes.
+/// A sink over any writer of std. Each `put` writes its whole piece and flushes, so nothing that
+/// was answered `Ok` waits in a buffer. It tells no bytes.
 #[derive(Drop)]
 pub struct StdSink<W: Write + Drop> {
     writer: W,
@@ -34,9 +34,7 @@ impl<W: Write + Drop> StdSink<W> {
 }
 
 impl<W: Write + Drop> Sink for StdSink<W> {
-    ghost written = { λ s. None };
-
-    ghost faults = { λ s. s.faults };
+    ghost state = { λ s. record { written = None; faults = s.faults } };
 
     fn faults(&self) -> u64 {
         self.faults.get()

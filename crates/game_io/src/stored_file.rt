@@ -1,7 +1,7 @@
 ghost use Rattle.std.specs.Prelude.{ℕ, List, Option};
 ghost use Rattle.std.specs.Option.{option_map};
 ghost use Rattle.std.specs.String.{string_bytes};
-ghost use Rattle.game_io.specs.Memory.{Named};
+ghost use Rattle.game_io.specs.PlannedFiles.{NamedFile};
 
 use std::marker::Model;
 
@@ -13,7 +13,10 @@ pub struct StoredFile {
 }
 
 impl Model for StoredFile {
-    ghost Value = { Named };
+    ghost Value = { NamedFile };
 
-    ghost view = { λ f. record { name = string_bytes f.name; content = option_map (λ bytes. bytes.items) f.content } };
+    ghost view = { λ f. record {
+      name = string_bytes f.name;
+      content = option_map (λ bytes. bytes.items) f.content;
+    } };
 }

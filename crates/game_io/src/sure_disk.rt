@@ -1,7 +1,7 @@
 ghost use Rattle.std.specs.Prelude.{◌≡◌, ℕ, List, [], ◌∷◌, Option, Some, OnOk, OnErr};
 ghost use Rattle.std.specs.Option.{option_map};
-ghost use Rattle.game_io.specs.Disk.{LeftPartly};
-ghost use Rattle.game_io.specs.Memory.{Named, content_after, files_of};
+ghost use Rattle.game_io.specs.DiskState.{LeftPartly};
+ghost use Rattle.game_io.specs.PlannedFiles.{NamedFile, content_after, files_of};
 
 use crate::disk::Disk;
 use crate::disk_error::DiskError;
@@ -19,7 +19,7 @@ pub struct SureDisk {
 }
 
 impl Model for SureDisk {
-    ghost Value = { List Named };
+    ghost Value = { List NamedFile };
 
     ghost view = { λ d. d.files.items };
 }
@@ -49,15 +49,19 @@ impl SureDisk {
         None
     }
 
-    /// Gives the file of that name this content, or takes it away. It fails only for want of memory, and then nothing
-    /// changes.
+    /// Gives the file of that name this content, or takes it away. It fails only where it is out of
+    /// memory, and then nothing changes.
     pub(crate) fn set(
         &mut self,
         alloc: Global,
         name: &str,
         content: Option<Vec<u8>>,
     ) -> Result<(), NoMemory>
-        ensures ok { OnOk result (self.new ≡ record { name = name.now; content = option_map (λ bytes. bytes.items) content } ∷ self.old) }
+        ensures ok { OnOk result (self.new
+            ≡ record {
+              name = name.now;
+              content = option_map (λ bytes. bytes.items) content;
+            } ∷ self.old) }
         ensures err { OnErr result (self.new ≡ self.old) }
     {
         let name = String::from_str(alloc, name)?;
@@ -65,9 +69,11 @@ impl SureDisk {
         Ok(())
     }
 
-    /// Gives the file of that name these bytes. It fails only for want of memory, and then nothing changes.
+    /// Gives the file of that name these bytes. It fails only where it is out of memory, and then
+    /// nothing changes.
     pub fn add(&mut self, alloc: Global, name: &str, bytes: &[u8]) -> Result<(), NoMemory>
-        ensures ok { OnOk result (self.new ≡ record { name = name.now; content = Some bytes.now } ∷ self.old) }
+        ensures ok { OnOk result
+            (self.new ≡ record { name = name.now; content = Some bytes.now } ∷ self.old) }
         ensures err { OnErr result (self.new ≡ self.old) }
     {
         let content = Vec::from_slice(alloc, bytes)?;
@@ -76,7 +82,8 @@ impl SureDisk {
 }
 
 impl SureDisk {
-    /// Leaves of the file of that name what is to remain of it after a write of these bytes that fails.
+    /// Leaves of the file of that name what is to remain of it after a write of these bytes that
+    /// fails.
     pub(crate) fn leave(
         &mut self,
         alloc: Global,
@@ -84,22 +91,22 @@ impl SureDisk {
         bytes: &[u8],
         remains: Remains,
     ) -> Result<(), NoMemory>
-        ensures partly { OnOk result (LeftPartly (Some (files_of self.old)) (Some (files_of self.new)) name.now bytes.now) }
-        ensures content { OnOk result (files_of self.new name.now ≡ content_after remains (files_of self.old name.now) bytes.now) }
+        ensures partly { OnOk result
+            (LeftPartly (Some (files_of self.old)) (Some (files_of self.new)) name.now bytes.now) }
+        ensures content { OnOk result (files_of self.new name.now
+            ≡ content_after remains (files_of self.old name.now) bytes.now) }
         ensures err { OnErr result (self.new ≡ self.old) }
     {
         match remains {
             Remains::Old => Ok(()),
             Remains::Nothing => self.set(alloc, name, None),
-            Remains::Front(_) => self.add(alloc, name, remaining(remains, bytes)),
+            Remains::Prefix(_) => self.add(alloc, name, remaining(remains, bytes)),
         }
     }
 }
 
 impl Disk for SureDisk {
-    ghost files = { λ d. Some (files_of d) };
-
-    ghost faults = { λ d. 0 };
+    ghost state = { λ d. record { files = Some (files_of d); faults = 0 } };
 
     fn faults(&self) -> u64 {
         0

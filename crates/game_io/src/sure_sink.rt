@@ -8,9 +8,7 @@ use crate::sink::Sink;
 pub struct SureSink;
 
 impl Sink for SureSink {
-    ghost written = { λ s. None };
-
-    ghost faults = { λ s. 0 };
+    ghost state = { λ s. record { written = None; faults = 0 } };
 
     fn faults(&self) -> u64 {
         0

@@ -1,5 +1,5 @@
 ghost use Rattle.std.specs.Prelude.{◌≡◌, ◌≤◌, ℕ, List, Some, length, drop, is_ok, true};
-ghost use Rattle.game_io.specs.Source.{Takes, Fills};
+ghost use Rattle.game_io.specs.SourceState.{TakesBytes, FillsPlace};
 
 use crate::failed::Failed;
 use crate::source::Source;
@@ -30,17 +30,16 @@ impl SureSource {
 }
 
 impl Source for SureSource {
-    ghost left = { λ s. Some s };
-
-    ghost faults = { λ s. 0 };
+    ghost state = { λ s. record { left = Some s; faults = 0 } };
 
     fn faults(&self) -> u64 {
         0
     }
 
     fn take(&mut self, into: &mut [u8]) -> Result<usize, Failed>
-        ensures takes { Takes (Some self.old) (Some self.new) 0 0 into.new result }
-        ensures fills { Fills into.old into.new result }
+        ensures takes { TakesBytes (record { left = Some self.old; faults = 0 })
+            (record { left = Some self.new; faults = 0 }) into.new result }
+        ensures fills { FillsPlace into.old into.new result }
         ensures sure { is_ok result ≡ true }
     {
         let count = into.len().min(self.bytes.len() - self.taken);

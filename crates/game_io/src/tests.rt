@@ -30,7 +30,8 @@ fn take_five(source: &mut impl Source, alloc: Global) -> Result<Vec<u8>, AllocEr
     Ok(taken)
 }
 
-/// The letter for what a call answered: `m` missing, `f` failed, `l` too long, `n` no memory, and `done` for `Ok`.
+/// The letter for what a call answered: `m` missing, `f` failed, `l` too long, `n` out of memory,
+/// and `done` for `Ok`.
 fn letter<T: Drop>(answer: Result<T, DiskError>, done: char) -> char {
     match answer {
         Ok(_) => done,
@@ -69,8 +70,8 @@ fn chosen_puts_fail(rt: HostRuntime) -> Result<(), Fail> {
     let rows = [
         (0, Remains::Old, "cdef"),
         (1, Remains::Nothing, "abf"),
-        (1, Remains::Front(2), "abcdf"),
-        (2, Remains::Front(9), "abcdef"),
+        (1, Remains::Prefix(2), "abcdf"),
+        (2, Remains::Prefix(9), "abcdef"),
     ];
     for (call, remains, want) in rows {
         let mut sink = MemSink::new(rt.alloc(), failing(rt.alloc(), call, remains)?);
@@ -106,8 +107,8 @@ fn chosen_calls_of_a_disk_fail(rt: HostRuntime) -> Result<(), Fail> {
     let rows = [
         (0, Remains::Old, "before", ('f', 'r')),
         (0, Remains::Nothing, "none", ('f', 'r')),
-        (0, Remains::Front(0), "", ('f', 'r')),
-        (0, Remains::Front(2), "ne", ('f', 'r')),
+        (0, Remains::Prefix(0), "", ('f', 'r')),
+        (0, Remains::Prefix(2), "ne", ('f', 'r')),
         (1, Remains::Old, "new", ('w', 'f')),
     ];
     for (call, remains, left, answers) in rows {
@@ -164,8 +165,8 @@ impl<'a> Write for Halting<'a> {
 
 #[test]
 fn a_writer_that_fails_is_counted(rt: HostRuntime) {
-    // The puts of `ab`, `cde` and `f` are two, three and two calls. A failed write leaves out what it was to write, and
-    // what the same put was to write behind it.
+    // The puts of `ab`, `cde` and `f` are two, three and two calls. A failed write leaves out what
+    // it was to write, and what the same put was to write after it.
     let rows = [
         (0, "cdef"),
         (1, "abcdef"),

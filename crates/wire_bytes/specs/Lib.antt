@@ -1,2 +1,4 @@
 pub mod Field
+pub mod FieldLemmas
 pub mod Read
+pub mod ReadLemmas

@@ -5,7 +5,8 @@ use crate::short::Short;
 use byteorder::{ByteOrder, LittleEndian};
 use std::marker::Model;
 
-/// Bytes that are read field by field, from the front. A contract sees it as the bytes that are left.
+/// Bytes that are read field by field, from the first on. A contract sees it as the bytes that are
+/// left.
 #[derive(Drop)]
 pub struct Cursor<'a> {
     left: &'a [u8],
@@ -17,7 +18,7 @@ impl<'a> Model for Cursor<'a> {
     ghost view = { λ c. c.left.now };
 }
 
-/// The bytes of the first field of this width, and the bytes behind it.
+/// The bytes of the first field of this width, and the bytes after it.
 fn split_field(bytes: &[u8], width: usize) -> (&[u8], &[u8])
     requires { width ≤ length bytes.now }
     ensures { TakesField width bytes.now result.1.now result.0.now }
@@ -45,7 +46,8 @@ impl<'a> Cursor<'a> {
         ensures ok { IfOk result (λ field. TakesField width self.old self.new field.now) }
         ensures few { OnErr result (length self.old < width) }
         ensures err { OnErr result (self.new ≡ self.old) }
-        ensures short { IfErr result (λ short. short ≡ record { need = width; have = length self.old }) }
+        ensures short { IfErr result
+            (λ short. short ≡ record { need = width; have = length self.old }) }
     {
         let left = self.left;
         if left.len() < width {

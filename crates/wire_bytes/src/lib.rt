@@ -1,8 +1,8 @@
 //! Little-endian fields: numbers of one, two, four and eight bytes, the lowest byte first.
 //!
-//! A `Cursor` reads them one after the other, and the `write_` calls append them. A field's number and its
-//! bytes determine each other: what was written is read back, and what was read is written back. It stands
-//! on `base` for want of memory and on `byteorder`.
+//! A `Cursor` reads them one after the other, and the `write_` calls append them. A field's number
+//! and its bytes determine each other: what was written is read back, and what was read is written
+//! back. It stands on `base` for its error where memory runs out, and on `byteorder`.
 #![tactic(auto)]
 
 mod cursor;

@@ -5,7 +5,7 @@ pub returns : goal.returns
 returns c =
     record {
       enough = c.requires;
-      front = c.split_at.ensures.front;
-      back = c.split_at.ensures.back;
+      first = c.split_at.ensures.front;
+      rest = c.split_at.ensures.back;
       bytes = λ i. let fits = c.type_inv.bytes i in omega arith;
     }

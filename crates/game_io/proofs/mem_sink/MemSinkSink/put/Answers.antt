@@ -1,11 +1,12 @@
+use Rattle.std.specs.Prelude.{IsErr}
 use Rattle.std.proofs.Common.{rules, ℕ, List, ◌≤◌, Some, Err, arith}
 use Rattle.base.specs.Cause.{Rose}
-use Rattle.base.specs.Told.{WroteFront}
-use Rattle.game_io.specs.Sink.{Puts}
+use Rattle.base.specs.Written.{WrotePrefix}
+use Rattle.game_io.specs.SinkState.{WritesBytes}
 use Rattle.game_io.specs.Plan.{faults_of}
-use Rattle.game_io.specs.Memory.{PlannedBytes, remaining}
+use Rattle.game_io.specs.PlannedBytes.{PlannedBytes, sink_state, remaining}
 use Rattle.game_io.specs.declared.failing_call.Remains.{Remains}
-use Rattle.game_io.proofs.Fronts.{wrote_remaining}
+use Rattle.game_io.proofs.RemainingLemmas.{wrote_remaining}
 use Rattle.game_io.proofs.mem_sink.MemSinkSink.put.Goals as goal
 
 not_fallen : (before between now : ℕ) → before ≤ between → between ≤ now → before ≤ now
@@ -14,18 +15,19 @@ not_fallen before between now first second = omega arith
 risen : (before between now : ℕ) → Rose before between → between ≤ now → Rose before now
 risen before between now first second = omega arith
 
--- A put that fails by its plan, from what the call's beginning and the addition of what remains did.
+-- A put that fails by its plan, from what the call's beginning and the addition of what remains
+-- did.
 failed_put :
     {E : Type 0} (error : E) (old new : PlannedBytes) (between : ℕ) (remains : Remains) (piece : List ℕ) →
-    WroteFront (Some old.bytes) (Some new.bytes) (remaining remains piece) → Rose (faults_of old.plan) between →
+    WrotePrefix (Some old.bytes) (Some new.bytes) (remaining remains piece) → Rose (faults_of old.plan) between →
     faults_of old.plan ≤ between → between ≤ faults_of new.plan →
-    Puts {T = Unit {0}} (Some old.bytes) (Some new.bytes) (faults_of old.plan) (faults_of new.plan) piece (Err error)
-failed_put error old new between remains piece front rose first second =
+    WritesBytes {T = Unit {0}} (sink_state old) (sink_state new) piece (Err error) (IsErr {T = Unit {0}} (Err error))
+failed_put error old new between remains piece prefix rose first second =
     record {
       wrote = tt;
-      front = wrote_remaining (Some old.bytes) (Some new.bytes) remains piece front;
+      prefix = wrote_remaining (Some old.bytes) (Some new.bytes) remains piece prefix;
       later = not_fallen (faults_of old.plan) between (faults_of new.plan) first second;
-      failed = risen (faults_of old.plan) between (faults_of new.plan) rose second;
+      failed = λ _. risen (faults_of old.plan) between (faults_of new.plan) rose second;
     }
 
 pub returns-in-Some-clause-puts : goal.returns-in-Some-clause-puts

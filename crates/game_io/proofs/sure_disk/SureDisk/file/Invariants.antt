@@ -1,5 +1,5 @@
 use Rattle.std.proofs.Common.{◌≡◌, drop}
-use Rattle.game_io.specs.Memory.{files_of}
+use Rattle.game_io.specs.PlannedFiles.{files_of}
 use Rattle.game_io.proofs.sure_disk.SureDisk.file.Given as goal
 
 abbrev pub invariant-loop-file : goal.invariant-loop-file

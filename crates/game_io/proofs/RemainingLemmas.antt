@@ -2,44 +2,45 @@
 use Rattle.std.proofs.Common.{◌≡◌, ℕ, List, ◌∷◌, ◌++◌, drop, Option, cond, Result, Ok, Err, OnOk, refl, sym, ap, ◌∙◌, append_assoc}
 use Rattle.std.proofs.lemmas.List.{take-append-drop}
 use Rattle.std.proofs.lemmas.Slice.Eq.{bytes_eq-Decides}
-use Rattle.base.specs.Told.{WroteFront}
-use Rattle.game_io.specs.Memory.{Named, files_of, remaining}
+use Rattle.base.specs.Written.{WrotePrefix}
+use Rattle.game_io.specs.PlannedBytes.{remaining}
+use Rattle.game_io.specs.PlannedFiles.{NamedFile, files_of}
 use Rattle.game_io.specs.declared.failing_call.Remains.{Remains}
-use Rattle.game_io.specs.declared.failing_call.Remains.TheVariants.{Old, Nothing, Front}
+use Rattle.game_io.specs.declared.failing_call.Remains.TheVariants.{Old, Nothing, Prefix}
 
 -- What does not remain of the bytes.
 abbrev lost : Remains → List ℕ → List ℕ
 lost Old bytes = bytes
 lost Nothing bytes = bytes
-lost (Front count) bytes = drop count bytes
+lost (Prefix count) bytes = drop count bytes
 
 remaining-lost : (remains : Remains) (bytes : List ℕ) → remaining remains bytes ++ lost remains bytes ≡ bytes
 remaining-lost Old bytes = refl
 remaining-lost Nothing bytes = refl
-remaining-lost (Front count) bytes = take-append-drop count bytes
+remaining-lost (Prefix count) bytes = take-append-drop count bytes
 
--- A front of what remains is a front of the whole.
+-- A prefix of what remains is a prefix of the whole.
 pub wrote_remaining :
     (old new : Option (List ℕ)) (remains : Remains) (bytes : List ℕ) →
-    WroteFront old new (remaining remains bytes) → WroteFront old new bytes
+    WrotePrefix old new (remaining remains bytes) → WrotePrefix old new bytes
 wrote_remaining old new remains bytes part =
     record {
-      front = part.front;
+      prefix = part.prefix;
       rest = part.rest ++ lost remains bytes;
       whole =
-          sym (append_assoc part.front part.rest (lost remains bytes))
-          ∙ ap (λ front. front ++ lost remains bytes) part.whole
+          sym (append_assoc part.prefix part.rest (lost remains bytes))
+          ∙ ap (λ prefix. prefix ++ lost remains bytes) part.whole
           ∙ remaining-lost remains bytes;
       wrote = part.wrote;
     }
 
 -- The newest file of a name has its content.
-set_is_held : (name : List ℕ) (content : Option (List ℕ)) (old : List Named) → files_of (record { name = name; content = content } ∷ old) name ≡ content
+set_is_held : (name : List ℕ) (content : Option (List ℕ)) (old : List NamedFile) → files_of (record { name = name; content = content } ∷ old) name ≡ content
 set_is_held name content old = ap (λ same. cond same content (files_of old name)) ((bytes_eq-Decides name name).1 refl)
 
--- So does a file that was set, or nothing was set for want of memory.
+-- So does a file that was set, or nothing was set, out of memory.
 pub held_after :
-    {E : Type 0} (result : Result (Unit {0}) E) (old new : List Named) (name : List ℕ) (content : Option (List ℕ)) →
+    {E : Type 0} (result : Result (Unit {0}) E) (old new : List NamedFile) (name : List ℕ) (content : Option (List ℕ)) →
     OnOk result (new ≡ record { name = name; content = content } ∷ old) → OnOk result (files_of new name ≡ content)
 held_after (Ok value) old new name content e = ap (λ files. files_of files name) e ∙ set_is_held name content old
 held_after (Err error) old new name content e = tt
