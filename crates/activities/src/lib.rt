@@ -1,7 +1,7 @@
 //! What an actor is doing: an activity, and the queue of those that it is to do.
 //!
-//! The queue holds at most 16 activities in place, by a vector of fixed capacity, so no call takes memory.
-//! Contracts see it as the list of its activities, the one at work first.
+//! The queue holds at most 16 activities in place, by a vector of fixed capacity, so no call takes
+//! memory. Contracts see it as the list of its activities, the one at work first.
 #![tactic(auto)]
 
 mod activity;
@@ -15,7 +15,7 @@ mod tests {
     use super::*;
     use world_units::CPos;
 
-    /// An activity that the number tells from others.
+    /// An attack on an actor, another activity for each number.
     fn attack(target: u32) -> Activity {
         Activity::Attack { target, waits: 0 }
     }

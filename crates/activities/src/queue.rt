@@ -1,4 +1,5 @@
-ghost use Rattle.std.specs.Prelude.{◌≡◌, ◌<◌, ◌≤◌, ◌↔◌, [], ◌∷◌, ◌++◌, drop, length, if◌then◌else◌, IsNone, IsTrue, slice_get, slice_set};
+ghost use Rattle.std.specs.Prelude.{◌≡◌, ◌<◌, ◌≤◌, ◌↔◌, [], ◌∷◌, ◌++◌, drop, length, if◌then◌else◌};
+ghost use Rattle.std.specs.Prelude.{IsNone, IsTrue, slice_get, slice_set};
 ghost use Rattle.std.specs.Option.{option_copied};
 
 use crate::activity::Activity;
@@ -9,7 +10,7 @@ use std::marker::Model;
 pub const MAX_ACTIVITIES: usize = 16;
 
 /// The activities of an actor, the one at work first: at most `MAX_ACTIVITIES`, held in place.
-#[derive(Debug, Drop, PartialEq, Eq)]
+#[derive(Debug, Drop)]
 pub struct Queue {
     held: ArrayVec<Activity, MAX_ACTIVITIES>,
 }
@@ -75,8 +76,8 @@ impl Queue {
         self.held.push(a);
     }
 
-    /// Adds an activity last. The answer is false exactly where `MAX_ACTIVITIES` stand there, and then nothing
-    /// changes.
+    /// Adds an activity last. The answer is false exactly where `MAX_ACTIVITIES` stand there, and
+    /// then nothing changes.
     pub fn append(&mut self, a: Activity) -> bool
         ensures room { IsTrue result ↔ (length self.old < MAX_ACTIVITIES) }
         ensures after { self.new ≡ (if result then self.old ++ a ∷ [] else self.old) }
@@ -85,7 +86,8 @@ impl Queue {
         self.held.try_push(a).is_ok()
     }
 
-    /// Takes the activity at work out. `None` comes exactly where there is none, and then nothing changes.
+    /// Takes the activity at work out. `None` comes exactly where there is none, and then nothing
+    /// changes.
     pub fn pop(&mut self) -> Option<Activity>
         ensures value { result ≡ slice_get self.old 0 }
         ensures none { IsNone result ↔ (self.old ≡ []) }
@@ -111,4 +113,26 @@ impl Queue {
         }
         twin
     }
+}
+
+impl PartialEq for Queue {
+    ghost use Rattle.std.specs.Cmp.{decided, partial_equiv_from_equiv};
+    ghost use Rattle.activities.specs.Activity.{same_queue};
+    ghost use Rattle.activities.specs.ActivityLemmas.{queue_decides};
+
+    ghost eq = { same_queue };
+
+    ghost laws = { partial_equiv_from_equiv (decided same_queue queue_decides) };
+
+    fn eq(&self, other: &Queue) -> bool {
+        self.held.as_slice() == other.held.as_slice()
+    }
+}
+
+impl Eq for Queue {
+    ghost use Rattle.std.specs.Cmp.{decided};
+    ghost use Rattle.activities.specs.Activity.{same_queue};
+    ghost use Rattle.activities.specs.ActivityLemmas.{queue_decides};
+
+    ghost laws = { decided same_queue queue_decides };
 }

@@ -1,7 +1,8 @@
 -- The recurrences of the sequence, from its definition by a bounded depth.
-use Rattle.std.proofs.Common.{◌≡◌, ℕ, zero, suc, ◌+◌, ◌-◌, ◌<◌, ◌≤◌, Bool, true, false, cond, ltb, eqb, refl, ap, ◌∙◌, arith}
+use Rattle.std.proofs.Common.{◌≡◌, ℕ, zero, suc, ◌+◌, ◌-◌, ◌<◌, ◌≤◌, Bool, true, false, cond, ltb}
+use Rattle.std.proofs.Common.{eqb, refl, ap, ◌∙◌, arith}
 use Rattle.std.proofs.lemmas.Bool.Decides.{nat_tests}
-use Rattle.twister.specs.Sequence.{seeding_step, twisted_of, next_x, x_within, x_of}
+use Rattle.twister.specs.Sequence.{seeding_step, twisted_of, next_x, x_bounded, x_of}
 
 -- The next word looks at earlier places alone.
 step-same :
@@ -30,21 +31,21 @@ next_x-same seed i x y earlier =
     (λ a b. earlier (i - 623) (grind (arith, nat_tests)))
 
 -- Any depth above the place gives the same word.
-depth-same : (d e seed i : ℕ) → i < d → i < e → x_within d seed i ≡ x_within e seed i
+depth-same : (d e seed i : ℕ) → i < d → i < e → x_bounded d seed i ≡ x_bounded e seed i
 depth-same zero e seed i p q = absurd (omega arith)
 depth-same (suc d) zero seed i p q = absurd (omega arith)
 depth-same (suc d) (suc e) seed i p q =
-    next_x-same seed i (x_within d seed) (x_within e seed)
+    next_x-same seed i (x_bounded d seed) (x_bounded e seed)
     (λ j earlier. depth-same d e seed j (omega arith) (omega arith))
 
-x_within-is : (d seed i : ℕ) → i < d → x_within d seed i ≡ x_of seed i
+x_bounded-is : (d seed i : ℕ) → i < d → x_bounded d seed i ≡ x_of seed i
 unfolding x_of
-x_within-is d seed i p = depth-same d (suc i) seed i p (omega arith)
+x_bounded-is d seed i p = depth-same d (suc i) seed i p (omega arith)
 
 -- A word is made of the words of the sequence before it.
 x_of-next : (seed i : ℕ) → x_of seed i ≡ next_x seed (x_of seed) i
 unfolding x_of
-x_of-next seed i = next_x-same seed i (x_within i seed) (x_of seed) (λ j earlier. x_within-is i seed j earlier)
+x_of-next seed i = next_x-same seed i (x_bounded i seed) (x_of seed) (λ j earlier. x_bounded-is i seed j earlier)
 
 -- The sequence begins with the seed.
 pub x_first : (seed : ℕ) → x_of seed 0 ≡ seed
@@ -79,3 +80,5 @@ twist-at seed i a b c late p q r =
 -- Every later word is the twist of three words before it.
 pub x_twist : (seed k : ℕ) → x_of seed (k + 624) ≡ twisted_of (x_of seed (k + 397)) (x_of seed k) (x_of seed (k + 1))
 x_twist seed k = twist-at seed (k + 624) (k + 397) k (k + 1) (omega arith) (omega arith) (omega arith) (omega arith)
+
+pub ruleset sequence_laws = (x_first, x_seeding, x_twist)

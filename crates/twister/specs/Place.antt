@@ -7,7 +7,11 @@ pub record Place : Type 0 where
   pub seed : ℕ
   pub drawn : ℕ
 
--- The word that is drawn at a place, and the place behind it.
+-- The beginning of the sequence.
+abbrev pub start_of : ℕ → Place
+start_of seed = record { seed = seed; drawn = 0 }
+
+-- The word that is drawn at a place, and the place after it.
 abbrev pub word_at : Place → ℕ
 word_at place = word_of place.seed place.drawn
 

@@ -10,14 +10,15 @@ pub const LEN: usize = 624;
 /// How far the other word of the recurrence lies ahead of the oldest.
 const SHIFT: usize = 397;
 
-/// The recurrences that define the sequence, as laws of its definition: its first word is the seed, the next 623
-/// are made by the seeding, and every later one by the twist of three words before it. The words that are drawn are those
-/// from place 624 on, tempered. The call does nothing.
-#[tactic(auto, unfolding(crate::specs::Sequence::word_of), using(crate::proofs::EarlierWords::x_first, crate::proofs::EarlierWords::x_seeding, crate::proofs::EarlierWords::x_twist))]
+/// The recurrences that define the sequence, as laws of its definition: its first word is the seed,
+/// the next 623 are made by the seeding, and every later one by the twist of three words before it.
+/// The words that are drawn are those from place 624 on, tempered. The call does nothing.
+#[tactic(auto, unfolding(crate::specs::Sequence::word_of), using(crate::proofs::EarlierWords::sequence_laws))]
 pub fn recurrences(seed: u32, i: u32, k: u64)
     ensures first { x_of seed 0 ≡ seed }
     ensures seeding { 0 < i → i < LEN → x_of seed i ≡ seeding_step (x_of seed (i - 1)) i }
-    ensures twist { x_of seed (k + LEN) ≡ twisted_of (x_of seed (k + SHIFT)) (x_of seed k) (x_of seed (k + 1)) }
+    ensures twist { x_of seed (k + LEN) ≡ twisted_of (x_of seed (k + SHIFT)) (x_of seed k) (x_of
+        seed (k + 1)) }
     ensures drawn { word_of seed k ≡ tempered_of (x_of seed (k + LEN)) }
 {}
 
@@ -33,12 +34,14 @@ pub fn first_block(seed: u32) -> [u32; LEN]
     block
 }
 
-/// The place of the next word in the block, once the block is refilled where all its words were taken.
+/// The place of the next word in the block, once the block is refilled where all its words were
+/// taken.
 #[inline]
 pub fn next_place(block: &mut [u32; LEN], at: usize) -> usize
     requires { at ≤ LEN }
     ensures place { result < LEN }
-    ensures words { (seed base : ℕ) → HoldsFrom seed base block.old → HoldsFrom seed (base + at - result) block.new }
+    ensures words { (seed base : ℕ) → HoldsFrom seed base block.old → HoldsFrom seed (base + at -
+        result) block.new }
 {
     if at < LEN {
         return at;
@@ -49,7 +52,8 @@ pub fn next_place(block: &mut [u32; LEN], at: usize) -> usize
 
 /// Puts the next block of the sequence in place of this one.
 fn refill(block: &mut [u32; LEN])
-    ensures { (seed base : ℕ) → HoldsFrom seed base block.old → HoldsFrom seed (base + LEN) block.new }
+    ensures { (seed base : ℕ) → HoldsFrom seed base block.old → HoldsFrom seed (base + LEN)
+        block.new }
 {
     renew_front(block);
     renew_middle(block);
@@ -58,7 +62,8 @@ fn refill(block: &mut [u32; LEN])
 
 /// Renews the words whose other word is still one of the old block.
 fn renew_front(block: &mut [u32; LEN])
-    ensures { (seed base : ℕ) → HoldsFrom seed base block.old → IsRenewedTo seed base (LEN - SHIFT) block.new }
+    ensures { (seed base : ℕ) → HoldsFrom seed base block.old → IsRenewedTo seed base (LEN - SHIFT)
+        block.new }
 {
     for k in 0..LEN - SHIFT {
         block[k] = twisted(block[k + SHIFT], block[k], block[k + 1]);
@@ -67,7 +72,8 @@ fn renew_front(block: &mut [u32; LEN])
 
 /// Renews the words whose other word is one of the new block, but for the last.
 fn renew_middle(block: &mut [u32; LEN])
-    ensures { (seed base : ℕ) → IsRenewedTo seed base (LEN - SHIFT) block.old → IsRenewedTo seed base (LEN - 1) block.new }
+    ensures { (seed base : ℕ) → IsRenewedTo seed base (LEN - SHIFT) block.old → IsRenewedTo seed
+        base (LEN - 1) block.new }
 {
     for k in LEN - SHIFT..LEN - 1 {
         block[k] = twisted(block[k - (LEN - SHIFT)], block[k], block[k + 1]);

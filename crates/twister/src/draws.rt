@@ -52,7 +52,8 @@ impl Twister {
         self.drawn
     }
 
-    /// Draws the next word: any number of 32 bits. Only where fewer than 2^64 - 1 words were drawn so far.
+    /// Draws the next word: any number of 32 bits. Only where fewer than 2^64 - 1 words were drawn
+    /// so far.
     #[inline]
     #[tactic(auto, unfolding(crate::specs::Sequence::word_of))]
     pub fn next_word(&mut self) -> u32
@@ -67,13 +68,13 @@ impl Twister {
         word
     }
 
-    /// Draws one word for a number below `m`: the word modulo 2^31 - 1, and that modulo `m`. `m` is at least 1, and fewer
-    /// than 2^64 - 1 words were drawn so far.
+    /// Draws one word for a number below `m`: the word modulo 2^31 - 1, and that modulo `m`. `m` is
+    /// at least 1, and fewer than 2^64 - 1 words were drawn so far.
     pub fn below(&mut self, m: u32) -> u32
         requires bound { 1 ≤ m }
         requires more { self.old.drawn < 2 ^ 64 - 1 }
         ensures value { result ≡ draw_of self.old.seed self.old.drawn m }
-        ensures within { result < m }
+        ensures below { result < m }
         ensures after { self.new ≡ after_word self.old }
     {
         self.next_word() % DRAW_MODULUS % m

@@ -29,7 +29,7 @@ pub fn seeding_word(before: u32, i: u32) -> u32
         .wrapping_add(i)
 }
 
-/// The word 624 places behind `upper`, from the word 397 places behind it and the one next to it.
+/// The word 624 places after `upper`, from the word 397 places after it and the one next to it.
 #[inline]
 #[tactic(auto, unfolding(crate::specs::Sequence::twisted_of))]
 pub fn twisted(far: u32, upper: u32, lower: u32) -> u32

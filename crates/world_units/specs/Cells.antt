@@ -1,6 +1,10 @@
--- Distances of cells, which are 1024 units wide.
-use Rattle.std.specs.Prelude.{ℕ, ◌+◌, ◌-◌, ◌*◌}
+-- Cells, which are 1024 units wide: which are the same, and how far they are apart.
+use Rattle.std.specs.Prelude.{ℕ, ◌+◌, ◌-◌, ◌*◌, ◌==◌, ◌&&◌, Bool}
 use Rattle.world_units.specs.declared.cell.CPos.{CPos}
+
+-- The two are one cell.
+abbrev pub same_cell : CPos → CPos → Bool
+same_cell a b = (a.x == b.x) && (a.y == b.y)
 
 -- How far apart two numbers are: one of the two differences is 0.
 abbrev pub apart : ℕ → ℕ → ℕ

@@ -1,6 +1,7 @@
--- The eight directions, clockwise: 0 north, 1 north-east, 2 east, 3 south-east, 4 south, 5 south-west, 6 west,
--- 7 north-west.
-use Rattle.std.specs.Prelude.{ℕ, ◌+◌, ◌-◌, ◌%◌, ◌&&◌, ◌||◌, nat_lt, ◌==◌, if◌then◌else◌, Option, Some, None}
+-- The eight directions, clockwise: 0 north, 1 north-east, 2 east, 3 south-east, 4 south,
+-- 5 south-west, 6 west, 7 north-west.
+use Rattle.std.specs.Prelude.{ℕ, ◌+◌, ◌-◌, ◌%◌, ◌&&◌, ◌||◌, nat_lt, ◌==◌, if◌then◌else◌, Option}
+use Rattle.std.specs.Prelude.{Some, None}
 use Rattle.world_units.specs.declared.cell.CPos.{CPos}
 
 -- Even directions lead to a neighbour that shares a side, odd ones to one that shares a corner.
@@ -26,7 +27,8 @@ south_of d = if nat_lt 2 d && nat_lt d 6 then 1 else 0
 
 -- A coordinate after a shift up and a shift down, where it stays within 0 to 255.
 abbrev pub shifted : ℕ → ℕ → ℕ → Option ℕ
-shifted n up down = if nat_lt (n + up) down || nat_lt (255 + down) (n + up) then None else Some (n + up - down)
+shifted n up down =
+    if nat_lt (n + up) down || nat_lt (255 + down) (n + up) then None else Some (n + up - down)
 
 abbrev pub cell_at : Option ℕ → Option ℕ → Option CPos
 cell_at (Some x) (Some y) = Some (record { x = x; y = y })

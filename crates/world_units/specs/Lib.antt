@@ -1,4 +1,5 @@
 pub mod Angles
+pub mod CellLemmas
 pub mod Cells
 pub mod Directions
 pub mod Turning

@@ -9,8 +9,8 @@ pub const FULL_TURN: u16 = 1024;
 /// Half a turn, in units of angles.
 pub const HALF_TURN: u16 = 512;
 
-/// An angle or a facing, always below `FULL_TURN`. 0 is north, and angles grow counter-clockwise, so that 256
-/// is west.
+/// An angle or a facing, always below `FULL_TURN`. 0 is north, and angles grow counter-clockwise,
+/// so that 256 is west.
 #[derive(Clone, Copy, Debug, Default, PartialEq, Eq, Hash)]
 pub struct WAngle(u16);
 
@@ -38,7 +38,7 @@ impl WAngle {
     /// The angle in units, below `FULL_TURN`.
     pub fn units(self) -> u16
         ensures value { result ≡ self }
-        ensures within { result < FULL_TURN }
+        ensures below_full_turn { result < FULL_TURN }
     {
         self.0
     }

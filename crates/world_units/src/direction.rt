@@ -46,8 +46,8 @@ pub fn dir_angle(d: u8) -> WAngle
     WAngle::new((FULL_TURN - EIGHTH_TURN * u16::from(d)) % FULL_TURN)
 }
 
-/// How many units it takes to the neighbour in direction `d`, which is below `DIRECTIONS`: 1024 straight on, 1448 across
-/// a corner.
+/// How many units it takes to the neighbour in direction `d`, which is below `DIRECTIONS`: 1024
+/// straight on, 1448 across a corner.
 pub fn leg_length(d: u8) -> u32
     requires { d < DIRECTIONS }
     ensures { result ≡ leg_length_of d }
@@ -66,8 +66,8 @@ pub fn opposite(d: u8) -> u8
     (d + DIRECTIONS / 2) % DIRECTIONS
 }
 
-/// The neighbour of a cell in direction `d`, which is below `DIRECTIONS`. `None` comes exactly where a coordinate would
-/// leave 0 to 255.
+/// The neighbour of a cell in direction `d`, which is below `DIRECTIONS`. `None` comes exactly
+/// where a coordinate would leave 0 to 255.
 pub fn step(p: CPos, d: u8) -> Option<CPos>
     requires { d < DIRECTIONS }
     ensures value { result ≡ step_of p d }

@@ -1,10 +1,12 @@
 //! Units of the world: cells, distances, angles and the eight directions.
 //!
 //! A cell is 1024 units wide and a full turn is 1024 units. Facing 0 is north, and angles grow
-//! counter-clockwise. Every call is a formula over whole numbers and takes no memory. The crate promises the
-//! formulas and what follows from them: a turn takes the shorter side and never passes its aim, it gets there
-//! in as many steps as the distance asks, opposite directions differ by half a turn, and the distance of two
-//! cells is the same both ways.
+//! counter-clockwise. Every call is a formula over whole numbers and takes no memory.
+//!
+//! The crate promises the formulas and what follows from them. A turn takes the shorter side and
+//! never passes its aim. It gets there in as many steps as the distance asks. Opposite directions
+//! differ by half a turn, and the distance of two cells is the same both ways. Two cells are equal
+//! by `==` exactly where they are the same.
 #![tactic(auto)]
 
 mod angle;
@@ -75,6 +77,13 @@ mod tests {
             );
             assert_eq!(rt; opposite(direction), back, "at {direction}");
         }
+    }
+
+    #[test]
+    fn same_cells(rt: HostRuntime) {
+        let cell = CPos { x: 3, y: 9 };
+        assert!(rt; cell == CPos { x: 3, y: 9 });
+        assert!(rt; cell != CPos { x: 9, y: 3 } && cell != CPos { x: 3, y: 8 });
     }
 
     #[test]

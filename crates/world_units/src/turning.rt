@@ -5,8 +5,8 @@ use crate::angle::{FULL_TURN, WAngle};
 
 /// The facing after one turn of at most `by` units from `f` towards `d`.
 ///
-/// The turn goes over the shorter side, over lower angles where both are as long. It brings the facing nearer by
-/// `by` units, or all the way where less is left, so it never passes its aim.
+/// The turn goes over the shorter side, over lower angles where both are as long. It brings the
+/// facing nearer by `by` units, or all the way where less is left, so it never passes its aim.
 pub fn turn_towards(f: WAngle, d: WAngle, by: u16) -> WAngle
     ensures value { result ≡ turn_of f d by }
     ensures nearer { gap_of result d ≡ gap_of f d - by }
@@ -24,8 +24,8 @@ pub fn turn_towards(f: WAngle, d: WAngle, by: u16) -> WAngle
     }
 }
 
-/// The law of repeated turns: so many turns of `by` units reach the aim exactly where together they are as long as
-/// the distance over the shorter side. The call does nothing.
+/// The law of repeated turns: so many turns of `by` units reach the aim exactly where together they
+/// are as long as the distance over the shorter side. The call does nothing.
 pub fn turns_arrive(f: WAngle, d: WAngle, by: u16, steps: u16)
     ensures { (turned f d by steps ≡ d) ↔ (gap_of f d ≤ steps * by) }
 {
