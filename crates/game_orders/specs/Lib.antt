@@ -1,2 +1,4 @@
 pub mod Order
+pub mod OrderLemmas
 pub mod Entry
+pub mod EntryLemmas

@@ -3,8 +3,8 @@ ghost use Rattle.game_orders.specs.Entry.{is_play};
 
 use crate::orders::Orders;
 
-/// What a client did for one frame. As an entry of a column, a Leave is the client's departure, once for all;
-/// as an entry of a frame, it says that the client has departed.
+/// What a client did for one frame. As an entry of a column, a Leave is the client's departure,
+/// once for all; as an entry of a frame, it means that the client has departed.
 #[derive(Debug, Drop)]
 pub enum Entry {
     /// The client's orders for the frame, perhaps none.
@@ -36,7 +36,8 @@ impl Entry {
 }
 
 impl PartialEq for Entry {
-    ghost use Rattle.game_orders.specs.Entry.{same_entry, entry_decides};
+    ghost use Rattle.game_orders.specs.Entry.{same_entry};
+    ghost use Rattle.game_orders.specs.EntryLemmas.{entry_decides};
     ghost use Rattle.std.specs.Cmp.{decided, partial_equiv_from_equiv};
 
     ghost eq = { same_entry };
@@ -53,7 +54,8 @@ impl PartialEq for Entry {
 }
 
 impl Eq for Entry {
-    ghost use Rattle.game_orders.specs.Entry.{same_entry, entry_decides};
+    ghost use Rattle.game_orders.specs.Entry.{same_entry};
+    ghost use Rattle.game_orders.specs.EntryLemmas.{entry_decides};
     ghost use Rattle.std.specs.Cmp.{decided};
 
     ghost laws = { decided same_entry entry_decides };

@@ -1,4 +1,5 @@
-ghost use Rattle.std.specs.Prelude.{◌≡◌, ◌+◌, ◌<◌, ◌≤◌, ◌↔◌, [], ◌∷◌, ◌++◌, length, IsTrue, IfNone, slice_get};
+ghost use Rattle.std.specs.Prelude.{◌≡◌, ◌+◌, ◌<◌, ◌≤◌, ◌↔◌, [], ◌∷◌, ◌++◌, length, IsTrue, IfNone};
+ghost use Rattle.std.specs.Prelude.{slice_get};
 ghost use Rattle.std.specs.Option.{option_copied};
 
 use crate::entry::Entry;
@@ -6,8 +7,8 @@ use crate::limits::{MAX_CLIENTS, PER_CLIENT_ROOM};
 use arrayvec::ArrayVec;
 use std::marker::Model;
 
-/// What a world is stepped by: one entry for each client, by rising number, at most [`MAX_CLIENTS`].
-/// In it a Leave says that the client has departed, at this frame or before it.
+/// What a world is stepped by: one entry for each client, by rising number, at most
+/// [`MAX_CLIENTS`]. In it a Leave means that the client has departed, at this frame or before it.
 #[derive(Debug, Drop)]
 pub struct Frame {
     held: ArrayVec<Entry, PER_CLIENT_ROOM>,

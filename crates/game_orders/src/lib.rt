@@ -1,9 +1,9 @@
 //! Orders, entries and frames: what the clients of a match send, and what a world is stepped by.
 //!
-//! A client seals at most [`MAX_ORDERS`] orders for one frame. Its entry for a frame is a play of such
-//! orders or its departure, and a frame has one entry for each client. [`PerClient`] has any other value
-//! for each client. All of them are held in place: no call of this crate takes memory. Lists are seen as
-//! lists, and two orders or entries are equal exactly where they are the same.
+//! A client seals at most [`MAX_ORDERS`] orders for one frame. Its entry for a frame is a play of
+//! such orders or its departure, and a frame has one entry for each client. [`PerClient`] has any
+//! other value for each client. All of them are held in place: no call of this crate takes memory.
+//! Lists are seen as lists, and two orders or entries are equal exactly where they are the same.
 #![tactic(auto)]
 
 mod entry;
@@ -15,7 +15,7 @@ mod per_client;
 
 pub use entry::Entry;
 pub use frame::Frame;
-pub use limits::{MAX_CLIENTS, MAX_FRAMES, MAX_ORDERS};
+pub use limits::{MAX_CLIENTS, MAX_FRAMES, MAX_LAG, MAX_ORDERS};
 pub use order::Order;
 pub use orders::Orders;
 pub use per_client::PerClient;

@@ -1,8 +1,12 @@
 /// The greatest number of clients of one match. There is at least 1.
-pub const MAX_CLIENTS: u8 = 8;
+pub const MAX_CLIENTS: u8 = 16;
 
 /// The greatest number of frames that a client plays. Frames are numbered from 0.
-pub const MAX_FRAMES: u32 = 65_536;
+pub const MAX_FRAMES: u32 = 262_144;
+
+/// The greatest lag. A lag, 1 to this many frames, is how far a client may seal ahead of its ticked
+/// frames (the command delay of other engines).
+pub const MAX_LAG: u8 = 64;
 
 /// The greatest number of orders of one client for one frame.
 pub const MAX_ORDERS: u8 = 16;

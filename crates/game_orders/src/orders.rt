@@ -1,4 +1,5 @@
-ghost use Rattle.std.specs.Prelude.{◌≡◌, ◌+◌, ◌<◌, ◌≤◌, ◌↔◌, [], ◌∷◌, ◌++◌, length, IsTrue, IfNone, slice_get};
+ghost use Rattle.std.specs.Prelude.{◌≡◌, ◌+◌, ◌<◌, ◌≤◌, ◌↔◌, [], ◌∷◌, ◌++◌, length, IsTrue, IfNone};
+ghost use Rattle.std.specs.Prelude.{slice_get};
 ghost use Rattle.std.specs.Option.{option_copied};
 ghost use Rattle.std.specs.Bool.{OnTrue, OnFalse};
 
@@ -7,7 +8,8 @@ use crate::order::Order;
 use arrayvec::ArrayVec;
 use std::marker::Model;
 
-/// The orders of one client for one frame: at most [`MAX_ORDERS`], in the order in which they are applied.
+/// The orders of one client for one frame: at most [`MAX_ORDERS`], in the order in which they are
+/// applied.
 #[derive(Debug, Drop)]
 pub struct Orders {
     held: ArrayVec<Order, ORDERS_ROOM>,
@@ -86,7 +88,8 @@ impl Orders {
 }
 
 impl PartialEq for Orders {
-    ghost use Rattle.game_orders.specs.Order.{same_orders, orders_decides};
+    ghost use Rattle.game_orders.specs.Order.{same_orders};
+    ghost use Rattle.game_orders.specs.OrderLemmas.{orders_decides};
     ghost use Rattle.std.specs.Cmp.{decided, partial_equiv_from_equiv};
 
     ghost eq = { same_orders };
@@ -99,7 +102,8 @@ impl PartialEq for Orders {
 }
 
 impl Eq for Orders {
-    ghost use Rattle.game_orders.specs.Order.{same_orders, orders_decides};
+    ghost use Rattle.game_orders.specs.Order.{same_orders};
+    ghost use Rattle.game_orders.specs.OrderLemmas.{orders_decides};
     ghost use Rattle.std.specs.Cmp.{decided};
 
     ghost laws = { decided same_orders orders_decides };

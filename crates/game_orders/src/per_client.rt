@@ -4,7 +4,8 @@ use crate::limits::{MAX_CLIENTS, PER_CLIENT_ROOM};
 use arrayvec::ArrayVec;
 use std::marker::Model;
 
-/// One value for each client of a match, by rising number, held in place. There are 1 to [`MAX_CLIENTS`] clients.
+/// One value for each client of a match, by rising number, held in place. There are 1 to
+/// [`MAX_CLIENTS`] clients.
 #[derive(Debug, Drop)]
 pub struct PerClient<T> {
     held: ArrayVec<T, PER_CLIENT_ROOM>,
@@ -18,7 +19,8 @@ impl<T> Model for PerClient<T> {
 
     ghost view = { λ each. each.held.items };
 
-    ghost invariant = { λ each. (1 ≤ length each.held.items) × (length each.held.items ≤ MAX_CLIENTS) };
+    ghost invariant = { λ each. (1 ≤ length each.held.items) × (length each.held.items ≤
+        MAX_CLIENTS) };
 }
 
 impl<T: Copy + Default> PerClient<T> {

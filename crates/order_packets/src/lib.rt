@@ -1,7 +1,8 @@
 //! Packets between the clients of a match and its server.
 //!
-//! [`Up`] is what a client sends: its greeting, the orders that it sealed for a frame, a report of its world's
-//! hash, and its farewell. Packets are plain values; two are equal exactly where they are the same.
+//! [`Up`] is what a client sends: its greeting, the orders that it sealed for a frame, a report of
+//! its world's hash, and its farewell. Packets are plain values. Two are equal exactly where they
+//! are the same.
 #![tactic(auto)]
 
 mod up;

@@ -54,7 +54,8 @@ impl Up {
 }
 
 impl PartialEq for Up {
-    ghost use Rattle.order_packets.specs.Packet.{same_up, up_decides};
+    ghost use Rattle.order_packets.specs.Up.{same_up};
+    ghost use Rattle.order_packets.specs.UpLemmas.{up_decides};
     ghost use Rattle.std.specs.Cmp.{decided, partial_equiv_from_equiv};
 
     ghost eq = { same_up };
@@ -91,7 +92,8 @@ impl PartialEq for Up {
 }
 
 impl Eq for Up {
-    ghost use Rattle.order_packets.specs.Packet.{same_up, up_decides};
+    ghost use Rattle.order_packets.specs.Up.{same_up};
+    ghost use Rattle.order_packets.specs.UpLemmas.{up_decides};
     ghost use Rattle.std.specs.Cmp.{decided};
 
     ghost laws = { decided same_up up_decides };

@@ -1,4 +1,4 @@
--- What is copied so far is the front of the orders.
+-- What is copied so far is a prefix of the orders.
 use Rattle.std.proofs.Common.{◌≡◌, take}
 use Rattle.game_orders.proofs.orders.Orders.copy.Given as goal
 

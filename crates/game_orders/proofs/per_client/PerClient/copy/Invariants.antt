@@ -1,4 +1,4 @@
--- What is copied so far is the front of the list.
+-- What is copied so far is a prefix of the list.
 use Rattle.std.proofs.Common.{◌≡◌, take}
 use Rattle.game_orders.proofs.per_client.PerClient.copy.Given as goal
 
