@@ -1,3 +1,4 @@
-pub mod StoredLemmas
+pub mod StoredColumnLemmas
 pub mod ReadyLemmas
 pub mod PutLemmas
+pub mod InputSteps

@@ -1,18 +1,27 @@
 -- What the answer to a put says, case by case.
-use Rattle.std.proofs.Common.{◌≡◌, ℕ, zero, suc, ◌<◌, ◌≤◌, ◌==◌, Bool, true, false, ◌&&◌, List, [], ◌∷◌, ◌++◌, length, refl, sym, ap, ap₂, subst, ◌∙◌, arith, eq-eqb, get_or-set_same}
-use Rattle.std.specs.Prelude.{Option, Some, None, Result, Ok, Err, IfOk, OnOk, OnErr, slice_get, slice_set, nat_lt, if◌then◌else◌}
+use Rattle.std.proofs.Common.{◌≡◌, ℕ, zero, suc, ◌<◌, ◌≤◌, ◌==◌, Bool, true, false, ◌&&◌, List, []}
+use Rattle.std.proofs.Common.{◌∷◌, ◌++◌, length, refl, sym, ap, ap₂, subst, ◌∙◌, arith, eq-eqb}
+use Rattle.std.proofs.Common.{get_or-set_same}
+use Rattle.std.specs.Prelude.{Option, Some, None, Result, Ok, Err, IfOk, OnOk, OnErr, slice_get}
+use Rattle.std.specs.Prelude.{slice_set, nat_lt, if◌then◌else◌}
 use Rattle.std.proofs.lemmas.Bool.{eqb-true, ltb-true, ltb-false}
 use Rattle.game_orders.specs.declared.order.Order.{Order}
 use Rattle.game_orders.specs.declared.entry.Entry.{Entry}
 use Rattle.game_orders.specs.declared.entry.Entry.TheVariants.{Play, Leave}
 use Rattle.game_orders.specs.declared.limits.TheConstants.{MAX_FRAMES}
-use Rattle.game_orders.specs.Entry.{is_play, same_entry, entry_decides}
-use Rattle.frame_core.specs.Column.{Column, length_of, entry_from, entry_at, put_by, put_answer, with_entry, after_answer, put_column, no_column, column_of, left_column}
+use Rattle.game_orders.specs.Entry.{is_play, same_entry}
+use Rattle.game_orders.specs.EntryLemmas.{entry_decides}
+use Rattle.frame_core.specs.Column.{Column, length_of, entry_from, entry_at, put_by, put_answer}
+use Rattle.frame_core.specs.Column.{with_entry, after_answer, put_column, no_column, column_of}
+use Rattle.frame_core.specs.Column.{left_column}
 use Rattle.frame_core.specs.declared.put.Put.{Put}
-use Rattle.frame_core.specs.declared.put.Put.TheVariants.{Fixed, Repeat, Conflict, Left, Ahead, Full}
-use Rattle.frame_core.specs.Answers.{TellsPut}
+use Rattle.frame_core.specs.declared.put.Put.TheVariants.{Fixed, Repeat, Conflict, Left, Ahead}
+use Rattle.frame_core.specs.declared.put.Put.TheVariants.{Full}
+use Rattle.frame_core.specs.Put.{PutMeans}
 use Rattle.frame_core.proofs.ReadyLemmas.{none_past}
-use Rattle.frame_core.specs.Grows.{past_departure, Grows, Grows-refl, Grows-set, put_grows, left_grows}
+use Rattle.frame_core.specs.Grows.{Grows}
+use Rattle.frame_core.specs.GrowsLemmas.{past_departure, Grows-refl, Grows-set, put_grows}
+use Rattle.frame_core.specs.GrowsLemmas.{left_grows}
 
 -- What stands in no column at n is no play.
 open_past : (found : Option (List Order)) (left : Bool) → entry_from found left ≡ None → found ≡ None
@@ -25,7 +34,7 @@ get_last [] x (suc n) end = absurd (omega arith)
 get_last (y ∷ xs) x zero end = absurd (omega arith)
 get_last (y ∷ xs) x (suc n) end = get_last xs x n (omega arith)
 
--- What was added behind the plays stands there.
+-- What was added after the plays stands there.
 added_stands :
     (column : Column) (n : ℕ) (e : Entry) → slice_get column.plays n ≡ None → length_of column ≡ n → entry_at (with_entry column e) n ≡ Some e
 added_stands column n (Play orders) none end =
@@ -36,11 +45,12 @@ added_stands column n Leave none end = ap₂ entry_from none (eq-eqb n (length_o
 -- The answer where another entry, or the same one, stands at the frame.
 kept_tells :
     (column : Column) (n : ℕ) (e kept : Entry) (same : Bool) → entry_at column n ≡ Some kept → same_entry e kept ≡ same →
-    TellsPut (after_answer (if same then Repeat else Conflict kept) column e) n e (if same then Repeat else Conflict kept)
+    PutMeans (after_answer (if same then Repeat else Conflict kept) column e) n e (if same then Repeat else Conflict kept)
 kept_tells column n e kept true at is = at ∙ ap Some (sym ((entry_decides e kept).0 is))
 kept_tells column n e kept false at is = (at, λ same. let yes : same_entry e kept ≡ true = (entry_decides e kept).1 (sym same) in cc)
 
--- The answer where nothing stands there: whether the client has left, the frame is beyond the plays, and the column is full.
+-- The answer where nothing stands there: whether the client has left, the frame is beyond the
+-- plays, and the column is full.
 abbrev choice : Bool → Bool → Bool → ℕ → Put
 choice left beyond full at = if left && beyond then Left at else (if beyond then Ahead at else (if full then Full else Fixed))
 
@@ -52,7 +62,7 @@ full_by false top both = absurd cc
 free_tells :
     (column : Column) (n : ℕ) (e : Entry) (left beyond full : Bool) → entry_at column n ≡ None → column.left ≡ left →
     nat_lt (length_of column) n ≡ beyond → (is_play e && (n == MAX_FRAMES)) ≡ full →
-    TellsPut (after_answer (choice left beyond full (length_of column)) column e) n e (choice left beyond full (length_of column))
+    PutMeans (after_answer (choice left beyond full (length_of column)) column e) n e (choice left beyond full (length_of column))
 free_tells column n e true true full none is further top = (is, refl, ltb-true (length_of column) n further)
 free_tells column n e false true full none is further top = (is, refl, ltb-true (length_of column) n further)
 free_tells column n e true false full none is further top =
@@ -72,13 +82,13 @@ free_tells column n e false false false none is further top =
 
 put_tells_by :
     (column : Column) (n : ℕ) (e : Entry) (found : Option Entry) → entry_at column n ≡ found →
-    TellsPut (after_answer (put_by found column n e) column e) n e (put_by found column n e)
+    PutMeans (after_answer (put_by found column n e) column e) n e (put_by found column n e)
 put_tells_by column n e (Some kept) at = kept_tells column n e kept (same_entry e kept) at refl
 put_tells_by column n e None at =
     free_tells column n e column.left (nat_lt (length_of column) n) (is_play e && (n == MAX_FRAMES)) at refl refl refl
 
 -- The answer to a put says what stands there afterwards, or why nothing was added.
-pub put_tells : (column : Column) (n : ℕ) (e : Entry) → TellsPut (put_column column n e) n e (put_answer column n e)
+pub put_tells : (column : Column) (n : ℕ) (e : Entry) → PutMeans (put_column column n e) n e (put_answer column n e)
 put_tells column n e = put_tells_by column n e (entry_at column n) refl
 
 -- The columns after a put of client c, by its outcome.
@@ -86,13 +96,13 @@ pub columns_tell :
     {E : Type 0} (result : Result Put E) (columns new : List Column) (c n : ℕ) (e : Entry) → c < length columns →
     IfOk result (λ put. put ≡ put_answer (column_of columns c) n e) →
     OnOk result (new ≡ slice_set columns c (put_column (column_of columns c) n e)) →
-    IfOk result (λ put. TellsPut (column_of new c) n e put)
+    IfOk result (λ put. PutMeans (column_of new c) n e put)
 columns_tell (Ok put) columns new c n e there is after =
     let column : Column = column_of columns c in
     let here : column_of new c ≡ put_column column n e =
     ap (λ each. column_of each c) after ∙ get_or-set_same columns c (put_column column n e) no_column there in
-    let P : Put → Type 0 = λ put. TellsPut (column_of new c) n e put in
-    let Q : Column → Type 0 = λ at. TellsPut at n e (put_answer column n e) in
+    let P : Put → Type 0 = λ put. PutMeans (column_of new c) n e put in
+    let Q : Column → Type 0 = λ at. PutMeans at n e (put_answer column n e) in
     subst P (sym is) (subst Q (sym here) (put_tells column n e))
 columns_tell (Err fault) columns new c n e there is after = tt
 

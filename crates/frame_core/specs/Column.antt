@@ -1,16 +1,18 @@
 -- A column: one client's plays, frame by frame from 0, then perhaps its departure.
-use Rattle.std.specs.Prelude.{ℕ, ◌≤◌, ◌==◌, nat_lt, Bool, true, false, ◌&&◌, if◌then◌else◌, List, [], ◌∷◌, ◌++◌, length, Option, Some, None, slice_get, slice_index_or}
+use Rattle.std.specs.Prelude.{ℕ, ◌≤◌, ◌==◌, nat_lt, Bool, true, false, ◌&&◌, if◌then◌else◌, List}
+use Rattle.std.specs.Prelude.{[], ◌∷◌, ◌++◌, length, Option, Some, None, slice_get, slice_index_or}
 use Rattle.game_orders.specs.declared.order.Order.{Order}
 use Rattle.game_orders.specs.declared.entry.Entry.{Entry}
 use Rattle.game_orders.specs.declared.entry.Entry.TheVariants.{Play, Leave}
 use Rattle.game_orders.specs.declared.limits.TheConstants.{MAX_FRAMES}
 use Rattle.game_orders.specs.Entry.{is_play, same_entry}
 use Rattle.frame_core.specs.declared.put.Put.{Put}
-use Rattle.frame_core.specs.declared.put.Put.TheVariants.{Fixed, Repeat, Conflict, Left, Ahead, Full}
+use Rattle.frame_core.specs.declared.put.Put.TheVariants.{Fixed, Repeat, Conflict, Left, Ahead}
+use Rattle.frame_core.specs.declared.put.Put.TheVariants.{Full}
 use Rattle.frame_core.specs.declared.leaving.Leaving.{Leaving}
 use Rattle.frame_core.specs.declared.leaving.Leaving.TheVariants.{Already, Fixed as FixedAt}
 
--- The plays of one client, and whether its departure stands behind them.
+-- The plays of one client, and whether its departure stands after them.
 pub record Column : Type 0 where
   pub plays : List (List Order)
   pub left : Bool
@@ -19,7 +21,8 @@ pub record Column : Type 0 where
 abbrev pub no_column : Column
 no_column = record { plays = []; left = false }
 
--- The length of a column is its number of plays. Its departure, if there is one, stands at that frame.
+-- The length of a column is its number of plays. Its departure, if there is one, stands at that
+-- frame.
 abbrev pub length_of : Column → ℕ
 length_of column = length column.plays
 
@@ -37,7 +40,7 @@ entry_at column n = entry_from (slice_get column.plays n) (column.left && (n == 
 abbrev pub has_at : Column → ℕ → Option Entry
 has_at column n = entry_from (slice_get column.plays n) column.left
 
--- The answer to a put, by the entry that stands at its frame: the first case that fits.
+-- The answer to a put, by the entry that stands at its frame: the first applicable case.
 abbrev pub put_by : Option Entry → Column → ℕ → Entry → Put
 put_by (Some kept) column n entry = if same_entry entry kept then Repeat else Conflict kept
 put_by None column n entry =

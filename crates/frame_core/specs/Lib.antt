@@ -1,8 +1,15 @@
 pub mod Column
-pub mod Answers
-pub mod Stored
+pub mod Put
+pub mod StoredColumn
+pub mod Input
+pub mod InputLemmas
 pub mod Ready
+pub mod Fold
+pub mod FoldLemmas
 pub mod World
+pub mod Match
 pub mod Tick
 pub mod Grows
+pub mod GrowsLemmas
 pub mod Agreed
+pub mod AgreedLemmas

@@ -1,61 +1,57 @@
--- Whether a frame is ready, and the frame, over what each client has for it by rising number.
--- The same two functions serve the columns of the server and what reached a peer.
-use Rattle.std.specs.Prelude.{◌≡◌, ℕ, ◌+◌, ◌<◌, ◌≤◌, Bool, true, false, ◌||◌, ◌⊎◌, if◌then◌else◌, List, [], ◌∷◌, length, take, map, Option, Some, None}
-use Rattle.std.specs.List.{All, Any}
+-- Whether a frame is ready, and the agreed frame, by the columns.
+use Rattle.std.specs.Prelude.{◌≡◌, ℕ, ◌<◌, ◌≤◌, true, false, List, length, map, Option, Some, None}
 use Rattle.game_orders.specs.declared.entry.Entry.{Entry}
 use Rattle.game_orders.specs.declared.entry.Entry.TheVariants.{Leave}
-use Rattle.game_orders.specs.Entry.{is_play}
 use Rattle.frame_core.specs.Column.{Column, length_of, has_at, column_of}
+use Rattle.frame_core.specs.Input.{input_of, ready_of, MeansReady}
+use Rattle.frame_core.specs.declared.input.Input.{Input}
 use Rattle.frame_core.specs.declared.ready.Ready.{Ready}
-use Rattle.frame_core.specs.declared.ready.Ready.TheVariants.{Yes, NotYet, Over}
 
--- The least client, from c on, that has nothing; else whether some client has a play.
-abbrev pub ready_from : ℕ → Bool → List (Option Entry) → Ready
-ready_from c played [] = if played then Yes else Over
-ready_from c played (None ∷ rest) = NotYet c
-ready_from c played (Some entry ∷ rest) = ready_from (c + 1) (played || is_play entry) rest
-
-abbrev pub ready_of : List (Option Entry) → Ready
-ready_of each = ready_from 0 false each
-
--- The entry of a client in a frame. It is asked only where the frame is ready, so each client has one.
+-- The entry of a client in a frame. It is asked only where the frame is ready, so each client has
+-- one.
 abbrev pub or_leave : Option Entry → Entry
 or_leave (Some entry) = entry
 or_leave None = Leave
 
+-- The frame for which the clients, by rising number, have these entries.
 abbrev pub frame_of : List (Option Entry) → List Entry
 frame_of each = map or_leave each
 
--- What each client has for frame n, by the columns.
+-- What clients with these entries for a frame have for it.
+abbrev pub inputs_of : List (Option Entry) → List Input
+inputs_of each = map input_of each
+
+-- The entry that each client has for frame n, by the columns.
 abbrev pub each_at : List Column → ℕ → List (Option Entry)
 each_at columns n = map (λ column. has_at column n) columns
 
+-- What each client has for frame n, by the columns.
+abbrev pub inputs_at : List Column → ℕ → List Input
+inputs_at columns n = inputs_of (each_at columns n)
+
+-- Whether frame n is ready, by the columns.
 abbrev pub ready_at : List Column → ℕ → Ready
-ready_at columns n = ready_of (each_at columns n)
+ready_at columns n = ready_of (inputs_at columns n)
 
 -- The agreed frame n.
 abbrev pub frame_at : List Column → ℕ → List Entry
 frame_at columns n = frame_of (each_at columns n)
 
--- The client has played frame n.
-abbrev pub HasPlayed : ℕ → Column → Type 0
-HasPlayed n column = n < length_of column
+-- Client c has played frame n.
+abbrev pub HasPlayed : List Column → ℕ → ℕ → Type 0
+HasPlayed columns n c = n < length_of (column_of columns c)
 
--- The client has left at frame n or before it.
-abbrev pub HasLeftBy : ℕ → Column → Type 0
-HasLeftBy n column = (column.left ≡ true) × (length_of column ≤ n)
+-- Client c has left at frame n or before it.
+abbrev pub HasLeftBy : List Column → ℕ → ℕ → Type 0
+HasLeftBy columns n c = ((column_of columns c).left ≡ true) × (length_of (column_of columns c) ≤ n)
 
--- The client has something for frame n: a play at it, or its departure at or before it.
-abbrev pub HasFrame : ℕ → Column → Type 0
-HasFrame n column = HasPlayed n column ⊎ HasLeftBy n column
+-- Client c has neither played frame n nor left by then.
+abbrev pub HasNothing : List Column → ℕ → ℕ → Type 0
+HasNothing columns n c =
+    ((column_of columns c).left ≡ false) × (length_of (column_of columns c) ≤ n)
 
--- The client has nothing for frame n.
-abbrev pub LacksFrame : ℕ → Column → Type 0
-LacksFrame n column = (column.left ≡ false) × (length_of column ≤ n)
-
--- What an answer on frame n says of the columns: each client has something and one has played it; or c is the least
--- client that has nothing; or all have left by then.
-abbrev pub TellsReady : List Column → ℕ → Ready → Type 0
-TellsReady columns n Yes = All (HasFrame n) columns × Any (HasPlayed n) columns
-TellsReady columns n (NotYet c) = (c < length columns) × LacksFrame n (column_of columns c) × All (HasFrame n) (take c columns)
-TellsReady columns n Over = All (HasLeftBy n) columns
+-- What an answer on frame n means by the columns: each client has played it or left by then, and
+-- one has played it; or some client is the least that has neither; or all have left by then.
+abbrev pub MeansReadyAt : List Column → ℕ → Ready → Type 0
+MeansReadyAt columns n =
+    MeansReady (HasPlayed columns n) (HasLeftBy columns n) (HasNothing columns n) (length columns)

@@ -1,8 +1,11 @@
 ghost use Rattle.std.specs.Prelude.{◌≡◌, ◌<◌, ◌≤◌, true, slice_get, OnOk, OnErr, IfOk, IfSome};
 ghost use Rattle.game_orders.specs.Entry.{is_play};
 ghost use Rattle.std.specs.Option.{option_copied};
-ghost use Rattle.frame_core.specs.Column.{length_of, entry_at, has_at, put_answer, put_column, no_column, with_entry, leave_answer, left_column};
+ghost use Rattle.frame_core.specs.Input.{input_of};
+ghost use Rattle.frame_core.specs.Column.{length_of, entry_at, has_at, put_answer, put_column};
+ghost use Rattle.frame_core.specs.Column.{no_column, with_entry, leave_answer, left_column};
 
+use crate::input::Input;
 use crate::leaving::Leaving;
 use crate::put::Put;
 use base::NoMemory;
@@ -21,7 +24,7 @@ pub(crate) struct StoredColumn {
 
 impl Model for StoredColumn {
     ghost use Rattle.frame_core.specs.Column.{Column};
-    ghost use Rattle.frame_core.specs.Stored.{plays_of, ArePlays};
+    ghost use Rattle.frame_core.specs.StoredColumn.{plays_of, ArePlays};
     ghost use Rattle.game_orders.specs.declared.entry.Entry.TheVariants.{Leave};
     ghost use Rattle.game_orders.specs.declared.limits.TheConstants.{MAX_FRAMES};
     ghost use Rattle.std.specs.Prelude.{◌≡◌, ◌≤◌, length};
@@ -30,7 +33,8 @@ impl Model for StoredColumn {
 
     ghost view = { λ c. record { plays = plays_of c.plays.items; left = c.left } };
 
-    ghost invariant = { λ c. ArePlays c.plays.items × (c.leave ≡ Leave) × (length c.plays.items ≤ MAX_FRAMES) };
+    ghost invariant = { λ c. ArePlays c.plays.items × (c.leave ≡ Leave) × (length c.plays.items ≤
+        MAX_FRAMES) };
 }
 
 impl StoredColumn {
@@ -76,7 +80,7 @@ impl StoredColumn {
         Some(&self.leave)
     }
 
-    /// Puts an entry at frame `n`. For want of memory, its one error, nothing has changed.
+    /// Puts an entry at frame `n`. Out of memory, its one error, it changes nothing.
     pub(crate) fn put(&mut self, n: u32, e: Entry) -> Result<Put, NoMemory>
         ensures answer { IfOk result (λ put. put ≡ put_answer self.old n e) }
         ensures after { OnOk result (self.new ≡ put_column self.old n e) }
@@ -116,7 +120,19 @@ impl StoredColumn {
         Some(&self.leave)
     }
 
-    /// Lets the client leave behind its plays.
+    /// What the client has for frame `n`: a play there, or its departure at `n` or before it.
+    pub(crate) fn input(&self, n: u32) -> Input
+        ensures value { result ≡ input_of (has_at self.now n) }
+        ensures limit { result ≡ Input.Played → n < MAX_FRAMES }
+    {
+        match self.has(n) {
+            Some(Entry::Play(_)) => Input::Played,
+            Some(Entry::Leave) => Input::Departed,
+            None => Input::Missing,
+        }
+    }
+
+    /// Lets the client leave after its plays.
     pub(crate) fn leave(&mut self) -> Leaving
         ensures answer { result ≡ leave_answer self.old }
         ensures after { self.new ≡ left_column self.old }
@@ -129,7 +145,7 @@ impl StoredColumn {
         Leaving::Fixed(length)
     }
 
-    /// Adds an entry last: a play to the plays, or the departure behind them.
+    /// Adds an entry last: a play to the plays, or the departure after them.
     fn add(&mut self, e: Entry) -> Result<(), NoMemory>
         requires { is_play e ≡ true → length_of self.old < MAX_FRAMES }
         ensures added { OnOk result (self.new ≡ with_entry self.old e) }

@@ -1,11 +1,14 @@
 ghost use Rattle.std.specs.Prelude.{◌≡◌, ◌<◌, ◌≤◌, length, replicate, IfOk, OnOk, OnErr, slice_set};
 ghost use Rattle.std.specs.Option.{option_copied};
-ghost use Rattle.frame_core.specs.Column.{column_of, length_of, entry_at, put_answer, put_column, no_column, leave_answer, left_column};
-ghost use Rattle.frame_core.specs.Answers.{TellsPut};
+ghost use Rattle.frame_core.specs.Column.{column_of, length_of, entry_at, put_answer, put_column};
+ghost use Rattle.frame_core.specs.Column.{no_column, leave_answer, left_column};
+ghost use Rattle.frame_core.specs.Put.{PutMeans};
 ghost use Rattle.frame_core.specs.Grows.{Grows};
-ghost use Rattle.frame_core.specs.Ready.{ready_at, frame_at, TellsReady};
+ghost use Rattle.frame_core.specs.Ready.{ready_at, frame_at, MeansReadyAt};
 
 use crate::column::StoredColumn;
+use crate::input::Input;
+use crate::inputs::{Inputs, ready_by};
 use crate::leaving::Leaving;
 use crate::put::Put;
 use crate::ready::Ready;
@@ -29,11 +32,12 @@ impl Model for Columns {
 
     ghost view = { λ columns. columns.held.items };
 
-    ghost invariant = { λ columns. (1 ≤ length columns.held.items) × (length columns.held.items ≤ MAX_CLIENTS) };
+    ghost invariant = { λ columns. (1 ≤ length columns.held.items) × (length columns.held.items ≤
+        MAX_CLIENTS) };
 }
 
 impl Columns {
-    /// The empty columns of 1 to `MAX_CLIENTS` clients. It fails only for want of memory.
+    /// The empty columns of 1 to `MAX_CLIENTS` clients. It fails only where it is out of memory.
     pub fn create(alloc: Global, clients: u8) -> Result<Columns, NoMemory>
         requires least { 1 ≤ clients }
         requires most { clients ≤ MAX_CLIENTS }
@@ -55,7 +59,8 @@ impl Columns {
         self.held.len() as u8
     }
 
-    /// The number of plays of client `c`, which is below the number of clients: at most `MAX_FRAMES` plays.
+    /// The number of plays of client `c`, which is below the number of clients: at most
+    /// `MAX_FRAMES` plays.
     pub fn plays(&self, c: u8) -> u32
         requires { c < length self.now }
         ensures value { result ≡ length_of (column_of self.now c) }
@@ -64,8 +69,8 @@ impl Columns {
         self.held[c as usize].plays()
     }
 
-    /// Whether client `c`, which is below the number of clients, has left. Its departure stands at the frame that is
-    /// its number of plays.
+    /// Whether client `c`, which is below the number of clients, has left. Its departure stands at
+    /// the frame that is its number of plays.
     pub fn left(&self, c: u8) -> bool
         requires { c < length self.now }
         ensures { result ≡ (column_of self.now c).left }
@@ -73,8 +78,8 @@ impl Columns {
         self.held[c as usize].left()
     }
 
-    /// The entry of client `c`, which is below the number of clients, that stands at frame `n`. None exactly where
-    /// neither a play nor the departure stands at `n`.
+    /// The entry of client `c`, which is below the number of clients, that stands at frame `n`.
+    /// None exactly where neither a play nor the departure stands at `n`.
     pub fn entry(&self, c: u8, n: u32) -> Option<&Entry>
         requires { c < length self.now }
         ensures { option_copied result ≡ entry_at (column_of self.now c) n }
@@ -82,29 +87,32 @@ impl Columns {
         self.held[c as usize].entry(n)
     }
 
-    /// Puts an entry of client `c`, which is below the number of clients, at frame `n`. The first case that fits
-    /// decides:
+    /// Puts an entry of client `c`, which is below the number of clients, at frame `n`. The first
+    /// applicable case decides:
     ///
-    /// 1. An entry stands at `n`: `Repeat` if it is the same, else `Conflict` with the one that stands.
+    /// 1. An entry stands at `n`: `Repeat` if it is the same, else `Conflict` with the one that
+    ///    stands.
     /// 2. The client left before `n`: `Left` with the frame.
     /// 3. `n` is above the number of plays: `Ahead` with that number.
     /// 4. The entry is a play and `n` is `MAX_FRAMES`: `Full`.
     /// 5. `Fixed`: the entry is added. No other case changes anything.
     ///
-    /// Want of memory is its one error, and then nothing has changed.
+    /// Out of memory is its one error, and then nothing has changed.
     pub fn put(&mut self, c: u8, n: u32, e: Entry) -> Result<Put, NoMemory>
         requires { c < length self.old }
         ensures answer { IfOk result (λ put. put ≡ put_answer (column_of self.old c) n e) }
-        ensures after { OnOk result (self.new ≡ slice_set self.old c (put_column (column_of self.old c) n e)) }
-        ensures tells { IfOk result (λ put. TellsPut (column_of self.new c) n e put) }
+        ensures after { OnOk result (self.new ≡ slice_set self.old c (put_column (column_of self.old
+            c) n e)) }
+        ensures means { IfOk result (λ put. PutMeans (column_of self.new c) n e put) }
         ensures grows { Grows self.old self.new }
         ensures err { OnErr result (self.new ≡ self.old) }
     {
         self.held[c as usize].put(n, e)
     }
 
-    /// Lets client `c`, which is below the number of clients, leave: its departure stands at the frame that is its
-    /// number of plays. `Already` exactly where it has left, and then nothing changes.
+    /// Lets client `c`, which is below the number of clients, leave: its departure stands at the
+    /// frame that is its number of plays. `Already` exactly where it has left, and then nothing
+    /// changes.
     pub fn leave(&mut self, c: u8) -> Leaving
         requires { c < length self.old }
         ensures answer { result ≡ leave_answer (column_of self.old c) }
@@ -114,25 +122,18 @@ impl Columns {
         self.held[c as usize].leave()
     }
 
-    /// Whether frame `n` is ready. `NotYet` with the least client that has neither a play at `n` nor left at or before
-    /// it; else `Over` where no client has a play at `n`.
+    /// Whether frame `n` is ready. `NotYet` with the least client that has neither a play at `n`
+    /// nor left at or before it; else `Over` where no client has a play at `n`.
     pub fn ready(&self, n: u32) -> Ready
         ensures value { result ≡ ready_at self.now n }
-        ensures tells { TellsReady self.now n result }
+        ensures means { MeansReadyAt self.now n result }
         ensures limit { result ≡ Ready.Yes → n < MAX_FRAMES }
     {
-        let mut played = false;
-        for (c, column) in self.held.iter().enumerate() {
-            let Some(entry) = column.has(n) else {
-                return Ready::NotYet(c as u8);
-            };
-            played |= entry.is_play();
-        }
-        if played { Ready::Yes } else { Ready::Over }
+        ready_by(self, n)
     }
 
-    /// The agreed frame `n`, only where it is ready: the play of each client that has one there, and a Leave for each
-    /// that left.
+    /// The agreed frame `n`, only where it is ready: the play of each client that has one there,
+    /// and a Leave for each that left.
     pub fn frame(&self, n: u32) -> Frame
         requires { ready_at self.now n ≡ Ready.Yes }
         ensures { result ≡ frame_at self.now n }
@@ -144,8 +145,8 @@ impl Columns {
         frame
     }
 
-    /// Exchanges column `c` with column `d` of the other columns, each below the number of clients there. All other
-    /// columns stay.
+    /// Exchanges column `c` with column `d` of the other columns, each below the number of clients
+    /// there. All other columns stay.
     pub fn swap_column(&mut self, c: u8, other: &mut Columns, d: u8)
         requires mine { c < length self.old }
         requires theirs { d < length other.old }
@@ -153,6 +154,21 @@ impl Columns {
         ensures there { other.new ≡ slice_set other.old d (column_of self.old c) }
     {
         std::mem::swap(&mut self.held[c as usize], &mut other.held[d as usize]);
+    }
+}
+
+impl Inputs for Columns {
+    ghost use Rattle.frame_core.specs.Ready.{inputs_at};
+
+    ghost inputs = { inputs_at };
+
+    fn client_count(&self) -> u8 {
+        self.clients()
+    }
+
+    #[tactic(auto, using(crate::proofs::ReadyLemmas::input_there, crate::proofs::ReadyLemmas::inputs_length))]
+    fn input(&self, c: u8, n: u32) -> Input {
+        self.held[c as usize].input(n)
     }
 }
 

@@ -13,8 +13,8 @@ pub trait Maker {
     /// The opening world of this seed and number of clients.
     ghost made: { Self → ℕ → ℕ → Self.World };
 
-    /// Makes a world of any seed and 1 to `MAX_CLIENTS` clients, which has made no step. It fails only for want of
-    /// memory.
+    /// Makes a world of any seed and 1 to `MAX_CLIENTS` clients, which has made no step. It fails
+    /// only where it is out of memory.
     fn make(&self, alloc: Global, seed: u32, clients: u8) -> Result<Self::World, NoMemory>
         requires least { 1 ≤ clients }
         requires most { clients ≤ MAX_CLIENTS }

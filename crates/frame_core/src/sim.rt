@@ -4,10 +4,10 @@ use crate::summary::Summary;
 use game_orders::{Frame, MAX_CLIENTS};
 
 /// The greatest number of steps of one world.
-pub const MAX_STEPS: u32 = 4_294_967_295;
+pub const MAX_STEPS: u32 = 536_870_911;
 
-/// A world that is stepped by frames. What each call answers is a function of the world, and of the frame for a
-/// step: `after`, `hash_of` and `summary_of` name these functions.
+/// A world that is stepped by frames. What each call answers is a function of the world, and of the
+/// frame for a step: `after`, `hash_of` and `summary_of` name these functions.
 pub trait Sim: Drop {
     ghost use Rattle.game_orders.specs.declared.entry.Entry.{Entry};
     ghost use Rattle.frame_core.specs.declared.summary.Summary.{Summary};
@@ -33,8 +33,8 @@ pub trait Sim: Drop {
         ensures least { 1 ≤ result }
         ensures most { result ≤ MAX_CLIENTS };
 
-    /// Steps the world by a frame with one entry for each client, after fewer than [`MAX_STEPS`] steps so far. It
-    /// refuses nothing.
+    /// Steps the world by a frame with one entry for each client, after fewer than [`MAX_STEPS`]
+    /// steps so far. It refuses nothing.
     fn step(&mut self, f: &Frame)
         requires whole { length f.now ≡ clients_of self.old }
         requires more { steps self.old < MAX_STEPS }

@@ -1,6 +1,6 @@
 use game_orders::PerClient;
 
-/// What a report says of a world beside its hash.
+/// What a report has of a world beside its hash.
 #[derive(Debug, Drop)]
 pub struct Summary {
     /// The number of actors.

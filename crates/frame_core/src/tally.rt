@@ -2,8 +2,8 @@ use crate::sim::Sim;
 use crate::summary::Summary;
 use game_orders::{Frame, PerClient};
 
-/// The least world, of two clients: it counts its steps, and tells whether client 0 played in the last one. It is
-/// for trying what is generic over worlds, and shows what a [`Sim`] has to say.
+/// The least world, of two clients: it counts its steps, and keeps whether client 0 played in the
+/// last one. It is for trying what is generic over worlds, and shows what a [`Sim`] has to define.
 #[derive(Debug, Drop)]
 pub struct Tally {
     steps: u32,
@@ -41,7 +41,11 @@ impl Sim for Tally {
 
     ghost steps = { λ w. w.steps };
 
-    ghost after = { λ w frame. record { steps = w.steps + 1; played = unwrap_or (option_map is_play (slice_get frame 0)) false } };
+    ghost after = { λ w frame. record {
+      steps = w.steps + 1;
+      played = unwrap_or (option_map is_play
+          (slice_get frame 0)) false;
+    } };
 
     ghost hash_of = { λ w. w.steps * 2 + (if w.played then 1 else 0) };
 

@@ -1,7 +1,7 @@
 use Rattle.std.proofs.Common.{◌≡◌, ◌<◌, length, sym, ◌∙◌, ap, arith, length-append}
 use Rattle.frame_core.specs.Column.{length_of, with_entry}
 use Rattle.game_orders.specs.declared.limits.TheConstants.{MAX_FRAMES}
-use Rattle.frame_core.proofs.StoredLemmas.{length-plays_of, ArePlays-append, added}
+use Rattle.frame_core.proofs.StoredColumnLemmas.{length-plays_of, ArePlays-append, added}
 use Rattle.frame_core.proofs.column.StoredColumn.add.Goals as goal
 
 -- A play keeps what is kept a list of plays, and there was room for it.

@@ -1,6 +1,6 @@
 use Rattle.std.proofs.Common.{sym, ◌∙◌, ap}
 use Rattle.frame_core.specs.Column.{length_of}
-use Rattle.frame_core.proofs.StoredLemmas.{length-plays_of}
+use Rattle.frame_core.proofs.StoredColumnLemmas.{length-plays_of}
 use Rattle.frame_core.proofs.column.StoredColumn.plays.Goals as goal
 
 -- The list that is kept is as long as the list of plays that it shows.

@@ -3,7 +3,8 @@ use Rattle.std.proofs.lemmas.Grind.{common_steps}
 use Rattle.frame_core.proofs.PutLemmas.{columns_tell, columns_grow}
 use Rattle.frame_core.proofs.columns.Columns.put.Goals as goal
 
--- What the answer says, and that the columns grow, follows from the answer and the columns afterwards.
+-- What the answer says, and that the columns grow, follows from the answer and the columns
+-- afterwards.
 pub returns-clause-answer : goal.returns-clause-answer
 returns-clause-answer c = grind (arith, common_steps)
 
@@ -13,8 +14,8 @@ returns-clause-after c = grind (arith, common_steps)
 pub returns-clause-err : goal.returns-clause-err
 returns-clause-err c = grind (arith, common_steps)
 
-pub returns-clause-tells : goal.returns-clause-tells
-returns-clause-tells c =
+pub returns-clause-means : goal.returns-clause-means
+returns-clause-means c =
     columns_tell c.put.result c.args.self.now _ c.args.c c.args.n c.args.e c.requires (returns-clause-answer c) (returns-clause-after c)
 
 pub returns-clause-grows : goal.returns-clause-grows

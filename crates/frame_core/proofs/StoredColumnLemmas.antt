@@ -1,5 +1,6 @@
 -- What a list of plays shows as a column.
-use Rattle.std.proofs.Common.{◌≡◌, ℕ, zero, suc, ◌≢◌, eq-eqb, Bool, true, false, List, [], ◌∷◌, ◌++◌, length, refl, ap, ap₂, sym, ◌∙◌}
+use Rattle.std.proofs.Common.{◌≡◌, ℕ, zero, suc, ◌≢◌, eq-eqb, Bool, true, false, List, [], ◌∷◌}
+use Rattle.std.proofs.Common.{◌++◌, length, refl, ap, ap₂, sym, ◌∙◌}
 use Rattle.std.proofs.Math.Bool.{and-false}
 use Rattle.std.proofs.lemmas.Bool.{eqb-true, false_from_ne_true}
 use Rattle.std.specs.Prelude.{Some, None, slice_get, ◌&&◌, ◌==◌}
@@ -7,7 +8,7 @@ use Rattle.game_orders.specs.declared.order.Order.{Order}
 use Rattle.game_orders.specs.declared.entry.Entry.{Entry}
 use Rattle.game_orders.specs.declared.entry.Entry.TheVariants.{Play, Leave}
 use Rattle.game_orders.specs.Entry.{is_play}
-use Rattle.frame_core.specs.Stored.{plays_of, ArePlays}
+use Rattle.frame_core.specs.StoredColumn.{plays_of, ArePlays}
 use Rattle.frame_core.specs.Column.{Column, entry_from, entry_at, has_at, with_entry}
 
 pub plays_of-append : (xs : List Entry) (orders : List Order) → plays_of (xs ++ Play orders ∷ []) ≡ plays_of xs ++ orders ∷ []
