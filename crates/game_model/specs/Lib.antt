@@ -3,3 +3,4 @@ pub mod World
 pub mod Order
 pub mod Tick
 pub mod Keeps
+pub mod KeepsLemmas

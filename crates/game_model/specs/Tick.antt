@@ -1,9 +1,9 @@
 -- The tick: what a world becomes by one frame, which has an entry for each client by rising number.
-use Rattle.std.specs.Prelude.{ℕ, ◌+◌, Bool, true, List, [], ◌∷◌}
+use Rattle.std.specs.Prelude.{ℕ, zero, suc, ◌+◌, Bool, true, List, [], ◌∷◌}
 use Rattle.game_orders.specs.declared.entry.Entry.{Entry}
 use Rattle.game_orders.specs.declared.entry.Entry.TheVariants.{Play, Leave}
 use Rattle.game_model.specs.declared.world.World.{World}
-use Rattle.game_model.specs.Order.{all_ordered}
+use Rattle.game_model.specs.Order.{after_orders}
 
 -- A client has departed once it had before or its entry is a Leave.
 abbrev pub gone_by : Bool → Entry → Bool
@@ -21,23 +21,28 @@ abbrev pub with_departures : World → List Entry → World
 with_departures w frame = record w { gone = gone_after w.gone frame }
 
 -- The world after the orders of one client's entry.
-abbrev pub entered : World → ℕ → Entry → World
-entered w client (Play orders) = all_ordered w client orders
-entered w client Leave = w
+abbrev pub after_entry : World → ℕ → Entry → World
+after_entry w client (Play orders) = after_orders w client orders
+after_entry w client Leave = w
 
 -- The world after the orders of these entries, the first of which is that of client c.
-abbrev pub entered_from : ℕ → World → List Entry → World
-entered_from c w [] = w
-entered_from c w (entry ∷ entries) = entered_from (c + 1) (entered w c entry) entries
+abbrev pub after_entries : ℕ → World → List Entry → World
+after_entries c w [] = w
+after_entries c w (entry ∷ entries) = after_entries (c + 1) (after_entry w c entry) entries
 
 -- Second, the orders of the plays are applied by rising client.
 abbrev pub with_orders : World → List Entry → World
-with_orders w frame = entered_from 0 w frame
+with_orders w frame = after_entries 0 w frame
 
--- Last, the count of ticks grows by one.
-abbrev pub counted : World → World
-counted w = record w { tick = w.tick + 1 }
+-- One turn: it is counted as a tick.
+abbrev pub after_turn : World → World
+after_turn w = record w { tick = w.tick + 1 }
 
--- The world after one tick.
+-- The world after so many turns.
+abbrev pub after_turns : ℕ → World → World
+after_turns zero w = w
+after_turns (suc more) w = after_turns more (after_turn w)
+
+-- Last, as many turns are run as the pace said before the frame.
 abbrev pub tick_of : World → List Entry → World
-tick_of w frame = counted (with_orders (with_departures w frame) frame)
+tick_of w frame = after_turns w.pace (with_orders (with_departures w frame) frame)

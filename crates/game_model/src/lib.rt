@@ -1,10 +1,10 @@
 //! The world of the game as plain data, and in `specs/` what a tick makes of it.
 //!
-//! [`World`] is a record of numbers and lists, with a cash and a departure flag for each client of the match. The
-//! code that ticks a world stands above; here are the definitions that it is proved against: the opening world
-//! and the clients that a world has (`specs/World.antt`), the effect of an order (`specs/Order.antt`) and the tick
-//! (`specs/Tick.antt`), with what orders and ticks leave as it was (`specs/Keeps.antt`). No call of this crate
-//! takes memory.
+//! [`World`] is a record of numbers and lists, with a cash and a departure flag for each client of
+//! the match. The code that ticks a world stands above; here are the definitions that it is proved
+//! against: the opening world and the clients that a world has (`specs/World.antt`), the effect of
+//! an order (`specs/Order.antt`) and the tick (`specs/Tick.antt`), with what orders and ticks leave
+//! as it was (`specs/Keeps.antt`). No call of this crate takes memory.
 #![tactic(auto)]
 
 mod law;
@@ -12,7 +12,7 @@ mod limits;
 mod world;
 
 pub use law::{orders_keep, ticks_keep};
-pub use limits::{BARE_CASH, MAX_CASH};
+pub use limits::{BARE_CASH, MAX_CASH, MAX_PACE, OPENING_PACE};
 pub use world::{Gone, Purse, World};
 
 #[cfg(test)]
@@ -26,6 +26,7 @@ mod tests {
             seed: 5,
             drawn: 7,
             next_id: 11,
+            pace: 2,
             cash: Purse::create(2, BARE_CASH),
             gone: Gone::create(2, false),
         };
@@ -33,8 +34,8 @@ mod tests {
         world.gone.set(0, true);
         let copy = world.copy();
         assert_eq!(rt;
-            (copy.tick, copy.seed, copy.drawn, copy.next_id),
-            (3, 5, 7, 11)
+            (copy.tick, copy.seed, copy.drawn, copy.next_id, copy.pace),
+            (3, 5, 7, 11, 2)
         );
         assert_eq!(rt; copy.cash.as_slice(), [1000, 400].as_slice());
         assert_eq!(rt; copy.gone.as_slice(), [true, false].as_slice());

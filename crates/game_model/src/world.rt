@@ -11,7 +11,7 @@ pub type Gone = PerClient<bool>;
 /// All that a match has brought about so far.
 #[derive(Debug, Drop)]
 pub struct World {
-    /// The number of ticks so far, at most 4,294,967,295.
+    /// The number of turns so far, at most 4,294,967,295.
     pub tick: u32,
     /// The seed of the match's random words.
     pub seed: u32,
@@ -19,7 +19,9 @@ pub struct World {
     pub drawn: u64,
     /// The id that the next new actor gets. Ids begin at 1.
     pub next_id: u32,
-    /// The cash of each client, by rising number. By gifts it is at most [`crate::MAX_CASH`], 2,000,000,000.
+    /// How many turns a frame runs, 1 to [`crate::MAX_PACE`].
+    pub pace: u8,
+    /// The cash of each client, by rising number. No order lifts it above [`crate::MAX_CASH`].
     pub cash: Purse,
     /// Whether each client has departed, by rising number.
     pub gone: Gone,
@@ -35,6 +37,7 @@ impl World {
             seed: self.seed,
             drawn: self.drawn,
             next_id: self.next_id,
+            pace: self.pace,
             cash: self.cash.copy(),
             gone: self.gone.copy(),
         }

@@ -1,12 +1,14 @@
 -- How the bytes of a world's header are fed to the hash part by part.
-use Rattle.std.proofs.Common.{◌≡◌, ℕ, zero, suc, ◌≤◌, Bool, List, [], ◌∷◌, ◌++◌, length, drop, refl, ap₂, arith}
+use Rattle.std.proofs.Common.{◌≡◌, ℕ, zero, suc, ◌≤◌, Bool, List, [], ◌∷◌, ◌++◌, length, drop, refl}
+use Rattle.std.proofs.Common.{ap₂, arith}
 use Rattle.std.specs.Prelude.{Some, slice_get}
 use Rattle.std.specs.List.{zip, flat_map}
 use Rattle.wire_bytes.specs.Field.{field_bytes}
 use Rattle.sync_hash.specs.Fnv.{fnv_step, fnv_from}
 use Rattle.sync_hash.specs.WorldHash.{client_bytes, flag_byte}
 
--- The bytes of client c and then those of the clients after it are the bytes of the clients from c on.
+-- The bytes of client c and then those of the clients after it are the bytes of the clients from c
+-- on.
 pub client_more :
     (hash c : ℕ) (cash : List ℕ) (gone : List Bool) (amount : ℕ) (flag : Bool) → slice_get cash c ≡ Some amount →
     slice_get gone c ≡ Some flag →
@@ -21,7 +23,7 @@ client_more hash zero (x ∷ xs) (g ∷ gs) amount flag at is =
     ap₂ (λ a f. fnv_from (fnv_from (fnv_from hash (field_bytes 4 a)) (flag_byte f ∷ [])) (flat_map client_bytes (zip xs gs))) same_amount same_flag
 client_more hash (suc c) (x ∷ xs) (g ∷ gs) amount flag at is = client_more hash c xs gs amount flag at is
 
--- Behind the last client no bytes are left.
+-- After the last client no bytes are left.
 pub clients_end :
     (hash c : ℕ) (cash : List ℕ) (gone : List Bool) → length cash ≤ c →
     fnv_from hash (flat_map client_bytes (drop c (zip cash gone))) ≡ hash

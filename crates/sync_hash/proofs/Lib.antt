@@ -1,2 +1,2 @@
 pub mod HeaderLemmas
-pub mod WholeLemmas
+pub mod FitsFieldsLemmas

@@ -1,3 +1,3 @@
 pub mod Fnv
 pub mod WorldHash
-pub mod Whole
+pub mod FitsFields

@@ -18,10 +18,12 @@ client_bytes (cash, gone) = field_bytes 4 cash ++ flag_byte gone ∷ []
 abbrev pub clients_bytes : World → List ℕ
 clients_bytes w = flat_map client_bytes (zip w.cash w.gone)
 
--- The bytes of a world's header: tick, seed, random words drawn, next id, the clients and the number of actors.
+-- The bytes of a world's header: tick, seed, random words drawn, next id, pace, the clients and the
+-- number of actors.
 abbrev pub header_bytes : World → List ℕ
 header_bytes w =
-    field_bytes 4 w.tick ++ field_bytes 4 w.seed ++ field_bytes 8 w.drawn ++ field_bytes 4 w.next_id ++ (length w.cash ∷ [])
+    field_bytes 4 w.tick ++ field_bytes 4 w.seed ++ field_bytes 8 w.drawn ++ field_bytes 4 w.next_id
+    ++ (w.pace ∷ length w.cash ∷ [])
     ++ clients_bytes w
     ++ field_bytes 4 (actors_of w)
 

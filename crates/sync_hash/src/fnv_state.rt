@@ -47,8 +47,9 @@ impl FnvState {
     }
 }
 
-/// FNV-1a of 64 bits, as published by Fowler, Noll and Vo: the number begins at 14695981039346656037, and each byte
-/// is joined by exclusive or before the number is multiplied by 1099511628211, modulo 2^64.
+/// FNV-1a of 64 bits, as published by Fowler, Noll and Vo: the number begins at
+/// 14695981039346656037, and each byte is joined by exclusive or before the number is multiplied by
+/// 1099511628211, modulo 2^64.
 pub fn fnv(bytes: &[u8]) -> u64
     ensures { result ≡ fnv_of bytes.now }
 {

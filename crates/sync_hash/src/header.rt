@@ -6,8 +6,8 @@ ghost use Rattle.sync_hash.specs.WorldHash.{clients_bytes, flag_byte, hash_of};
 use crate::fnv_state::FnvState;
 use game_model::World;
 
-/// The hash of a world with 1 to `MAX_CLIENTS` clients and one cash and one departure flag for each of them: FNV-1a
-/// of its header bytes.
+/// The hash of a world with 1 to `MAX_CLIENTS` clients and one cash and one departure flag for each
+/// of them: FNV-1a of its header bytes.
 pub fn world_hash(w: &World) -> u64
     requires { HasClients w.now }
     ensures { result ≡ hash_of w.now }
@@ -18,6 +18,7 @@ pub fn world_hash(w: &World) -> u64
     header.write(&w.seed.to_le_bytes());
     header.write(&w.drawn.to_le_bytes());
     header.write(&w.next_id.to_le_bytes());
+    header.write(&[w.pace]);
     header.write(&[w.cash.clients()]);
     write_clients(&mut header, w);
     header.write(&actors.to_le_bytes());

@@ -1,13 +1,15 @@
 //! Hashes by which worlds are compared.
 //!
-//! [`fnv`] is FNV-1a of 64 bits over any bytes (`specs/Fnv.antt`). [`world_hash`] is that number of a world's header
-//! bytes, in which every part of the world stands in one fixed order with one fixed width (`specs/WorldHash.antt`):
+//! [`fnv`] is FNV-1a of 64 bits over any bytes (`specs/Fnv.antt`). [`world_hash`] is that number of
+//! a world's header bytes, in which every part of the world stands in one fixed order with one
+//! fixed width (`specs/WorldHash.antt`):
 //!
 //! | Part | Bytes, the lowest first |
 //! |---|---|
 //! | tick, seed | 4 each |
 //! | drawn | 8 |
 //! | next_id | 4 |
+//! | pace | 1 |
 //! | number of clients | 1 |
 //! | of each client: cash, gone (0 or 1) | 4, 1 |
 //! | number of actors, which is 0 | 4 |

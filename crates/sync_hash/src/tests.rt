@@ -24,6 +24,7 @@ fn world_of_one(tick: u32) -> World
         seed: 5489,
         drawn: 0,
         next_id: 1,
+        pace: 1,
         cash: Purse::create(1, 1_000),
         gone: Gone::create(1, false),
     }
@@ -41,6 +42,7 @@ fn world_of_two(tick: u32, first: u32, second: u32, second_gone: bool) -> World
         seed: 1,
         drawn: 0,
         next_id: 1,
+        pace: 1,
         cash,
         gone,
     }
@@ -49,33 +51,33 @@ fn world_of_two(tick: u32, first: u32, second: u32, second_gone: bool) -> World
 /// Hashes of worlds that two programs written apart agree on.
 #[test]
 fn hashes_of_worlds(rt: HostRuntime) {
-    for (tick, want) in [(0, 0xe284_473b_a232_41b0), (1, 0x2844_b966_ff57_8f05)] {
+    for (tick, want) in [(0, 0xf459_8944_3355_69d3), (1, 0x4c4d_c97d_3878_4958)] {
         assert_eq!(rt; world_hash(&world_of_one(tick)), want);
     }
     let cases: [(u32, u32, u32, bool, u64); 6] = [
-        (0, 1_000, 1_000, false, 0xfcf7_6e38_ea96_4cd7),
-        (1, 700, 1_300, false, 0x22cd_e662_5a60_8f61),
-        (1, 1_000, 1_000, true, 0x7163_dacd_7c91_f1bf),
+        (0, 1_000, 1_000, false, 0x2272_380b_2967_05a4),
+        (1, 700, 1_300, false, 0x7c85_a16e_0372_7170),
+        (1, 1_000, 1_000, true, 0x8f62_5a45_533a_eb0e),
         (
             0,
             1_500_000_000,
             1_500_000_000,
             false,
-            0x7f0f_96b7_20ee_893d,
+            0x5d38_8fc2_18d3_e2ce,
         ),
         (
             1,
             1_500_000_000,
             1_500_000_000,
             false,
-            0x9a60_39d1_bc0c_a626,
+            0xb032_9536_5ed0_04af,
         ),
         (
             2,
             1_000_000_000,
             2_000_000_000,
             false,
-            0x2abe_9483_b540_5e62,
+            0xf8b4_c2ed_ccba_c955,
         ),
     ];
     for (tick, first, second, second_gone, want) in cases {

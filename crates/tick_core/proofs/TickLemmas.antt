@@ -1,5 +1,6 @@
 -- How a tick goes on from one client of a frame to the next, and from one order to the next.
-use Rattle.std.proofs.Common.{◌≡◌, ℕ, zero, suc, ◌+◌, Bool, true, List, [], ◌∷◌, length, drop, take, refl, ap, sym, ◌∙◌, add-one, arith}
+use Rattle.std.proofs.Common.{◌≡◌, ℕ, zero, suc, ◌+◌, Bool, true, List, [], ◌∷◌, length, drop, take}
+use Rattle.std.proofs.Common.{refl, ap, sym, ◌<◌, ◌-◌, ◌∙◌, add-one, arith}
 use Rattle.std.proofs.Math.ListN.{set}
 use Rattle.std.proofs.lemmas.List.{length-set}
 use Rattle.std.specs.Prelude.{Some, slice_get}
@@ -7,8 +8,9 @@ use Rattle.game_orders.specs.declared.order.Order.{Order}
 use Rattle.game_orders.specs.declared.entry.Entry.{Entry}
 use Rattle.game_orders.specs.declared.entry.Entry.TheVariants.{Play, Leave}
 use Rattle.game_model.specs.declared.world.World.{World}
-use Rattle.game_model.specs.Order.{ordered, all_ordered}
-use Rattle.game_model.specs.Tick.{gone_by, gone_after, entered, entered_from}
+use Rattle.game_model.specs.Order.{after_order, after_orders}
+use Rattle.game_model.specs.Tick.{gone_by, gone_after, after_entry, after_entries, after_turn}
+use Rattle.game_model.specs.Tick.{after_turns}
 use Rattle.tick_core.specs.Departures.{departed_by}
 
 -- The element at n begins what is left from n on.
@@ -20,14 +22,14 @@ drop_at (y ∷ xs) (suc n) x at = drop_at xs n x at
 -- The next order is applied, and the rest after it.
 pub order_next :
     (w : World) (client i : ℕ) (orders : List Order) (order : Order) → slice_get orders i ≡ Some order →
-    all_ordered (ordered w client order) client (drop (i + 1) orders) ≡ all_ordered w client (drop i orders)
+    after_orders (after_order w client order) client (drop (i + 1) orders) ≡ after_orders w client (drop i orders)
 order_next w client i orders order at = rw (add-one, drop_at orders i order at) refl
 
 -- The entry of the next client is applied, and those of the clients after it.
 pub entry_next :
     (w : World) (c : ℕ) (frame : List Entry) (entry : Entry) → slice_get frame c ≡ Some entry →
-    entered_from (c + 1) (entered w c entry) (drop (c + 1) frame) ≡ entered_from c w (drop c frame)
-entry_next w c frame entry at = rw (drop_at frame c entry at) (ap (λ n. entered_from (c + 1) (entered w c entry) (drop n frame)) (add-one c))
+    after_entries (c + 1) (after_entry w c entry) (drop (c + 1) frame) ≡ after_entries c w (drop c frame)
+entry_next w c frame entry at = rw (drop_at frame c entry at) (ap (λ n. after_entries (c + 1) (after_entry w c entry) (drop n frame)) (add-one c))
 
 -- A frame without entries changes no flag.
 pub gone_after-nil : (flags : List Bool) → gone_after flags [] ≡ flags
@@ -71,3 +73,9 @@ departed_next flags frame c Leave same at = rw add-one (leave_next flags frame c
 pub length-departed_by : (flags : List Bool) (c : ℕ) (entry : Entry) → length (departed_by flags c entry) ≡ length flags
 length-departed_by flags c (Play orders) = refl
 length-departed_by flags c Leave = length-set flags c true
+
+-- One turn more.
+pub turn_next : (turns k : ℕ) (w : World) → k < turns → after_turns (turns - (k + 1)) (after_turn w) ≡ after_turns (turns - k) w
+turn_next turns k w below = by_count (turns - k) (turns - (k + 1)) (omega arith) where
+  by_count : (more less : ℕ) → more ≡ suc less → after_turns less (after_turn w) ≡ after_turns more w
+  by_count more less same = rw same refl

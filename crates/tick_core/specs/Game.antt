@@ -1,9 +1,10 @@
 -- A game as contracts see it, and what a step, the hash and the summary make of it.
-use Rattle.std.specs.Prelude.{ℕ, ◌+◌, List}
+use Rattle.std.specs.Prelude.{ℕ, ◌+◌, ◌*◌, ◌≤◌, List}
 use Rattle.game_orders.specs.declared.entry.Entry.{Entry}
 use Rattle.frame_core.specs.declared.summary.Summary.{Summary}
 use Rattle.game_model.specs.declared.world.World.{World}
-use Rattle.game_model.specs.World.{start_of, clients_of, actors_of}
+use Rattle.game_model.specs.declared.limits.TheConstants.{MAX_PACE}
+use Rattle.game_model.specs.World.{HasClients, start_of, clients_of, actors_of}
 use Rattle.game_model.specs.Tick.{tick_of}
 use Rattle.sync_hash.specs.WorldHash.{hash_of}
 
@@ -35,3 +36,11 @@ game_hash game = hash_of game.world
 -- The number of actors and the cash of each client.
 abbrev pub game_summary : GameState → Summary
 game_summary game = record { actors = actors_of game.world; cash = game.world.cash }
+
+-- What holds of every game: it has its clients, its pace is within the limits, and a frame runs at
+-- most `MAX_PACE` turns.
+pub record IsGame (game : GameState) : Type 0 where
+  pub clients : HasClients game.world
+  pub least_pace : 1 ≤ game.world.pace
+  pub most_pace : game.world.pace ≤ MAX_PACE
+  pub turns : game.world.tick ≤ MAX_PACE * game.steps

@@ -7,13 +7,14 @@ ghost use Rattle.tick_core.specs.Game.{game_start, game_after, game_clients, gam
 use crate::tick::tick_world;
 use base::NoMemory;
 use frame_core::{Sim, Summary};
-use game_model::{BARE_CASH, Gone, Purse, World};
+use game_model::{BARE_CASH, Gone, OPENING_PACE, Purse, World};
 use game_orders::{Frame, MAX_CLIENTS};
 use std::alloc::Global;
 use std::marker::Model;
 use sync_hash::world_hash;
 
-/// A world of a match with 1 to `MAX_CLIENTS` clients, and the number of frames that it has been stepped by.
+/// A world of a match with 1 to `MAX_CLIENTS` clients, and the number of frames that it has been
+/// stepped by.
 #[derive(Debug, Drop)]
 pub struct Game {
     world: World,
@@ -21,20 +22,19 @@ pub struct Game {
 }
 
 impl Model for Game {
-    ghost use Rattle.std.specs.Prelude.{◌≡◌};
-    ghost use Rattle.game_model.specs.World.{HasClients};
-    ghost use Rattle.tick_core.specs.Game.{GameState};
+    ghost use Rattle.tick_core.specs.Game.{GameState, IsGame};
 
     ghost Value = { GameState };
 
     ghost view = { λ game. record { world = game.world; steps = game.steps } };
 
-    ghost invariant = { λ game. HasClients game.world × (game.world.tick ≡ game.steps) };
+    ghost invariant = { λ game. IsGame (record { world = game.world; steps = game.steps }) };
 }
 
 impl Game {
-    /// The opening game of a match of any seed and 1 to `MAX_CLIENTS` clients: tick 0, nothing drawn, nobody departed,
-    /// and each client begins with [`BARE_CASH`]. Want of memory is its only error.
+    /// The opening game of a match of any seed and 1 to `MAX_CLIENTS` clients: tick 0, nothing
+    /// drawn, nobody departed, one turn a frame, and each client begins with [`BARE_CASH`]. Out of
+    /// memory is its only error.
     pub fn create(_alloc: Global, seed: u32, clients: u8) -> Result<Game, NoMemory>
         requires least { 1 ≤ clients }
         requires most { clients ≤ MAX_CLIENTS }
@@ -46,6 +46,7 @@ impl Game {
                 seed,
                 drawn: 0,
                 next_id: 1,
+                pace: OPENING_PACE,
                 cash: Purse::create(clients, BARE_CASH),
                 gone: Gone::create(clients, false),
             },
@@ -53,7 +54,7 @@ impl Game {
         })
     }
 
-    /// The world as it is now. Want of memory is its only error.
+    /// The world as it is now. Out of memory is its only error.
     pub fn snapshot(&self, _alloc: Global) -> Result<World, NoMemory>
         ensures world { IfOk result (λ world. world ≡ self.now.world) }
         ensures clients { IfOk result (λ world. HasClients world) }
@@ -63,7 +64,8 @@ impl Game {
 }
 
 impl Sim for Game {
-    ghost use Rattle.tick_core.specs.Game.{game_after, game_clients, game_hash, game_steps, game_summary};
+    ghost use Rattle.tick_core.specs.Game.{game_after, game_clients, game_hash, game_steps};
+    ghost use Rattle.tick_core.specs.Game.{game_summary};
 
     ghost clients_of = { game_clients };
 
@@ -79,8 +81,8 @@ impl Sim for Game {
         self.world.cash.clients()
     }
 
-    /// Ticks the world by a frame with one entry for each client, after fewer than `MAX_STEPS` steps so far. It counts
-    /// one more tick, and who departs in the frame has departed. Today's orders only move cash: its sum stays.
+    /// Ticks the world by a frame with one entry for each client, after fewer than `MAX_STEPS`
+    /// steps so far.
     fn step(&mut self, f: &Frame)
         requires whole { length f.now ≡ game_clients self.old }
         requires more { game_steps self.old < MAX_STEPS }

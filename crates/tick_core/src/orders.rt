@@ -1,17 +1,17 @@
 ghost use Rattle.std.specs.Prelude.{◌≡◌, ◌<◌, ◌≤◌, ◌+◌, slice_index};
 ghost use Rattle.std.specs.Bool.{OnTrue};
 ghost use Rattle.game_model.specs.World.{HasClients, clients_of};
-ghost use Rattle.game_model.specs.Order.{can_receive, donation_fits, ordered, all_ordered};
-ghost use Rattle.game_orders.specs.declared.order.Order.TheVariants.{Donate};
+ghost use Rattle.game_model.specs.Order.{can_receive, donation_fits, after_order, after_orders};
+ghost use Rattle.game_orders.specs.declared.order.Order.TheVariants.{Donate, Pace};
 
-use game_model::{MAX_CASH, World};
+use game_model::{MAX_CASH, MAX_PACE, World};
 use game_orders::{Order, Orders};
 
 /// Applies the orders of a client, first to last.
 pub(crate) fn apply_orders(w: &mut World, client: u8, orders: &Orders)
     requires has { HasClients w.old }
     requires there { client < clients_of w.old }
-    ensures { w.new ≡ all_ordered w.old client orders.now }
+    ensures { w.new ≡ after_orders w.old client orders.now }
 {
     for i in 0..orders.len() {
         if let Some(order) = orders.get(i) {
@@ -20,14 +20,31 @@ pub(crate) fn apply_orders(w: &mut World, client: u8, orders: &Orders)
     }
 }
 
-/// Applies one order of a client, which has no effect where it does not fit.
+/// Applies one order of a client, which has no effect where it does not fit. Orders on actors have
+/// none yet.
 fn apply_order(w: &mut World, client: u8, order: &Order)
     requires has { HasClients w.old }
     requires there { client < clients_of w.old }
-    ensures { w.new ≡ ordered w.old client order.now }
+    ensures { w.new ≡ after_order w.old client order.now }
 {
     match order {
         Order::Donate { to, amount } => donate(w, client, *to, *amount),
+        Order::Pace { ticks } => set_pace(w, client, *ticks),
+        Order::Move { .. }
+        | Order::Attack { .. }
+        | Order::Harvest { .. }
+        | Order::Stop { .. }
+        | Order::Produce { .. }
+        | Order::Cancel { .. } => {}
+    }
+}
+
+/// Sets the pace of the frames that follow, where the host sets it within its limits.
+fn set_pace(w: &mut World, client: u8, ticks: u8)
+    ensures { w.new ≡ after_order w.old client (Pace ticks) }
+{
+    if client == 0 && (1..=MAX_PACE).contains(&ticks) {
+        w.pace = ticks;
     }
 }
 
@@ -35,7 +52,7 @@ fn apply_order(w: &mut World, client: u8, order: &Order)
 fn donate(w: &mut World, client: u8, to: u8, amount: u32)
     requires has { HasClients w.old }
     requires there { client < clients_of w.old }
-    ensures { w.new ≡ ordered w.old client (Donate to amount) }
+    ensures { w.new ≡ after_order w.old client (Donate to amount) }
 {
     if donation_fits(w, client, to, amount) {
         let left = w.cash.get(client) - amount;
@@ -45,8 +62,8 @@ fn donate(w: &mut World, client: u8, to: u8, amount: u32)
     }
 }
 
-/// Whether a donation fits: the receiver can receive, the giver has the amount, and the receiver's cash with it is at
-/// most [`MAX_CASH`].
+/// Whether a donation fits: the receiver can receive, the giver has the amount, and the receiver's
+/// cash with it is at most [`MAX_CASH`].
 fn donation_fits(w: &World, client: u8, to: u8, amount: u32) -> bool
     requires has { HasClients w.now }
     requires there { client < clients_of w.now }
@@ -65,7 +82,8 @@ fn donation_fits(w: &World, client: u8, to: u8, amount: u32) -> bool
     lifted <= u64::from(MAX_CASH)
 }
 
-/// Whether `to` can receive a donation of `client`: it is another client of the match and has not departed.
+/// Whether `to` can receive a donation of `client`: it is another client of the match and has not
+/// departed.
 fn can_receive(w: &World, client: u8, to: u8) -> bool
     requires { HasClients w.now }
     ensures value { result ≡ can_receive w.now client to }

@@ -6,7 +6,7 @@ use crate::game::Game;
 use crate::maker::GameMaker;
 use base::NoMemory;
 use frame_core::{Maker, Sim};
-use game_model::{Gone, Purse, World};
+use game_model::{Gone, OPENING_PACE, Purse, World};
 use game_orders::{Entry, Frame, MAX_CLIENTS, Order, Orders};
 use std::alloc::Global;
 use std::process::Abort;
@@ -44,6 +44,7 @@ fn game_of_two(cash: u32) -> Game
             seed: 1,
             drawn: 0,
             next_id: 1,
+            pace: OPENING_PACE,
             cash: Purse::create(2, cash),
             gone: Gone::create(2, false),
         },
@@ -71,11 +72,11 @@ fn made<M: Maker>(maker: &M, alloc: Global, seed: u32, clients: u8) -> Result<M:
 #[test]
 fn a_frame_without_orders(rt: HostRuntime) -> Result<(), Fail> {
     let mut game = made(&GameMaker, rt.alloc(), 5489, 1)?;
-    assert_told(&rt, &game, &[1000], 0xe284_473b_a232_41b0);
+    assert_told(&rt, &game, &[1000], 0xf459_8944_3355_69d3);
     let mut frame = Frame::empty();
     frame.push(play(&[]));
     game.step(&frame);
-    assert_told(&rt, &game, &[1000], 0x2844_b966_ff57_8f05);
+    assert_told(&rt, &game, &[1000], 0x4c4d_c97d_3878_4958);
     assert_eq!(rt; game.clients(), 1);
     Ok(())
 }
@@ -84,10 +85,10 @@ fn a_frame_without_orders(rt: HostRuntime) -> Result<(), Fail> {
 #[test]
 fn donations_of_one_frame(rt: HostRuntime) -> Result<(), Fail> {
     let mut game = game_of_two(1000);
-    assert_told(&rt, &game, &[1000, 1000], 0xfcf7_6e38_ea96_4cd7);
+    assert_told(&rt, &game, &[1000, 1000], 0x2272_380b_2967_05a4);
     let first = play(&[donate(1, 1001), donate(0, 5), donate(1, 400)]);
     game.step(&frame_of_two(first, play(&[donate(0, 100)])));
-    assert_told(&rt, &game, &[700, 1300], 0x22cd_e662_5a60_8f61);
+    assert_told(&rt, &game, &[700, 1300], 0x7c85_a16e_0372_7170);
     Ok(())
 }
 
@@ -96,11 +97,17 @@ fn donations_of_one_frame(rt: HostRuntime) -> Result<(), Fail> {
 fn a_departure_comes_before_the_orders(rt: HostRuntime) -> Result<(), Fail> {
     let mut game = game_of_two(1000);
     game.step(&frame_of_two(play(&[donate(1, 400)]), Entry::Leave));
-    assert_told(&rt, &game, &[1000, 1000], 0x7163_dacd_7c91_f1bf);
+    assert_told(&rt, &game, &[1000, 1000], 0x8f62_5a45_533a_eb0e);
     let world = game.snapshot(rt.alloc())?;
     assert_eq!(rt;
-        (world.tick, world.seed, world.drawn, world.next_id),
-        (1, 1, 0, 1)
+        (
+            world.tick,
+            world.seed,
+            world.drawn,
+            world.next_id,
+            world.pace
+        ),
+        (1, 1, 0, 1, 1)
     );
     assert_eq!(rt; world.cash.as_slice(), [1000, 1000].as_slice());
     assert_eq!(rt; world.gone.as_slice(), [false, true].as_slice());
@@ -115,21 +122,42 @@ fn a_donation_stops_at_the_greatest_cash(rt: HostRuntime) -> Result<(), Fail> {
         &rt,
         &game,
         &[1_500_000_000, 1_500_000_000],
-        0x7f0f_96b7_20ee_893d,
+        0x5d38_8fc2_18d3_e2ce,
     );
     game.step(&frame_of_two(play(&[donate(1, 500_000_001)]), play(&[])));
     assert_told(
         &rt,
         &game,
         &[1_500_000_000, 1_500_000_000],
-        0x9a60_39d1_bc0c_a626,
+        0xb032_9536_5ed0_04af,
     );
     game.step(&frame_of_two(play(&[donate(1, 500_000_000)]), play(&[])));
     assert_told(
         &rt,
         &game,
         &[1_000_000_000, 2_000_000_000],
-        0x2abe_9483_b540_5e62,
+        0xf8b4_c2ed_ccba_c955,
     );
+    Ok(())
+}
+
+/// The host sets the pace of the frames that follow; another client, and a pace beyond the limits,
+/// set nothing.
+#[test]
+fn the_host_sets_the_pace(rt: HostRuntime) -> Result<(), Fail> {
+    let pace = |ticks| play(&[Order::Pace { ticks }]);
+    let frames = [
+        (pace(9), pace(3), 1, 1),
+        (pace(8), pace(3), 2, 8),
+        (pace(0), play(&[]), 10, 8),
+        (pace(1), play(&[]), 18, 1),
+        (play(&[]), play(&[]), 19, 1),
+    ];
+    let mut game = game_of_two(1000);
+    for (host, other, tick, pace) in frames {
+        game.step(&frame_of_two(host, other));
+        let world = game.snapshot(rt.alloc())?;
+        assert_eq!(rt; (world.tick, world.pace), (tick, pace));
+    }
     Ok(())
 }

@@ -8,5 +8,5 @@ use Rattle.sync_hash.proofs.header.world_hash.Goals as goal
 pub returns : goal.returns
 unfolding hash_of field_bytes
 returns c =
-    rw (c.finish.ensures, c.write-6.ensures, c.to_le_bytes-5.ensures, c.write_clients.ensures, c.write-5.ensures, c.clients.ensures.value, c.write-4.ensures, c.to_le_bytes-4.ensures, c.write-3.ensures, c.to_le_bytes-3.ensures, c.write-2.ensures, c.to_le_bytes-2.ensures, c.write.ensures, c.to_le_bytes.ensures, c.new-header.ensures)
+    rw (c.finish.ensures, c.write-7.ensures, c.to_le_bytes-5.ensures, c.write_clients.ensures, c.write-6.ensures, c.clients.ensures.value, c.write-5.ensures, c.write-4.ensures, c.to_le_bytes-4.ensures, c.write-3.ensures, c.to_le_bytes-3.ensures, c.write-2.ensures, c.to_le_bytes-2.ensures, c.write.ensures, c.to_le_bytes.ensures, c.new-header.ensures)
     (sym (fnv_from-append _ (clients_bytes c.args.w.now) (field_bytes 4 0)))

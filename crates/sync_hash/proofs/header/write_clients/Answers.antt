@@ -11,7 +11,7 @@ loop-c-preserved c =
     client_more c.loop-c.header c.loop-c.c c.args.w.now.cash c.args.w.now.gone c.get.result c.get-in-loop-c.result c.get.ensures c.get-in-loop-c.ensures in
     rw (add-one, c.write-in-loop-c.ensures, c.byte_of.ensures, c.write.ensures, c.to_le_bytes.ensures) (more ∙ c.loop-c.invariant)
 
--- Behind the last client nothing is left.
+-- After the last client nothing is left.
 pub returns : goal.returns
 returns c =
     let all : length c.args.w.now.cash ≤ c.loop-c.c = omega arith in

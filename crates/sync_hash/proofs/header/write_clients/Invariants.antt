@@ -1,4 +1,5 @@
--- What the bytes of the clients that are left make of the number so far is what those of all make of the first.
+-- What the bytes of the clients that are left make of the number so far is what those of all make
+-- of the first.
 use Rattle.std.proofs.Common.{◌≡◌, drop}
 use Rattle.std.specs.List.{zip, flat_map}
 use Rattle.sync_hash.specs.Fnv.{fnv_from}

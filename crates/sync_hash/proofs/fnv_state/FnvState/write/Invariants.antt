@@ -1,4 +1,5 @@
--- What the bytes that are left make of the number so far is what all of them make of the first number.
+-- What the bytes that are left make of the number so far is what all of them make of the first
+-- number.
 use Rattle.std.proofs.Common.{◌≡◌, drop}
 use Rattle.sync_hash.specs.Fnv.{fnv_from}
 use Rattle.sync_hash.proofs.fnv_state.FnvState.write.Given as goal

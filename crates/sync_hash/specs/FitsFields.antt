@@ -3,7 +3,7 @@ use Rattle.std.specs.Prelude.{◌≡◌, ◌<◌, ◌^◌, length}
 use Rattle.std.specs.List.{AllByRecursion}
 use Rattle.game_model.specs.declared.world.World.{World}
 
--- Each number fits its field, and each client has a departure flag. Every world that code can hold is such a world.
+-- Each number fits its field, and each client has a departure flag.
 pub record FitsFields (w : World) : Type 0 where
   pub tick : w.tick < 2 ^ 32
   pub seed : w.seed < 2 ^ 32
