@@ -1,16 +1,53 @@
--- How what reached a peer is stored, client by client; what it means is said of the triples (Triples.antt).
-use Rattle.std.specs.Prelude.{ℕ, ◌+◌, ◌<◌, ◌==◌, nat_lt, nat_le, if◌then◌else◌, List, [], ◌∷◌, ◌++◌, map, Option, Some, None, slice_index_or}
-use Rattle.std.specs.List.{AllByRecursion, find, insert, prefix_len}
+-- How what reached a peer is stored, client by client. What it means is said of the whole list of
+-- what has arrived (Arrived.antt).
+use Rattle.std.specs.Prelude.{◌≢◌, ℕ, ◌+◌, ◌<◌, ◌≤◌, ◌==◌, nat_lt, nat_le, if◌then◌else◌}
+use Rattle.std.specs.Prelude.{List, [], ◌∷◌, ◌++◌, map, Option, Some, None, slice_index_or}
+use Rattle.std.specs.List.{AllByRecursion, find}
 use Rattle.std.specs.Option.{option_map, option_or}
 use Rattle.game_orders.specs.declared.order.Order.{Order}
 use Rattle.game_orders.specs.declared.entry.Entry.{Entry}
 use Rattle.game_orders.specs.declared.entry.Entry.TheVariants.{Play, Leave}
 use Rattle.game_orders.specs.Entry.{is_play}
-use Rattle.peer_core.specs.declared.kept_play.KeptPlay.{KeptPlay}
-use Rattle.peer_core.specs.declared.triple.Triple.{Triple}
+use Rattle.peer_core.specs.declared.arrived.Arrived.{Arrived}
 use Rattle.peer_core.specs.declared.delivered.Delivered.{Delivered}
-use Rattle.peer_core.specs.declared.delivered.Delivered.TheVariants.{Kept, Repeat, Conflict, Past, Beyond}
-use Rattle.peer_core.specs.Triples.{least_of, is_beyond, against}
+use Rattle.peer_core.specs.declared.delivered.Delivered.TheVariants.{Kept, Repeat, Conflict, Past}
+use Rattle.peer_core.specs.declared.delivered.Delivered.TheVariants.{Beyond}
+use Rattle.peer_core.specs.Arrived.{least_of}
+use Rattle.peer_core.specs.Delivery.{is_beyond, against}
+
+-- A play that is kept, with its frame.
+pub record KeptPlay : Type 0 where
+  pub frame : ℕ
+  pub orders : List Order
+
+-- The plays of a column, which stand without a gap, from frame k on.
+abbrev pub column_plays : ℕ → List (List Order) → List KeptPlay
+column_plays k [] = []
+column_plays k (orders ∷ column) =
+    record { frame = k; orders = orders } ∷ column_plays (k + 1) column
+
+-- A play that stands after a gap, with its frame as key.
+abbrev pub early_play : ℕ × List Order → KeptPlay
+early_play e = record { frame = e.0; orders = e.1 }
+
+-- The plays of a column and those after its gap.
+abbrev pub stored_plays : List (List Order) → List (ℕ × List Order) → List KeptPlay
+stored_plays column early = column_plays 0 column ++ map early_play early
+
+-- The keys rise, each above n.
+abbrev pub IsAbove : ℕ → List (ℕ × List Order) → Type 0
+IsAbove n [] = Unit
+IsAbove n (e ∷ early) = (n < e.0) × IsAbove e.0 early
+
+-- The keys rise, the first at n or above it.
+abbrev pub IsFrom : ℕ → List (ℕ × List Order) → Type 0
+IsFrom n [] = Unit
+IsFrom n (e ∷ early) = (n ≤ e.0) × IsAbove e.0 early
+
+-- The first key isn't n.
+abbrev pub IsElsewhere : ℕ → List (ℕ × List Order) → Type 0
+IsElsewhere n [] = Unit
+IsElsewhere n (e ∷ early) = e.0 ≢ n
 
 -- What reached the peer of one client.
 pub record Entries : Type 0 where
@@ -25,30 +62,23 @@ abbrev pub IsByFrame : List KeptPlay → Type 0
 IsByFrame [] = Unit
 IsByFrame (p ∷ ps) = AllByRecursion (λ q. p.frame < q.frame) ps × IsByFrame ps
 
--- The triple of a play of client c.
-abbrev pub play_triple : ℕ → KeptPlay → Triple
-play_triple c p = record { client = c; frame = p.frame; entry = Play p.orders }
+-- A play of client c, as it arrived.
+abbrev pub play_arrived : ℕ → KeptPlay → Arrived
+play_arrived c p = record { client = c; frame = p.frame; entry = Play p.orders }
 
--- The triple of its departure, if there is one.
-abbrev pub left_triple : ℕ → Option ℕ → List Triple
-left_triple c None = []
-left_triple c (Some at) = record { client = c; frame = at; entry = Leave } ∷ []
+-- The departure of client c, if there is one, as it arrived.
+abbrev pub left_arrived : ℕ → Option ℕ → List Arrived
+left_arrived c None = []
+left_arrived c (Some at) = record { client = c; frame = at; entry = Leave } ∷ []
 
--- The triples of client c.
-abbrev pub own_triples : ℕ → Entries → List Triple
-own_triples c own = map (play_triple c) own.plays ++ left_triple c own.left
+-- What has arrived of client c.
+abbrev pub own_arrived : ℕ → Entries → List Arrived
+own_arrived c own = map (play_arrived c) own.plays ++ left_arrived c own.left
 
--- The triples of the clients from client c on.
-abbrev pub all_triples : ℕ → List Entries → List Triple
-all_triples c [] = []
-all_triples c (own ∷ rest) = own_triples c own ++ all_triples (c + 1) rest
-
--- How many plays stand before frame n, and how many at it or before it.
-abbrev pub count_before : List KeptPlay → ℕ → ℕ
-count_before plays n = prefix_len (λ p. nat_lt p.frame n) plays
-
-abbrev pub count_up_to : List KeptPlay → ℕ → ℕ
-count_up_to plays n = prefix_len (λ p. nat_le p.frame n) plays
+-- What has arrived of the clients from client c on.
+abbrev pub all_arrived : ℕ → List Entries → List Arrived
+all_arrived c [] = []
+all_arrived c (own ∷ rest) = own_arrived c own ++ all_arrived (c + 1) rest
 
 -- The orders of the play at frame n.
 abbrev pub play_at : List KeptPlay → ℕ → Option (List Order)
@@ -82,16 +112,24 @@ own_has None None n = None
 -- The kept frame that an entry at frame n contradicts.
 abbrev pub own_past : Entries → ℕ → Entry → Option ℕ
 own_past own n entry =
-    option_or (if_before own.left n) (if is_play entry then None else least_of (play_after own.plays n) (if_after own.left n))
+    option_or (if_before own.left n)
+    (if is_play entry then None else least_of (play_after own.plays n) (if_after own.left n))
 
 -- The answer to a delivery of an entry at frame n.
 abbrev pub own_delivery : Entries → ℕ → Entry → Delivered
 own_delivery own n entry =
-    if is_beyond n entry then Beyond else against (entry_of (play_at own.plays n) own.left n) (own_past own n entry) entry
+    if is_beyond n entry then Beyond
+    else against (entry_of (play_at own.plays n) own.left n) (own_past own n entry) entry
+
+-- The plays with one more, at its place.
+abbrev pub with_play : KeptPlay → List KeptPlay → List KeptPlay
+with_play k [] = k ∷ []
+with_play k (p ∷ plays) = if nat_lt k.frame p.frame then k ∷ p ∷ plays else p ∷ with_play k plays
 
 -- With one more entry.
 abbrev pub with_entry : Entries → ℕ → Entry → Entries
-with_entry own n (Play orders) = record own { plays = insert own.plays (count_before own.plays n) (record { frame = n; orders = orders }) }
+with_entry own n (Play orders) =
+    record own { plays = with_play (record { frame = n; orders = orders }) own.plays }
 with_entry own n Leave = record own { left = Some n }
 
 -- Only `Kept` changes anything.

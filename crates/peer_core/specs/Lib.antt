@@ -1,7 +1,11 @@
-pub mod Triples
-pub mod Answers
+pub mod Arrived
+pub mod Delivery
+pub mod Receipt
+pub mod StoredOrders
 pub mod Entries
-pub mod Kept
+pub mod ArrivedLemmas
 pub mod Peer
+pub mod Tick
 pub mod Faithful
-pub mod Once
+pub mod FaithfulLemmas
+pub mod DeliveryLemmas

@@ -1,19 +1,29 @@
-ghost use Rattle.std.specs.Prelude.{◌≡◌, ◌≤◌, length, is_some, nat_le, nat_lt, slice_get, None, IfOk, OnOk, OnErr};
-ghost use Rattle.std.specs.Option.{option_copied};
-ghost use Rattle.peer_core.specs.Entries.{IsByFrame, no_entries, count_before, count_up_to, play_at, entry_of, own_has, own_past, own_delivery, if_before, if_after, play_after, with_entry, own_after};
-ghost use Rattle.peer_core.specs.Triples.{least_of};
+ghost use Rattle.std.specs.Prelude.{◌≡◌, ◌≤◌, ◌<◌, [], ◌∷◌, ◌++◌, length};
+ghost use Rattle.std.specs.Prelude.{is_some, None, IfOk, OnOk, OnErr};
+ghost use Rattle.peer_core.specs.Entries.{IsByFrame, no_entries, play_at, entry_of, own_has};
+ghost use Rattle.peer_core.specs.Entries.{own_past, own_delivery, own_after, with_entry};
+ghost use Rattle.peer_core.specs.Entries.{if_before, if_after};
+ghost use Rattle.frame_core.specs.Input.{input_of};
+ghost use Rattle.peer_core.specs.Arrived.{least_of};
+ghost use Rattle.peer_core.specs.Receipt.{receipt_of};
+ghost use Rattle.game_orders.specs.Entry.{same_entry};
+ghost use Rattle.game_orders.specs.declared.entry.Entry.TheVariants.{Play, Leave};
+ghost use Rattle.std.specs.Option.{option_map, unwrap_or};
 
 use crate::delivered::Delivered;
-use crate::kept_play::KeptPlay;
+use crate::plays::Plays;
+use crate::receipt::Receipt;
+use crate::stored_orders::StoredOrders;
 use base::NoMemory;
-use game_orders::{Entry, MAX_FRAMES, Orders};
+use frame_core::Input;
+use game_orders::{Entry, Frame, MAX_CLIENTS, MAX_FRAMES};
 use std::alloc::Global;
 use std::marker::Model;
 
-/// What reached a peer of one client: its plays by rising frame, and perhaps its departure.
+/// What reached a peer of one client: its plays, and perhaps its departure.
 #[derive(Drop)]
 pub(crate) struct ClientEntries {
-    plays: Vec<KeptPlay>,
+    plays: Plays,
     left: Option<u32>,
 }
 
@@ -22,9 +32,9 @@ impl Model for ClientEntries {
 
     ghost Value = { Entries };
 
-    ghost view = { λ own. record { plays = own.plays.items; left = own.left } };
+    ghost view = { λ own. record { plays = own.plays; left = own.left } };
 
-    ghost invariant = { λ own. IsByFrame own.plays.items };
+    ghost invariant = { λ own. IsByFrame own.plays };
 }
 
 impl ClientEntries {
@@ -33,61 +43,9 @@ impl ClientEntries {
         ensures { result ≡ no_entries }
     {
         ClientEntries {
-            plays: Vec::new(alloc),
+            plays: Plays::new(alloc),
             left: None,
         }
-    }
-
-    /// The number of plays before frame `n`: the index of the first that isn't.
-    fn count_before(&self, n: u32) -> usize
-        ensures value { result ≡ count_before self.now.plays n }
-        ensures limit { result ≤ length self.now.plays }
-        ensures by_frame { IsByFrame self.now.plays }
-    {
-        self.plays.as_slice().partition_point(
-            |play: &KeptPlay| -> bool
-                ensures { result ≡ nat_lt play.now.frame n }
-            { play.frame < n },
-        )
-    }
-
-    /// The number of plays up to frame `n`: the index of the first that stands after it.
-    fn count_up_to(&self, n: u32) -> usize
-        ensures value { result ≡ count_up_to self.now.plays n }
-        ensures limit { result ≤ length self.now.plays }
-    {
-        self.plays.as_slice().partition_point(
-            |play: &KeptPlay| -> bool
-                ensures { result ≡ nat_le play.now.frame n }
-            { play.frame <= n },
-        )
-    }
-
-    /// The play at an index.
-    fn read(&self, place: usize) -> Option<&KeptPlay>
-        ensures { option_copied result ≡ slice_get self.now.plays place }
-    {
-        self.plays.as_slice().get(place)
-    }
-
-    /// The orders of the play at frame `n`.
-    fn play(&self, n: u32) -> Option<&Orders>
-        ensures { option_copied result ≡ play_at self.now.plays n }
-    {
-        let play = self.read(self.count_before(n))?;
-        if play.frame == n {
-            Some(&play.orders)
-        } else {
-            None
-        }
-    }
-
-    /// The frame of the first play after frame `n`.
-    fn play_after(&self, n: u32) -> Option<u32>
-        ensures { result ≡ play_after self.now.plays n }
-    {
-        let play = self.read(self.count_up_to(n))?;
-        Some(play.frame)
     }
 
     /// Whether the departure is kept.
@@ -97,17 +55,29 @@ impl ClientEntries {
         self.left.is_some()
     }
 
-    /// What the client has for frame `n`.
-    pub(crate) fn has(&self, n: u32) -> Option<Entry>
-        ensures { result ≡ own_has (play_at self.now.plays n) self.now.left n }
+    /// What the client has for frame `n`, without its orders.
+    pub(crate) fn input(&self, n: u32) -> Input
+        ensures { result ≡ input_of (own_has (play_at self.now.plays n) self.now.left n) }
     {
-        if let Some(orders) = self.play(n) {
-            return Some(Entry::Play(orders.copy()));
+        if self.plays.get(n).is_some() {
+            return Input::Played;
         }
-        if self.left? <= n {
-            Some(Entry::Leave)
-        } else {
-            None
+        match self.left {
+            Some(at) if at <= n => Input::Departed,
+            _ => Input::Missing,
+        }
+    }
+
+    /// Adds to a frame what the client has for frame `n`, or a departure where it has nothing.
+    #[tactic(auto, using(crate::proofs::EachLemmas::play_or_leave))]
+    pub(crate) fn push_to(&self, n: u32, frame: &mut Frame)
+        requires { length frame.old < MAX_CLIENTS }
+        ensures { frame.new ≡ frame.old
+            ++ unwrap_or (own_has (play_at self.now.plays n) self.now.left n) Leave ∷ [] }
+    {
+        match self.plays.get(n) {
+            Some(orders) => frame.push(Entry::Play(orders.to_orders())),
+            None => frame.push(Entry::Leave),
         }
     }
 
@@ -115,8 +85,8 @@ impl ClientEntries {
     fn entry(&self, n: u32) -> Option<Entry>
         ensures { result ≡ entry_of (play_at self.now.plays n) self.now.left n }
     {
-        if let Some(orders) = self.play(n) {
-            return Some(Entry::Play(orders.copy()));
+        if let Some(orders) = self.plays.get(n) {
+            return Some(Entry::Play(orders.to_orders()));
         }
         if self.left? == n {
             Some(Entry::Leave)
@@ -127,6 +97,7 @@ impl ClientEntries {
 
     /// The kept frame that an entry at frame `n` contradicts.
     fn past(&self, n: u32, e: &Entry) -> Option<u32>
+        requires { n ≤ MAX_FRAMES }
         ensures { result ≡ own_past self.now n e.now }
     {
         if let Some(at) = if_before(self.left, n) {
@@ -135,7 +106,7 @@ impl ClientEntries {
         if e.is_play() {
             return None;
         }
-        lesser(self.play_after(n), if_after(self.left, n))
+        lesser(self.plays.first_after(n), if_after(self.left, n))
     }
 
     /// The answer to an entry at frame `n`.
@@ -157,17 +128,47 @@ impl ClientEntries {
         }
     }
 
+    /// Whether an entry is the one that is kept at frame `n`. None exactly where none is.
+    fn repeats(&self, n: u32, e: &Entry) -> Option<bool>
+        ensures { result ≡ option_map (same_entry e.now)
+            (entry_of (play_at self.now.plays n) self.now.left n) }
+    {
+        if let Some(kept) = self.plays.get(n) {
+            return Some(repeats_play(kept, e));
+        }
+        if self.left? == n {
+            Some(!e.is_play())
+        } else {
+            None
+        }
+    }
+
+    /// The receipt of an entry at frame `n`.
+    fn receipt(&self, n: u32, e: &Entry) -> Receipt
+        ensures { result ≡ receipt_of (own_delivery self.now n e.now) }
+    {
+        if MAX_FRAMES < n || (n == MAX_FRAMES && e.is_play()) {
+            return Receipt::Beyond;
+        }
+        match self.repeats(n, e) {
+            Some(true) => return Receipt::Repeat,
+            Some(false) => return Receipt::Conflict,
+            None => {}
+        }
+        match self.past(n, e) {
+            Some(at) => Receipt::Past(at),
+            None => Receipt::Kept,
+        }
+    }
+
     /// Keeps one more entry, at its place.
-    fn keep(&mut self, n: u32, e: Entry) -> Result<(), NoMemory>
+    fn keep(&mut self, n: u32, e: &Entry) -> Result<(), NoMemory>
         requires { play_at self.old.plays n ≡ None }
-        ensures kept { OnOk result (self.new ≡ with_entry self.old n e) }
+        ensures kept { OnOk result (self.new ≡ with_entry self.old n e.now) }
         ensures err { OnErr result (self.new ≡ self.old) }
     {
         match e {
-            Entry::Play(orders) => {
-                let place = self.count_before(n);
-                self.plays.insert(place, KeptPlay { frame: n, orders })?;
-            }
+            Entry::Play(orders) => self.plays.keep(n, orders)?,
             Entry::Leave => self.left = Some(n),
         }
         Ok(())
@@ -177,16 +178,45 @@ impl ClientEntries {
     pub(crate) fn deliver(&mut self, n: u32, e: Entry) -> Result<Delivered, NoMemory>
         ensures by_frame { IsByFrame self.old.plays }
         ensures answer { IfOk result (λ answer. answer ≡ own_delivery self.old n e) }
-        ensures after { OnOk result (self.new ≡ own_after (own_delivery self.old n e) self.old n e) }
+        ensures after { OnOk result (self.new
+            ≡ own_after (own_delivery self.old n e) self.old n e) }
         ensures err { OnErr result (self.new ≡ self.old) }
     {
         // a field is named so that the proof has the type's invariant, which `by_frame` passes on
         let _plays = &self.plays;
         let answer = self.delivery(n, &e);
         if let Delivered::Kept = answer {
-            self.keep(n, e)?;
+            self.keep(n, &e)?;
         }
         Ok(answer)
+    }
+
+    /// Delivers a lent entry at frame `n`.
+    pub(crate) fn receive(&mut self, n: u32, e: &Entry) -> Result<Receipt, NoMemory>
+        ensures by_frame { IsByFrame self.old.plays }
+        ensures answer { IfOk result (λ receipt. receipt
+            ≡ receipt_of (own_delivery self.old n e.now)) }
+        ensures after { OnOk result (self.new
+            ≡ own_after (own_delivery self.old n e.now) self.old n e.now) }
+        ensures err { OnErr result (self.new ≡ self.old) }
+    {
+        // a field is named so that the proof has the type's invariant, which `by_frame` passes on
+        let _plays = &self.plays;
+        let receipt = self.receipt(n, e);
+        if let Receipt::Kept = receipt {
+            self.keep(n, e)?;
+        }
+        Ok(receipt)
+    }
+}
+
+/// Whether an entry is the play of these orders.
+fn repeats_play(kept: &StoredOrders, e: &Entry) -> bool
+    ensures { result ≡ same_entry e.now (Play kept.now) }
+{
+    match e {
+        Entry::Play(orders) => kept.is_same(orders),
+        Entry::Leave => false,
     }
 }
 

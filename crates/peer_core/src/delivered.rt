@@ -9,8 +9,8 @@ pub enum Delivered {
     Repeat,
     /// Another entry, this one, is kept for that client and frame.
     Conflict(Entry),
-    /// The entry contradicts what is kept at this frame: a departure of the client before the entry, or, where the
-    /// entry is a departure, the client's least kept frame behind it.
+    /// The entry contradicts what is kept at this frame: a departure of the client before the
+    /// entry, or, where the entry is a departure, the client's least kept frame after it.
     Past(u32),
     /// No match has such a frame.
     Beyond,

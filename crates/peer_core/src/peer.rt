@@ -1,18 +1,21 @@
 ghost use Rattle.std.specs.Prelude.{◌≡◌, ◌+◌, ◌<◌, ◌≤◌, IfOk, OnOk, OnErr};
-ghost use Rattle.peer_core.specs.Triples.{delivery_of, ready_by, IsRising, IsEnded, KeepsEntries};
-ghost use Rattle.peer_core.specs.Answers.{TellsDelivery};
 ghost use Rattle.frame_core.specs.Tick.{tick_answer};
-ghost use Rattle.peer_core.specs.Peer.{fresh_peer, delivered_peer, seal_answer, sealed_peer, ticked_peer, report_of};
+ghost use Rattle.peer_core.specs.Arrived.{ready_by as readiness_by, IsRising, IsEnded};
+ghost use Rattle.peer_core.specs.Delivery.{delivery_of, KeepsEntries, MeansDelivery};
+ghost use Rattle.peer_core.specs.Peer.{fresh_peer, delivered_peer, seal_answer, sealed_peer};
+ghost use Rattle.peer_core.specs.Peer.{ticked_peer, report_of};
+ghost use Rattle.peer_core.specs.Receipt.{receipt_of};
+ghost use Rattle.peer_core.specs.Tick.{MeansTick};
 
 use crate::client_entries::ClientEntries;
 use crate::delivered::Delivered;
-use crate::limits::MAX_LAG;
+use crate::inbox::{deliver_to, fill_frame, input, left, no_entries, receive_from};
+use crate::receipt::Receipt;
 use crate::report::Report;
 use crate::seal_fault::SealFault;
-use crate::triples::{deliver_to, frame_from, left, no_entries, readiness};
 use base::NoMemory;
-use frame_core::{Ready, Sim, TickAnswer};
-use game_orders::{Entry, MAX_CLIENTS, MAX_FRAMES};
+use frame_core::{Input, Inputs, Ready, Sim, TickAnswer, ready_by};
+use game_orders::{Entry, Frame, MAX_CLIENTS, MAX_FRAMES, MAX_LAG};
 use std::alloc::Global;
 use std::marker::Model;
 
@@ -29,24 +32,41 @@ pub struct Peer<S: Sim> {
 }
 
 impl<S: Sim> Model for Peer<S> {
-    ghost use Rattle.std.specs.Prelude.{◌≡◌, ◌+◌, ◌<◌, ◌≤◌, true, length};
-    ghost use Rattle.std.specs.List.{list_all};
-    ghost use Rattle.game_orders.specs.declared.limits.TheConstants.{MAX_CLIENTS, MAX_FRAMES};
-    ghost use Rattle.peer_core.specs.declared.limits.TheConstants.{MAX_LAG};
-    ghost use Rattle.peer_core.specs.Triples.{is_within, IsRising, IsEnded};
-    ghost use Rattle.peer_core.specs.Entries.{all_triples};
-    ghost use Rattle.peer_core.specs.Peer.{PeerState};
+    ghost use Rattle.std.specs.Prelude.{◌≡◌, length};
+    ghost use Rattle.peer_core.specs.Entries.{all_arrived};
+    ghost use Rattle.peer_core.specs.Peer.{PeerState, IsPeer, peer_state};
 
     ghost Value = { PeerState S };
 
-    ghost view = { λ p. record { me = p.me; clients = p.clients; lag = p.lag; triples = all_triples 0 p.entries.items; ticked = p.ticked; sealed = p.sealed; world = p.sim } };
+    ghost view = { λ p.
+        peer_state p.me p.clients p.lag (all_arrived 0 p.entries.items) p.ticked p.sealed p.sim };
 
-    ghost invariant = { λ p. (S.clients_of p.sim ≡ p.clients) × (S.steps p.sim ≡ p.ticked) × (p.me < p.clients) × (p.clients ≤ MAX_CLIENTS) × (1 ≤ p.lag) × (p.lag ≤ MAX_LAG) × (p.ticked ≤ MAX_FRAMES) × (p.sealed ≤ MAX_FRAMES) × (p.sealed ≤ p.ticked + p.lag) × (list_all is_within (all_triples 0 p.entries.items) ≡ true) × IsRising (all_triples 0 p.entries.items) × IsEnded (all_triples 0 p.entries.items) × (length p.entries.items ≡ p.clients) };
+    ghost invariant = { λ p.
+        IsPeer S.clients_of S.steps
+        (peer_state p.me p.clients p.lag (all_arrived 0 p.entries.items) p.ticked p.sealed p.sim)
+        × (length p.entries.items ≡ p.clients) };
+}
+
+/// What reached the peer, of each client.
+impl<S: Sim> Inputs for Peer<S> {
+    ghost use Rattle.peer_core.specs.Arrived.{inputs_by};
+
+    ghost inputs = { λ peer n. inputs_by peer.arrived peer.clients n };
+
+    #[tactic(auto, using(crate::proofs::EachLemmas::inputs_length))]
+    fn client_count(&self) -> u8 {
+        self.clients
+    }
+
+    fn input(&self, c: u8, n: u32) -> Input {
+        input(&self.entries, c, n)
+    }
 }
 
 impl<S: Sim> Peer<S> {
-    /// A peer of 1 to `MAX_CLIENTS` clients with a lag of 1 to [`MAX_LAG`] frames, over a world of as many clients
-    /// that has made no step. `me` is its own number, below the clients.
+    /// A peer of 1 to `MAX_CLIENTS` clients with a lag of 1 to `MAX_LAG` frames, over a world of
+    /// as many clients that has made no step. `me` is its own number, below the number of
+    /// clients. Out of memory is its one error.
     pub fn create(alloc: Global, me: u8, clients: u8, lag: u8, sim: S) -> Result<Peer<S>, NoMemory>
         requires own { me < clients }
         requires most { clients ≤ MAX_CLIENTS }
@@ -67,7 +87,7 @@ impl<S: Sim> Peer<S> {
         })
     }
 
-    /// The peer's own number, below the clients.
+    /// The peer's own number, below the number of clients.
     pub fn me(&self) -> u8
         ensures value { result ≡ self.now.me }
         ensures limit { result < self.now.clients }
@@ -84,7 +104,7 @@ impl<S: Sim> Peer<S> {
         self.clients
     }
 
-    /// How many frames the peer may seal ahead of its ticked ones, 1 to [`MAX_LAG`].
+    /// How many frames the peer may seal ahead of its ticked ones, 1 to `MAX_LAG`.
     pub fn lag(&self) -> u8
         ensures value { result ≡ self.now.lag }
         ensures least { 1 ≤ result }
@@ -117,37 +137,57 @@ impl<S: Sim> Peer<S> {
         &self.sim
     }
 
-    /// Delivers the agreed entry of client `c`, below the clients, at frame `n`. The first case that fits decides:
+    /// Delivers the agreed entry of client `c`, which is below the number of clients, at frame
+    /// `n`. The first applicable case decides:
     ///
     /// 1. `n` is above `MAX_FRAMES`, or it is `MAX_FRAMES` and the entry is a play: `Beyond`.
     /// 2. The same entry of `c` is kept at `n`: `Repeat`.
     /// 3. Another entry of `c` is kept at `n`: `Conflict` with that one.
-    /// 4. The departure of `c` is kept before `n`, or the entry is a departure and some entry of `c` is kept after
-    ///    `n`: `Past` with the frame of the departure, or with the least such frame.
-    /// 5. `Kept`: the entry is kept, also where frames before it are missing. No other case changes anything.
+    /// 4. The departure of `c` is kept before `n`, or the entry is a departure and some entry
+    ///    of `c` is kept after `n`: `Past` with the frame of the departure, or with the least
+    ///    such frame.
+    /// 5. `Kept`: the entry is kept, also where frames before it are missing. No other case changes
+    ///    anything.
     ///
-    /// After any answer what is kept stands by rising client and then by rising frame, no two entries of a client at
-    /// one frame, and nothing stands behind a client's departure. What was kept stays.
-    #[tactic(auto, using(crate::proofs::Rising::delivered_keeps))]
+    /// After any answer what is kept stands by rising client and then by rising frame, no two
+    /// entries of a client at one frame, and nothing stands after a client's departure. What was
+    /// kept stays. Out of memory is its one error, and then nothing has changed.
+    #[tactic(auto, using(crate::proofs::RisingLemmas::delivered_keeps))]
     pub fn deliver(&mut self, c: u8, n: u32, e: Entry) -> Result<Delivered, NoMemory>
         requires { c < self.old.clients }
-        ensures answer { IfOk result (λ answer. answer ≡ delivery_of self.old.triples c n e) }
+        ensures answer { IfOk result (λ answer. answer ≡ delivery_of self.old.arrived c n e) }
         ensures after { OnOk result (self.new ≡ delivered_peer self.old c n e) }
-        ensures tells { IfOk result (λ answer. TellsDelivery self.old.triples c n e answer) }
-        ensures keeps { OnOk result (KeepsEntries self.old.triples self.new.triples c n e) }
-        ensures rising { IsRising self.new.triples }
-        ensures ended { IsEnded self.new.triples }
+        ensures means { IfOk result (λ answer. MeansDelivery self.old.arrived c n e answer) }
+        ensures keeps { OnOk result (KeepsEntries self.old.arrived self.new.arrived c n e) }
+        ensures rising { IsRising self.new.arrived }
+        ensures ended { IsEnded self.new.arrived }
         ensures err { OnErr result (self.new ≡ self.old) }
     {
         deliver_to(&mut self.entries, c, n, e)
     }
 
-    /// Seals the peer's next frame, whose number is the count of sealed frames so far. Refused, in this order:
-    /// `LeftAlready` exactly where the peer's own departure has reached it, `MatchFull` exactly where it has sealed
-    /// `MAX_FRAMES` frames, `TooEarly` exactly where it has sealed as many frames ahead of its ticked ones as its
-    /// lag says. A refusal changes nothing.
+    /// Delivers a lent entry of client `c`, which is below the number of clients, at frame `n`, as
+    /// `deliver` does: it changes the same, and answers the same without the kept entry. Where it
+    /// is kept, no more is copied than its orders. Out of memory is its one error, and then nothing
+    /// has changed.
+    pub fn receive(&mut self, c: u8, n: u32, e: &Entry) -> Result<Receipt, NoMemory>
+        requires { c < self.old.clients }
+        ensures answer { IfOk result (λ receipt. receipt
+            ≡ receipt_of (delivery_of self.old.arrived c n e.now)) }
+        ensures after { OnOk result (self.new ≡ delivered_peer self.old c n e.now) }
+        ensures err { OnErr result (self.new ≡ self.old) }
+    {
+        receive_from(&mut self.entries, c, n, e)
+    }
+
+    /// Seals the peer's next frame, whose number is the count of sealed frames so far. Refused,
+    /// in this order: `LeftAlready` exactly where the peer's own departure has reached it,
+    /// `MatchFull` exactly where it has sealed `MAX_FRAMES` frames, `TooEarly` exactly where it
+    /// has sealed as many frames ahead of its ticked ones as its lag says. A refusal changes
+    /// nothing.
     pub fn seal(&mut self) -> Result<u32, SealFault>
-        ensures answer { result ≡ seal_answer self.old.triples self.old.me self.old.lag self.old.ticked self.old.sealed }
+        ensures answer { result ≡ seal_answer self.old.arrived self.old.me self.old.lag
+            self.old.ticked self.old.sealed }
         ensures after { self.new ≡ sealed_peer self.old }
     {
         if left(&self.entries, self.me) {
@@ -164,28 +204,33 @@ impl<S: Sim> Peer<S> {
         Ok(frame)
     }
 
-    /// Ticks the next frame, whose number is the count of ticked frames, if it is ready: if each client's play at
-    /// it, or its departure at or before it, has reached the peer. `NotYet` names the least client of which neither
-    /// has; `Over` is answered where no client has a play at it. Only `Ticked` changes anything: the world makes one
+    /// Ticks the next frame, whose number is the count of ticked frames, if it is ready: if each
+    /// client's play at it, or its departure at or before it, has reached the peer, and one of
+    /// them is a play. `NotYet` names the least client of which neither has reached it; `Over`
+    /// means that the departures of all have. Only `Ticked` changes anything: the world makes one
     /// step by the frame, and the count grows by one.
     pub fn tick(&mut self) -> TickAnswer
-        ensures answer { result ≡ tick_answer (ready_by self.old.triples self.old.clients self.old.ticked) self.old.ticked }
+        ensures answer { result ≡ tick_answer
+            (readiness_by self.old.arrived self.old.clients self.old.ticked) self.old.ticked }
         ensures after { self.new ≡ ticked_peer S.after self.old }
+        ensures means { MeansTick S.after self.old self.new result }
     {
-        let frame = self.ticked;
-        match readiness(&self.entries, self.clients, frame) {
+        let ticked = self.ticked;
+        match ready_by(self, ticked) {
             Ready::Yes => {
-                self.sim
-                    .step(&frame_from(&self.entries, self.clients, frame));
+                let mut frame = Frame::empty();
+                fill_frame(&self.entries, self.clients, ticked, &mut frame);
+                self.sim.step(&frame);
                 self.ticked += 1;
-                TickAnswer::Ticked(frame)
+                TickAnswer::Ticked(ticked)
             }
             Ready::NotYet(c) => TickAnswer::NotYet(c),
             Ready::Over => TickAnswer::Over,
         }
     }
 
-    /// The last ticked frame and the hash of the world after it. None exactly before the first tick.
+    /// The last ticked frame and the hash of the world after it. None exactly before the first
+    /// tick.
     pub fn report(&self) -> Option<Report>
         ensures { result ≡ report_of S.hash_of self.now }
     {
@@ -230,6 +275,27 @@ mod tests {
     ) -> Result<Delivered, Fail> {
         assert!(rt; c < peer.clients());
         Ok(peer.deliver(c, n, e)?)
+    }
+
+    fn receive(
+        rt: &impl Abort,
+        peer: &mut Peer<Tally>,
+        c: u8,
+        n: u32,
+        e: &Entry,
+    ) -> Result<Receipt, Fail> {
+        assert!(rt; c < peer.clients());
+        Ok(peer.receive(c, n, e)?)
+    }
+
+    fn receipt(answer: &Delivered) -> Receipt {
+        match answer {
+            Delivered::Kept => Receipt::Kept,
+            Delivered::Repeat => Receipt::Repeat,
+            Delivered::Conflict(_) => Receipt::Conflict,
+            Delivered::Past(at) => Receipt::Past(*at),
+            Delivered::Beyond => Receipt::Beyond,
+        }
     }
 
     /// A call with the answer that is wanted.
@@ -291,6 +357,7 @@ mod tests {
 
     #[test]
     fn deliveries_by_their_case(rt: HostRuntime) -> Result<(), Fail> {
+        let mut lent = peer(&rt)?;
         let mut peer = peer(&rt)?;
         let deliveries = [
             (1, 9, play(), Delivered::Kept),
@@ -308,15 +375,109 @@ mod tests {
             (0, 9, play(), Delivered::Past(8)),
             (0, 9, Entry::Leave, Delivered::Past(8)),
             (0, 7, donation(), Delivered::Repeat),
+            (0, 7, amount_play(2), Delivered::Conflict(donation())),
+            (0, 7, donations(2), Delivered::Conflict(donation())),
             (0, 6, play(), Delivered::Kept),
+            (0, 6, donation(), Delivered::Conflict(play())),
+            (0, 5, donations(2), Delivered::Kept),
+            (0, 5, donations(2), Delivered::Repeat),
+            (0, 5, donations(3), Delivered::Conflict(donations(2))),
         ];
         for (c, n, e, want) in deliveries {
+            assert_eq!(rt;
+                receive(&rt, &mut lent, c, n, &e)?,
+                receipt(&want),
+                "client {c} at {n}"
+            );
             assert_eq!(rt;
                 deliver(&rt, &mut peer, c, n, e)?,
                 want,
                 "client {c} at {n}"
             );
         }
+        Ok(())
+    }
+
+    #[test]
+    fn entries_from_the_last_to_the_first(rt: HostRuntime) -> Result<(), Fail> {
+        let mut peer = peer(&rt)?;
+        assert_eq!(rt;
+            deliver(&rt, &mut peer, 1, 0, Entry::Leave)?,
+            Delivered::Kept
+        );
+        for n in (0..20_000).rev() {
+            assert_eq!(rt; peer.tick(), TickAnswer::NotYet(0));
+            assert_eq!(rt; deliver(&rt, &mut peer, 0, n, play())?, Delivered::Kept);
+        }
+        for n in 0..20_000 {
+            assert_eq!(rt; peer.tick(), TickAnswer::Ticked(n));
+        }
+        assert_eq!(rt; peer.tick(), TickAnswer::NotYet(0));
+        Ok(())
+    }
+
+    /// A play whose one order has this amount.
+    fn amount_play(amount: u32) -> Entry {
+        let mut orders = Orders::empty();
+        let _ = orders.try_push(Order::Donate { to: 0, amount });
+        Entry::Play(orders)
+    }
+
+    /// A play of so many orders.
+    fn donations(count: u32) -> Entry {
+        let mut orders = Orders::empty();
+        for amount in 0..count {
+            let _ = orders.try_push(Order::Donate { to: 0, amount });
+        }
+        Entry::Play(orders)
+    }
+
+    #[test]
+    fn entries_in_any_order(rt: HostRuntime) -> Result<(), Fail> {
+        let mut peer = peer(&rt)?;
+        assert_eq!(rt;
+            deliver(&rt, &mut peer, 1, 0, Entry::Leave)?,
+            Delivered::Kept
+        );
+        for k in 0..1_000 {
+            let n = k * 619 % 1_000;
+            assert_eq!(rt;
+                deliver(&rt, &mut peer, 0, n, amount_play(n))?,
+                Delivered::Kept
+            );
+        }
+        for n in 0..1_000 {
+            let kept = Delivered::Conflict(amount_play(n));
+            assert_eq!(rt; deliver(&rt, &mut peer, 0, n, Entry::Leave)?, kept);
+            assert_eq!(rt; peer.tick(), TickAnswer::Ticked(n));
+        }
+        Ok(())
+    }
+
+    #[test]
+    fn a_match_of_all_its_frames(rt: HostRuntime) -> Result<(), Fail> {
+        let mut peer = peer(&rt)?;
+        assert_eq!(rt;
+            deliver(&rt, &mut peer, 1, 0, Entry::Leave)?,
+            Delivered::Kept
+        );
+        for n in 0..MAX_FRAMES {
+            assert_eq!(rt; peer.seal(), Ok(n));
+            assert_eq!(rt; deliver(&rt, &mut peer, 0, n, play())?, Delivered::Kept);
+            assert_eq!(rt; peer.tick(), TickAnswer::Ticked(n));
+        }
+        assert_eq!(rt; peer.seal(), Err(SealFault::MatchFull));
+        assert_eq!(rt; peer.tick(), TickAnswer::NotYet(0));
+        assert_eq!(rt;
+            deliver(&rt, &mut peer, 0, MAX_FRAMES, play())?,
+            Delivered::Beyond
+        );
+        assert_eq!(rt;
+            deliver(&rt, &mut peer, 0, MAX_FRAMES, Entry::Leave)?,
+            Delivered::Kept
+        );
+        assert_eq!(rt; peer.seal(), Err(SealFault::LeftAlready));
+        assert_eq!(rt; peer.tick(), TickAnswer::Over);
         Ok(())
     }
 }

@@ -1,4 +1,4 @@
-/// What a peer tells of its world.
+/// What a peer reports of its world.
 #[derive(Clone, Copy, Debug, PartialEq, Eq)]
 pub struct Report {
     /// The last frame that it ticked.

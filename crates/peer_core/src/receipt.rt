@@ -1,0 +1,15 @@
+/// What a delivery of a lent entry answers. Only `Kept` changes the peer.
+#[derive(Clone, Copy, Debug, PartialEq, Eq)]
+pub enum Receipt {
+    /// The entry was new, and is kept.
+    Kept,
+    /// The same entry is kept for that client and frame.
+    Repeat,
+    /// Another entry is kept for that client and frame.
+    Conflict,
+    /// The entry contradicts what is kept at this frame: a departure of the client before the
+    /// entry, or, where the entry is a departure, the client's least kept frame after it.
+    Past(u32),
+    /// No match has such a frame.
+    Beyond,
+}
