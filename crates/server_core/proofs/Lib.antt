@@ -1,2 +1,2 @@
-pub mod Alarms
-pub mod Reports
+pub mod BoardLemmas
+pub mod ServerLemmas

@@ -1,3 +1,7 @@
 pub mod Board
+pub mod Alarm
+pub mod AlarmLemmas
 pub mod Server
+pub mod Tick
 pub mod Served
+pub mod ServedLemmas

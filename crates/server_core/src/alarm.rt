@@ -1,4 +1,5 @@
-/// The least frame for which the kept report of a client differs from the hash of the server's world.
+/// The least frame for which a client's kept report differs from the hash of the server's world
+/// after it.
 #[derive(Clone, Copy, Debug, PartialEq, Eq)]
 pub struct Alarm {
     /// The frame, below `MAX_FRAMES`.

@@ -1,5 +1,6 @@
 ghost use Rattle.std.specs.Prelude.{◌≡◌, ◌<◌, [], OnOk, OnErr};
-ghost use Rattle.server_core.specs.Board.{report_at, with_report, alarm_here, alarm_from};
+ghost use Rattle.server_core.specs.Board.{report_at, with_report};
+ghost use Rattle.server_core.specs.Alarm.{alarm_here, alarm_of};
 
 use crate::alarm::Alarm;
 use base::NoMemory;
@@ -7,7 +8,8 @@ use game_orders::MAX_FRAMES;
 use std::alloc::Global;
 use std::marker::Model;
 
-/// The hashes that one client reported, by frame.
+/// The hashes that one client reported, by frame. A report takes constant time on the average, also
+/// where frames come in any order: each place of the list is made once.
 #[derive(Drop)]
 pub(crate) struct ClientReports {
     held: Vec<Option<u64>>,
@@ -57,7 +59,7 @@ impl ClientReports {
 
     /// The least frame at which the kept hash differs from the wanted one, with both.
     pub(crate) fn alarm(&self, wanted: &[u64]) -> Option<Alarm>
-        ensures { result ≡ alarm_from 0 self.now wanted.now }
+        ensures { result ≡ alarm_of self.now wanted.now }
     {
         let count = self.held.len().min(wanted.len());
         for n in 0..count {

@@ -1,9 +1,12 @@
 ghost use Rattle.std.specs.Prelude.{◌≡◌, ◌<◌, ◌≤◌, length, IfOk, OnOk, OnErr};
+ghost use Rattle.frame_core.specs.Agreed.{AreReady};
 ghost use Rattle.frame_core.specs.Column.{column_of, leave_answer};
 ghost use Rattle.frame_core.specs.Grows.{Grows};
 ghost use Rattle.frame_core.specs.Ready.{ready_at};
 ghost use Rattle.frame_core.specs.Tick.{tick_answer};
-ghost use Rattle.server_core.specs.Server.{fresh_server, board_of, answer_to, told_server, left_server, ticked_server};
+ghost use Rattle.server_core.specs.Server.{fresh_server, board_of, packet_answer};
+ghost use Rattle.server_core.specs.Server.{after_packet, after_drop, after_tick};
+ghost use Rattle.server_core.specs.Tick.{MeansTick};
 
 use crate::board::Board;
 use crate::up_answer::UpAnswer;
@@ -24,19 +27,31 @@ pub struct Server<S: Sim> {
 }
 
 impl<S: Sim> Model for Server<S> {
-    ghost use Rattle.std.specs.Prelude.{◌≡◌, ◌≤◌, length};
-    ghost use Rattle.game_orders.specs.declared.limits.TheConstants.{MAX_FRAMES};
-    ghost use Rattle.server_core.specs.Server.{ServerState};
+    ghost use Rattle.server_core.specs.Server.{ServerState, IsServer};
 
     ghost Value = { ServerState S };
 
-    ghost view = { λ s. record { columns = s.columns; reports = s.board.reports; ticked = s.ticked; marks = s.board.wanted; world = s.sim } };
+    ghost view = { λ s. record {
+      columns = s.columns;
+      reports = s.board.reports;
+      ticked = s.ticked;
+      marks = s.board.wanted;
+      world = s.sim;
+    } };
 
-    ghost invariant = { λ s. (S.clients_of s.sim ≡ length s.columns) × (S.steps s.sim ≡ s.ticked) × (length s.board.reports ≡ length s.columns) × (s.ticked ≤ MAX_FRAMES) × (length s.board.wanted ≡ s.ticked) };
+    ghost invariant = { λ s. IsServer S.clients_of S.steps (record {
+      columns = s.columns;
+      reports = s.board.reports;
+      ticked = s.ticked;
+      marks = s.board.wanted;
+      world = s.sim;
+    }) };
 }
 
 impl<S: Sim> Server<S> {
-    /// The server of a match of 1 to `MAX_CLIENTS` clients, over a world of as many clients that has made no step.
+    /// The server of a match of 1 to `MAX_CLIENTS` clients, over a world of as many clients that
+    /// has made no step.
+    #[tactic(auto, using(frame_core::specs::AgreedLemmas::no_frames_ready))]
     pub fn create(alloc: Global, clients: u8, sim: S) -> Result<Server<S>, NoMemory>
         requires least { 1 ≤ clients }
         requires most { clients ≤ MAX_CLIENTS }
@@ -52,12 +67,14 @@ impl<S: Sim> Server<S> {
         })
     }
 
-    /// Takes a packet of client `c`, below the clients. Orders are put as a play into the client's column, a report
-    /// comes to the board, a farewell lets the client leave, and a greeting is `Ignored`.
+    /// Takes a packet of client `c`, which is below the number of clients. Orders are put as a play
+    /// into the client's column, the board takes a report, a farewell lets the client leave, and a
+    /// greeting is `Ignored`.
     pub fn up(&mut self, c: u8, p: &Up) -> Result<UpAnswer, NoMemory>
         requires { c < length self.old.columns }
-        ensures answer { IfOk result (λ answer. answer ≡ answer_to self.old.columns self.old.reports c p.now) }
-        ensures after { OnOk result (self.new ≡ told_server self.old c p.now) }
+        ensures answer { IfOk result (λ answer.
+            answer ≡ packet_answer self.old.columns self.old.reports c p.now) }
+        ensures after { OnOk result (self.new ≡ after_packet self.old c p.now) }
         ensures grows { Grows self.old.columns self.new.columns }
         ensures err { OnErr result (self.new ≡ self.old) }
     {
@@ -75,23 +92,28 @@ impl<S: Sim> Server<S> {
         }
     }
 
-    /// Lets client `c`, below the clients, leave. `Already` exactly where it has left, and then nothing changes.
+    /// Lets client `c`, which is below the number of clients, leave. `Already` exactly where it has
+    /// left, and then nothing changes.
     pub fn drop_client(&mut self, c: u8) -> Leaving
         requires { c < length self.old.columns }
         ensures answer { result ≡ leave_answer (column_of self.old.columns c) }
-        ensures after { self.new ≡ left_server self.old c }
+        ensures after { self.new ≡ after_drop self.old c }
         ensures grows { Grows self.old.columns self.new.columns }
     {
         self.columns.leave(c)
     }
 
-    /// Ticks the next frame, whose number is the count of ticked frames, if it is ready by the columns. `NotYet` names
-    /// the least client that has neither a play at it nor left at or before it; `Over` is answered where no client has
-    /// a play at it. Only `Ticked` changes anything: the world makes one step by the agreed frame, the count grows by
-    /// one, and the world's hash is the next mark.
+    /// Ticks the next frame, whose number is the count of ticked frames, if it is ready by the
+    /// columns. `NotYet` has the least client that has neither a play at it nor left at or before
+    /// it. `Over` exactly where all have left by then. Only `Ticked` changes anything: the world
+    /// makes one step by the agreed frame, the count grows by one, and the world's hash is the next
+    /// mark.
+    #[tactic(auto, using(frame_core::specs::AgreedLemmas::one_more_ready))]
     pub fn tick(&mut self) -> Result<TickAnswer, NoMemory>
-        ensures answer { IfOk result (λ answer. answer ≡ tick_answer (ready_at self.old.columns self.old.ticked) self.old.ticked) }
-        ensures after { OnOk result (self.new ≡ ticked_server S.after S.hash_of self.old) }
+        ensures answer { IfOk result (λ answer.
+            answer ≡ tick_answer (ready_at self.old.columns self.old.ticked) self.old.ticked) }
+        ensures after { OnOk result (self.new ≡ after_tick S.after S.hash_of self.old) }
+        ensures means { IfOk result (MeansTick S.after S.hash_of self.old self.new) }
         ensures err { OnErr result (self.new ≡ self.old) }
     {
         let frame = self.ticked;
@@ -106,17 +128,20 @@ impl<S: Sim> Server<S> {
         }
     }
 
-    /// The number of frames that the server has ticked, at most `MAX_FRAMES`.
+    /// The number of frames that the server has ticked, at most `MAX_FRAMES`. Each of them is ready
+    /// by its columns.
     pub fn ticked(&self) -> u32
         ensures value { result ≡ self.now.ticked }
         ensures limit { result ≤ MAX_FRAMES }
+        ensures ready { AreReady self.now.columns result }
     {
         self.ticked
     }
 
     /// The columns that the server agreed.
     pub fn columns(&self) -> &Columns
-        ensures { result.now ≡ self.now.columns }
+        ensures value { result.now ≡ self.now.columns }
+        ensures ready { AreReady result.now self.now.ticked }
     {
         &self.columns
     }
@@ -129,7 +154,7 @@ impl<S: Sim> Server<S> {
         self.board.marks()
     }
 
-    /// The board: what the clients reported, and the marks as what is wanted.
+    /// The board: what the clients reported, and the marks as the wanted hashes.
     pub fn board(&self) -> &Board
         ensures value { result.now ≡ board_of self.now }
         ensures clients { length result.now.reports ≡ length self.now.columns }
@@ -139,7 +164,10 @@ impl<S: Sim> Server<S> {
 
     /// The server's world.
     pub fn sim(&self) -> &S
-        ensures { result.now ≡ self.now.world }
+        ensures value { result.now ≡ self.now.world }
+        ensures clients { S.clients_of result.now ≡ length self.now.columns }
+        ensures steps { S.steps result.now ≡ self.now.ticked }
+        ensures ready { AreReady self.now.columns self.now.ticked }
     {
         &self.sim
     }

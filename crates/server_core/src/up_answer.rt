@@ -1,15 +1,15 @@
 use crate::reported::Reported;
 use frame_core::{Leaving, Put};
 
-/// What a packet from a client answers.
+/// The answer to a packet of a client.
 #[derive(Debug, Drop, PartialEq, Eq)]
 pub enum UpAnswer {
-    /// Orders were put into the client's column.
+    /// To orders: what the client's column answers.
     Entry(Put),
-    /// A report came to the board.
+    /// To a report: what the board answers.
     Report(Reported),
-    /// The client left.
+    /// To a farewell: the frame at which the departure stands.
     Bye(Leaving),
-    /// A greeting changes nothing.
+    /// To a greeting, which changes nothing.
     Ignored,
 }

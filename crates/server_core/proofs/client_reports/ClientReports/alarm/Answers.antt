@@ -1,7 +1,8 @@
-use Rattle.std.proofs.Common.{◌≡◌, ◌+◌, ◌≤◌, ◌<◌, length, get_or, drop, true, false, ap, sym, ◌∙◌, arith, ◌⊎◌}
+use Rattle.std.proofs.Common.{◌≡◌, ◌+◌, ◌≤◌, ◌<◌, ◌⊎◌, arith, true, false, ap, sym, ◌∙◌}
+use Rattle.std.proofs.Common.{length, get_or, drop}
 use Rattle.std.specs.Prelude.{None, is_some}
-use Rattle.server_core.specs.Board.{alarm_here, alarm_from}
-use Rattle.server_core.proofs.Alarms.{alarm_step, none_here, some_here, alarm_end, read_at}
+use Rattle.server_core.specs.Alarm.{alarm_here, alarm_from}
+use Rattle.server_core.specs.AlarmLemmas.{alarm_step, none_here, some_here, alarm_end, read_at}
 use Rattle.server_core.proofs.client_reports.ClientReports.alarm.Goals as goal
 
 pub loop-n-preserved : goal.loop-n-preserved
@@ -11,16 +12,18 @@ loop-n-preserved c =
     let wanted = c.args.wanted.now in
     let whole : length c.self.inside.held.items ≡ length reports = ap length c.self.view_is in
     let below : n < length reports = omega (arith, whole, c.self.inside.held.ok.0) in
-    let within : n < length wanted = omega arith in
+    let marked : n < length wanted = omega arith in
     let got : c.index.result.now ≡ get_or reports n None =
-    read_at c.self.inside.held.items n c.index.result.now None (omega (arith, below, whole)) c.index.ensures
+    read_at c.self.inside.held.items n c.index.result.now None (omega (arith, below, whole))
+    c.index.ensures
     ∙ ap (λ xs. get_or xs n None) c.self.view_is in
     let later = alarm_from (n + 1) (drop (n + 1) reports) (drop (n + 1) wanted) in
     let none : is_some (alarm_here n (get_or reports n None) (get_or wanted n 0) None) ≡ false =
-    ap (λ o. is_some (alarm_here n o (get_or wanted n 0) None)) (sym got) ∙ ap is_some (sym c.alarm_at-found.ensures)
+    ap (λ o. is_some (alarm_here n o (get_or wanted n 0) None)) (sym got)
+    ∙ ap is_some (sym c.alarm_at-found.ensures)
     ∙ sym c.is_some.ensures ∙ c.if-is_some.false in
     sym (none_here n (get_or reports n None) (get_or wanted n 0) later none)
-    ∙ sym (alarm_step n reports wanted below within)
+    ∙ sym (alarm_step n reports wanted below marked)
     ∙ c.loop-n.invariant
 
 pub returns-then-is_some : goal.returns-then-is_some
@@ -30,18 +33,20 @@ returns-then-is_some c =
     let wanted = c.args.wanted.now in
     let whole : length c.self.inside.held.items ≡ length reports = ap length c.self.view_is in
     let below : n < length reports = omega (arith, whole, c.self.inside.held.ok.0) in
-    let within : n < length wanted = omega arith in
+    let marked : n < length wanted = omega arith in
     let got : c.index.result.now ≡ get_or reports n None =
-    read_at c.self.inside.held.items n c.index.result.now None (omega (arith, below, whole)) c.index.ensures
+    read_at c.self.inside.held.items n c.index.result.now None (omega (arith, below, whole))
+    c.index.ensures
     ∙ ap (λ xs. get_or xs n None) c.self.view_is in
     let later = alarm_from (n + 1) (drop (n + 1) reports) (drop (n + 1) wanted) in
-    let found : c.alarm_at-found.result ≡ alarm_here n (get_or reports n None) (get_or wanted n 0) None =
+    let found :
+    c.alarm_at-found.result ≡ alarm_here n (get_or reports n None) (get_or wanted n 0) None =
     c.alarm_at-found.ensures ∙ ap (λ o. alarm_here n o (get_or wanted n 0) None) got in
     let some : is_some (alarm_here n (get_or reports n None) (get_or wanted n 0) None) ≡ true =
     ap is_some (sym found) ∙ sym c.is_some.ensures ∙ c.if-is_some.true in
     found
     ∙ some_here n (get_or reports n None) (get_or wanted n 0) later some
-    ∙ sym (alarm_step n reports wanted below within)
+    ∙ sym (alarm_step n reports wanted below marked)
     ∙ c.loop-n.invariant
 
 pub returns : goal.returns
@@ -50,5 +55,6 @@ returns c =
     let reports = c.args.self.now in
     let wanted = c.args.wanted.now in
     let whole : length c.self.inside.held.items ≡ length reports = ap length c.self.view_is in
-    let past : (length reports ≤ n) ⊎ (length wanted ≤ n) = grind (arith, whole, c.self.inside.held.ok.0) in
+    let past : (length reports ≤ n) ⊎ (length wanted ≤ n) =
+    grind (arith, whole, c.self.inside.held.ok.0) in
     sym (alarm_end n reports wanted past) ∙ c.loop-n.invariant
