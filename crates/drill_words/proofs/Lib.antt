@@ -1,4 +1,5 @@
-pub mod WordLemmas
-pub mod LineLemmas
-pub mod OrderLemmas
-pub mod EventLemmas
+pub mod WordsLemmas
+pub mod KeptLineLemmas
+pub mod OrderListLemmas
+pub mod DrillLemmas
+pub mod EventListLemmas

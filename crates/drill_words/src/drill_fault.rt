@@ -1,16 +1,20 @@
+ghost use Rattle.std.specs.Prelude.{◌≡◌};
+ghost use Rattle.drill_words.specs.DrillFault.{cause_of, line_of};
+
 use thiserror::Error;
 
 /// Why bytes are no drill: the first fault, with the number of its line, from 1.
 #[derive(Debug, Drop, Error)]
 pub enum DrillFault {
-    /// A word is unknown, missing or too many, or stands in a hash's place and is no hash. It is of line 0 where all
-    /// lines are passed over.
+    /// A word is unknown, missing or too many, or stands in a hash's place and is no hash. Where no
+    /// line is kept, the line is 0.
     #[error("line {line}: a word is unknown, missing or too many")]
     BadWord {
         /// The line's number, from 1, or 0 for no line.
         line: u32,
     },
-    /// A word in the place of a number, a peer or a client isn't one to ten digits, or a number is out of its range.
+    /// A word in the place of a number, a peer or a client isn't one to ten digits, or a number is
+    /// out of its range.
     #[error("line {line}: a number is expected, or is out of its range")]
     BadNumber {
         /// The line's number.
@@ -28,13 +32,43 @@ pub enum DrillFault {
         /// The line's number.
         line: u32,
     },
-    /// The line comes behind `MAX_EVENTS` events.
+    /// The line follows `MAX_EVENTS` events.
     #[error("line {line}: too many events")]
     TooManyEvents {
         /// The line's number.
         line: u32,
     },
-    /// Want of memory.
+    /// Out of memory.
     #[error("out of memory")]
     NoMemory,
+}
+
+impl DrillFault {
+    /// The cause as it is printed: the variant's name.
+    pub fn cause(&self) -> &'static str
+        ensures { result.now ≡ cause_of self.now }
+    {
+        match self {
+            DrillFault::BadWord { .. } => "BadWord",
+            DrillFault::BadNumber { .. } => "BadNumber",
+            DrillFault::NoSuchClient { .. } => "NoSuchClient",
+            DrillFault::TooManyOrders { .. } => "TooManyOrders",
+            DrillFault::TooManyEvents { .. } => "TooManyEvents",
+            DrillFault::NoMemory => "NoMemory",
+        }
+    }
+
+    /// The line's number, from 1, or 0 for no line.
+    pub fn line(&self) -> u32
+        ensures { result ≡ line_of self.now }
+    {
+        match self {
+            DrillFault::BadWord { line }
+            | DrillFault::BadNumber { line }
+            | DrillFault::NoSuchClient { line }
+            | DrillFault::TooManyOrders { line }
+            | DrillFault::TooManyEvents { line } => *line,
+            DrillFault::NoMemory => 0,
+        }
+    }
 }

@@ -1,6 +1,7 @@
 use game_orders::Orders;
 
-/// One event of a drill. Peers and clients are numbered below the drill's clients, frames and packets from 0.
+/// One event of a drill. Peers and clients are numbered below the drill's clients, frames and
+/// packets from 0.
 #[derive(Debug, Drop)]
 pub enum Event {
     /// The peer seals its next frame with these orders, and its packet is sent up.

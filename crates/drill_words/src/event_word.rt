@@ -1,5 +1,5 @@
 ghost use Rattle.std.specs.Prelude.{◌≡◌};
-ghost use Rattle.drill_words.specs.Reading.{event_word};
+ghost use Rattle.drill_words.specs.EventLine.{event_word};
 
 /// The first word of an event line.
 #[derive(Clone, Copy, Debug)]
@@ -23,7 +23,7 @@ pub(crate) enum EventWord {
 }
 
 /// The event that a word begins. None where the word is unknown.
-#[tactic(auto, unfolding(crate::specs::Reading::event_word))]
+#[tactic(auto, unfolding(crate::specs::EventLine::event_word))]
 pub(crate) fn event_word(word: &[u8]) -> Option<EventWord>
     ensures { result ≡ event_word word.now }
 {

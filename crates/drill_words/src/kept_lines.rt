@@ -1,13 +1,14 @@
 ghost use Rattle.std.specs.Prelude.{◌≡◌, ◌∷◌, ◌+◌, ◌<◌, ◌≤◌, ◌^◌, [], length, MatchOption};
 ghost use Rattle.std.specs.List.{prefix_len};
 ghost use Rattle.base.specs.Lines.{lines_of};
-ghost use Rattle.drill_words.specs.Lines.{kept_from, kept_lines, words_of, is_of_line, is_kept};
+ghost use Rattle.drill_words.specs.Words.{words_of};
+ghost use Rattle.drill_words.specs.KeptLine.{kept_from, kept_lines, is_of_line, is_kept};
 
-use crate::words::Words;
+use crate::word_cursor::WordCursor;
 use std::marker::Model;
 
-/// The kept lines of a text that are still to be read, from the first. Lines without words, and lines
-/// whose first word begins with `#`, are passed over.
+/// The kept lines of a text that are still to be read, from the first. Lines without words, and
+/// lines whose first word begins with `#`, are passed over.
 #[derive(Drop)]
 pub(crate) struct KeptLines<'a> {
     number: u32,
@@ -17,7 +18,7 @@ pub(crate) struct KeptLines<'a> {
 impl<'a> Model for KeptLines<'a> {
     ghost use Rattle.std.specs.Prelude.{List, ◌+◌, ◌<◌, ◌^◌, length};
     ghost use Rattle.base.specs.Lines.{lines_of};
-    ghost use Rattle.drill_words.specs.Lines.{KeptLine, kept_from};
+    ghost use Rattle.drill_words.specs.KeptLine.{KeptLine, kept_from};
 
     ghost Value = { List KeptLine };
 
@@ -38,14 +39,16 @@ impl<'a> KeptLines<'a> {
         }
     }
 
-    /// Takes the next kept line: its number in the text, from 1, and its words. None where no line is left.
-    pub(crate) fn next(&mut self) -> Option<(u32, Words<'a>)>
-        ensures { MatchOption result (self.old ≡ []) (λ line. self.old ≡ record { number = line.0; words = line.1 } ∷ self.new) }
+    /// Takes the next kept line: its number in the text, from 1, and its words. None where no line
+    /// is left.
+    pub(crate) fn next(&mut self) -> Option<(u32, WordCursor<'a>)>
+        ensures { MatchOption result (self.old ≡ [])
+            (λ line. self.old ≡ record { number = line.0; words = line.1 } ∷ self.new) }
     {
         let kept = first_kept(self.number, self.rest)?;
         self.number = kept.number + 1;
         self.rest = kept.rest;
-        Some((kept.number, Words::of(kept.line)))
+        Some((kept.number, WordCursor::of(kept.line)))
     }
 }
 
@@ -58,13 +61,15 @@ struct FirstKept<'a> {
 }
 
 /// The first kept line of a text whose first line has this number.
-#[tactic(auto, using(crate::proofs::LineLemmas::kept_steps))]
+#[tactic(auto, using(crate::proofs::KeptLineLemmas::kept_steps))]
 fn first_kept(first: u32, text: &[u8]) -> Option<FirstKept<'_>>
     requires { first + length text.now < 2 ^ 32 }
     ensures line { MatchOption result (kept_from first (lines_of text.now) ≡ [])
         (λ kept. kept_from first (lines_of text.now)
-        ≡ record { number = kept.number; words = words_of kept.line.now } ∷ kept_from (kept.number + 1) (lines_of kept.rest.now)) }
-    ensures fits { MatchOption result (Unit {0}) (λ kept. kept.number + 1 + length kept.rest.now < 2 ^ 32) }
+        ≡ record { number = kept.number; words = words_of kept.line.now }
+        ∷ kept_from (kept.number + 1) (lines_of kept.rest.now)) }
+    ensures fits { MatchOption result (Unit {0})
+        (λ kept. kept.number + 1 + length kept.rest.now < 2 ^ 32) }
 {
     let mut number = first;
     let mut rest = text;
@@ -87,14 +92,14 @@ fn first_kept(first: u32, text: &[u8]) -> Option<FirstKept<'_>>
 fn is_kept(line: &[u8]) -> bool
     ensures { result ≡ is_kept (words_of line.now) }
 {
-    match Words::of(line).next() {
+    match WordCursor::of(line).next() {
         None => false,
         Some(word) => word.first() != Some(&b'#'),
     }
 }
 
 /// The first line of a text, and what follows it.
-#[tactic(auto, using(crate::proofs::LineLemmas::line_steps))]
+#[tactic(auto, using(crate::proofs::KeptLineLemmas::line_steps))]
 fn split_line(text: &[u8]) -> (&[u8], &[u8])
     requires { 0 < length text.now }
     ensures lines { lines_of text.now ≡ result.0.now ∷ lines_of result.1.now }
@@ -111,7 +116,7 @@ fn split_line(text: &[u8]) -> (&[u8], &[u8])
 /// How many bytes come before the first line feed.
 fn line_length(text: &[u8]) -> usize
     ensures count { result ≡ prefix_len is_of_line text.now }
-    ensures within { result ≤ length text.now }
+    ensures limit { result ≤ length text.now }
 {
     for (index, byte) in text.iter().enumerate() {
         if *byte == b'\n' {

@@ -1,32 +1,43 @@
-//! The words of a drill: a written network schedule of one match.
+//! The text of drills: written network schedules of one match.
 //!
-//! It stands on `base` for lines and numbers, on `game_orders` for orders and, for `MAX_LAG`, on `peer_core`. `read_drill`
-//! gives the [`Drill`] that a file's bytes say, or the first fault with its line. The definitions follow the text
-//! downward: lines and words in `specs/Lines.antt`, what the words of a line say in `specs/Reading.antt`.
+//! `read_drill` returns the [`Drill`] that a file's bytes write, or the first fault with its line.
+//! The crate stands on `base` for lines and numbers, and on `game_orders` for orders and the limits
+//! of a match. Its definitions go from the text inward: the kept lines and their words
+//! (`specs/KeptLine.antt`, `specs/Words.antt`), how words are read (`specs/Read.antt`), the line of
+//! a match and of an event (`specs/MatchLine.antt`, `specs/EventLine.antt`), and the whole file
+//! (`specs/Drill.antt`). The canonical text of a drill (`specs/Text.antt`) is read back as exactly
+//! this drill ([`lines_read_back`]).
 #![tactic(auto)]
 
+mod drill;
 mod drill_fault;
-mod drill_file;
 mod event;
+mod event_head;
 mod event_line;
+mod event_list;
+mod event_view;
 mod event_word;
-mod events;
+mod hash;
 mod kept_lines;
+mod law;
 mod limits;
 mod match_line;
-mod numbers;
+mod order_list;
 mod order_word;
-mod orders;
 mod reading;
+mod seal_orders;
+mod word_cursor;
 mod word_fault;
-mod words;
 
+pub use drill::Drill;
 pub use drill_fault::DrillFault;
-pub use drill_file::Drill;
 pub use event::Event;
-pub use events::Events;
+pub use event_list::EventList;
+pub use event_view::EventView;
+pub use law::lines_read_back;
 pub use limits::{MAX_DRILL_BYTES, MAX_EVENTS};
 pub use reading::read_drill;
+pub use seal_orders::SealOrders;
 
 #[cfg(test)]
 mod tests;

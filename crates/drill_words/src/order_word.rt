@@ -1,20 +1,63 @@
 ghost use Rattle.std.specs.Prelude.{◌≡◌};
-ghost use Rattle.drill_words.specs.Reading.{order_word};
+ghost use Rattle.drill_words.specs.OrderList.{order_word};
 
-/// The first word of an order.
+/// The first word of an order. With `+` after it the order is queued.
 #[derive(Clone, Copy, Debug)]
 pub(crate) enum OrderWord {
+    /// `move` or `move+`
+    Move {
+        /// Whether it is queued.
+        queued: bool,
+    },
+    /// `attack` or `attack+`
+    Attack {
+        /// Whether it is queued.
+        queued: bool,
+    },
+    /// `harvest` or `harvest+`
+    Harvest {
+        /// Whether it is queued.
+        queued: bool,
+    },
+    /// `stop`
+    Stop,
+    /// `produce`
+    Produce,
+    /// `cancel`
+    Cancel,
     /// `donate`
     Donate,
+    /// `pace`
+    Pace,
 }
 
 /// The order that a word begins. None where the word is unknown.
-#[tactic(auto, unfolding(crate::specs::Reading::order_word))]
+#[tactic(auto, unfolding(crate::specs::OrderList::order_word))]
 pub(crate) fn order_word(word: &[u8]) -> Option<OrderWord>
     ensures { result ≡ order_word word.now }
 {
-    if word == b"donate".as_slice() {
+    if word == b"move".as_slice() {
+        Some(OrderWord::Move { queued: false })
+    } else if word == b"move+".as_slice() {
+        Some(OrderWord::Move { queued: true })
+    } else if word == b"attack".as_slice() {
+        Some(OrderWord::Attack { queued: false })
+    } else if word == b"attack+".as_slice() {
+        Some(OrderWord::Attack { queued: true })
+    } else if word == b"harvest".as_slice() {
+        Some(OrderWord::Harvest { queued: false })
+    } else if word == b"harvest+".as_slice() {
+        Some(OrderWord::Harvest { queued: true })
+    } else if word == b"stop".as_slice() {
+        Some(OrderWord::Stop)
+    } else if word == b"produce".as_slice() {
+        Some(OrderWord::Produce)
+    } else if word == b"cancel".as_slice() {
+        Some(OrderWord::Cancel)
+    } else if word == b"donate".as_slice() {
         Some(OrderWord::Donate)
+    } else if word == b"pace".as_slice() {
+        Some(OrderWord::Pace)
     } else {
         None
     }

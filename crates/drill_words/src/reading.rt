@@ -1,43 +1,46 @@
+//! Reads drills.
 ghost use Rattle.std.specs.Prelude.{◌≡◌, ◌≢◌, ◌≤◌, true, length, IfOk};
 ghost use Rattle.std.specs.List.{list_all};
 ghost use Rattle.drill_words.specs.Event.{event_fits};
-ghost use Rattle.drill_words.specs.Reading.{at_line, event_on, events_from, Gives, plain_of, read_of};
+ghost use Rattle.drill_words.specs.DrillFault.{at_line};
+ghost use Rattle.drill_words.specs.Drill.{event_on, events_from, ReturnsRead, plain_of, read_of};
 
+use crate::drill::Drill;
 use crate::drill_fault::DrillFault;
-use crate::drill_file::Drill;
 use crate::event::Event;
 use crate::event_line::read_event;
-use crate::events::Events;
+use crate::event_list::EventList;
 use crate::kept_lines::KeptLines;
 use crate::limits::{MAX_DRILL_BYTES, MAX_EVENTS};
 use crate::match_line::read_match;
+use crate::word_cursor::WordCursor;
 use crate::word_fault::WordFault;
-use crate::words::Words;
 use std::alloc::Global;
 
 /// Reads a drill from at most [`MAX_DRILL_BYTES`] bytes.
 ///
-/// Lines end at a line feed, and words are separated by spaces, tabs and carriage returns. Lines without words
-/// and lines whose first word begins with `#` are passed over. The first other line is `match CLIENTS LAG SEED`,
-/// and every further one is an event.
+/// Lines end at a line feed, and words are separated by spaces, tabs and carriage returns. Lines
+/// without words and lines whose first word begins with `#` are passed over. The first other line
+/// is `match CLIENTS LAG SEED`, and each further one is an event.
 ///
-/// An `Err` is the first fault: that of the earliest line, and in it that of the first word from the left. `BadWord`
-/// comes at a word that is unknown, missing or too many, and at one in a hash's place that isn't 16 lower-case
-/// hexadecimal digits; it is of line 0 where every line is passed over. `BadNumber` comes at a word in the place of a
-/// number, a peer or a client that isn't one to ten digits, and at a number out of its range; `NoSuchClient` at a peer or
-/// a client that isn't below the number of clients; `TooManyOrders` at the word that begins an order behind `MAX_ORDERS`
-/// others; `TooManyEvents` at an event behind [`MAX_EVENTS`] others, before its words. `NoMemory` is want of memory, and
-/// may come in place of any answer.
-#[tactic(auto, unfolding(crate::specs::Reading::read_of, crate::specs::Reading::drill_of))]
+/// An `Err` is the first fault: that of the earliest line, and in it that of the first word from
+/// the left. `BadWord` comes at a word that is unknown, missing or too many, and at one in a hash's
+/// place that isn't 16 lower-case hexadecimal digits; it has line 0 where each line is passed over.
+/// `BadNumber` comes at a word in the place of a number, a peer or a client that isn't one to ten
+/// digits, and at a number out of its range; `NoSuchClient` at a peer or a client that isn't below
+/// the number of clients; `TooManyOrders` at the word that begins an order after `MAX_ORDERS`
+/// others; `TooManyEvents` at an event after [`MAX_EVENTS`] others, before its words. `NoMemory` is
+/// out of memory, and may take the place of any answer.
+#[tactic(auto, unfolding(crate::specs::Drill::read_of, crate::specs::Drill::drill_of))]
 pub fn read_drill(alloc: Global, bytes: &[u8]) -> Result<Drill, DrillFault>
     requires { length bytes.now ≤ MAX_DRILL_BYTES }
-    ensures { Gives plain_of result (read_of bytes.now) }
+    ensures { ReturnsRead plain_of result (read_of bytes.now) }
 {
     let mut lines = KeptLines::of(bytes);
-    let Some((number, mut words)) = lines.next() else {
+    let Some((number, mut cursor)) = lines.next() else {
         return Err(DrillFault::BadWord { line: 0 });
     };
-    let head = read_match(&mut words).map_err(|fault| fault_at(fault, number))?;
+    let head = read_match(&mut cursor).map_err(|fault| fault_at(fault, number))?;
     let events = read_events(alloc, head.clients, &mut lines)?;
     Ok(Drill {
         clients: head.clients,
@@ -48,16 +51,20 @@ pub fn read_drill(alloc: Global, bytes: &[u8]) -> Result<Drill, DrillFault>
 }
 
 /// The events of all lines that are left.
-#[tactic(auto, using(crate::proofs::EventLemmas::event_steps))]
-fn read_events(alloc: Global, clients: u8, lines: &mut KeptLines<'_>) -> Result<Events, DrillFault>
-    ensures events { Gives (λ events. events) result (events_from clients 0 lines.old) }
-    ensures within { IfOk result (λ events. length events ≤ MAX_EVENTS) }
+#[tactic(auto, using(crate::proofs::DrillLemmas::event_steps))]
+fn read_events(
+    alloc: Global,
+    clients: u8,
+    lines: &mut KeptLines<'_>,
+) -> Result<EventList, DrillFault>
+    ensures events { ReturnsRead (λ events. events) result (events_from clients 0 lines.old) }
+    ensures few { IfOk result (λ events. length events ≤ MAX_EVENTS) }
     ensures fit { IfOk result (λ events. list_all (event_fits clients) events ≡ true) }
 {
-    let mut events = Events::new(alloc);
-    while let Some((number, words)) = lines.next() {
-        let before = events.as_slice().len();
-        let event = event_line(clients, before, number, words)?;
+    let mut events = EventList::new(alloc);
+    while let Some((number, cursor)) = lines.next() {
+        let before = events.len();
+        let event = read_event_on(clients, before, number, cursor)?;
         let Ok(()) = events.push(event) else {
             return Err(DrillFault::NoMemory);
         };
@@ -65,22 +72,23 @@ fn read_events(alloc: Global, clients: u8, lines: &mut KeptLines<'_>) -> Result<
     Ok(events)
 }
 
-/// The event of a line that comes behind so many others.
-#[tactic(auto, unfolding(crate::specs::Reading::event_on))]
-fn event_line(
+/// The event of a line that follows so many others.
+#[tactic(auto, unfolding(crate::specs::Drill::event_on))]
+fn read_event_on(
     clients: u8,
     before: usize,
     number: u32,
-    mut words: Words<'_>,
+    mut cursor: WordCursor<'_>,
 ) -> Result<Event, DrillFault>
-    ensures line { result ≡ event_on clients before (record { number = number; words = words.entry }) }
+    ensures line { result
+        ≡ event_on clients before (record { number = number; words = cursor.entry }) }
     ensures room { IfOk result (λ _. before ≢ MAX_EVENTS) }
     ensures fits { IfOk result (λ event. event_fits clients event ≡ true) }
 {
     if before == MAX_EVENTS as usize {
         return Err(DrillFault::TooManyEvents { line: number });
     }
-    read_event(clients, &mut words).map_err(|fault| fault_at(fault, number))
+    read_event(clients, &mut cursor).map_err(|fault| fault_at(fault, number))
 }
 
 /// The fault of a line, by that of its word.

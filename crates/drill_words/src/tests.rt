@@ -1,28 +1,34 @@
 //! Drills that are read, and faulty ones with the letter of their fault and its line.
 
-use crate::{Drill, DrillFault, Event, Events, MAX_DRILL_BYTES, MAX_EVENTS, read_drill};
+use crate::{
+    Drill, DrillFault, Event, EventList, EventView, MAX_DRILL_BYTES, MAX_EVENTS, read_drill,
+};
 use game_orders::{Order, Orders};
 use std::alloc::{AllocError, Global};
 use std::process::Abort;
 use std::test::Fail;
 
-/// The letter of a drill's fault and its line: `W` for a word, `N` for a number, `C` for a client, `O` for too
-/// many orders and `E` for too many events. A drill that is read has `-`, and want of memory `M`.
+/// The letter of a drill's fault and its line: `W` for a word, `N` for a number, `C` for a client,
+/// `O` for too many orders and `E` for too many events. A drill that is read has `-`, and out of
+/// memory has `M`.
 fn fault(rt: &impl Abort, alloc: Global, text: &[u8]) -> (u8, u32) {
     assert!(rt; text.len() <= MAX_DRILL_BYTES as usize);
-    match read_drill(alloc, text) {
-        Ok(_) => (b'-', 0),
-        Err(DrillFault::BadWord { line }) => (b'W', line),
-        Err(DrillFault::BadNumber { line }) => (b'N', line),
-        Err(DrillFault::NoSuchClient { line }) => (b'C', line),
-        Err(DrillFault::TooManyOrders { line }) => (b'O', line),
-        Err(DrillFault::TooManyEvents { line }) => (b'E', line),
-        Err(DrillFault::NoMemory) => (b'M', 0),
-    }
+    let Err(fault) = read_drill(alloc, text) else {
+        return (b'-', 0);
+    };
+    let letter = match fault.cause() {
+        "BadWord" => b'W',
+        "BadNumber" => b'N',
+        "NoSuchClient" => b'C',
+        "TooManyOrders" => b'O',
+        "TooManyEvents" => b'E',
+        _ => b'M',
+    };
+    (letter, fault.line())
 }
 
 /// Texts without a kept line, faulty match lines, and texts of which several lines are faulty.
-const TEXTS: [(&[u8], u8, u32); 34] = [
+const TEXTS: [(&[u8], u8, u32); 35] = [
     // No line is kept.
     (b"", b'W', 0),
     (b"\n\n", b'W', 0),
@@ -45,8 +51,8 @@ const TEXTS: [(&[u8], u8, u32); 34] = [
     (b"match 1 2 3 #", b'W', 1),
     (b"match one 2 3", b'N', 1),
     (b"match 0 2 3", b'N', 1),
-    (b"match 9 2 3", b'N', 1),
-    (b"match 9 0 x y", b'N', 1),
+    (b"match 17 2 3", b'N', 1),
+    (b"match 17 0 x y", b'N', 1),
     (b"match +1 2 3", b'N', 1),
     (b"match 00000000001 2 3", b'N', 1),
     (b"match 1 0 3", b'N', 1),
@@ -60,7 +66,9 @@ const TEXTS: [(&[u8], u8, u32); 34] = [
     (b"match 1 2 3\n\n# seal\nseal 0\r\nup x\nseal 1\n", b'N', 5),
     (b"match 2 2 3\nup 0\n\ttick 0 0\nnothing", b'W', 3),
     (b"#\xff\nmatch 1 2 3\nup \xb5", b'N', 3),
-    (b"match 9\nnothing", b'N', 1),
+    (b"match 17\nnothing", b'N', 1),
+    // The last of sixteen clients, and one more.
+    (b"match 16 2 3\nseal 15\ndown 0 15 7\nbye 16", b'C', 4),
 ];
 
 #[test]
@@ -70,7 +78,7 @@ fn texts_are_refused(rt: HostRuntime) {
     }
 }
 
-/// The letter of the fault of a line behind the match line of two clients.
+/// The letter of the fault of a line after the match line of two clients.
 fn event_fault(rt: &impl Abort, alloc: Global, event: &[u8]) -> Result<u8, AllocError> {
     let mut text = Vec::from_slice(alloc, b"match 2 2 3\n")?;
     text.extend_from_slice(event)?;
@@ -80,7 +88,7 @@ fn event_fault(rt: &impl Abort, alloc: Global, event: &[u8]) -> Result<u8, Alloc
 }
 
 /// Event lines of a match of two clients.
-static EVENTS: [(&[u8], u8); 82] = [
+static EVENTS: [(&[u8], u8); 109] = [
     (b"sea 0", b'W'),
     (b"SEAL 0", b'W'),
     (b"seals 0", b'W'),
@@ -99,8 +107,35 @@ static EVENTS: [(&[u8], u8); 82] = [
     (b"seal donate 1 5", b'N'),
     (b"seal 7 move", b'C'),
     // The word of an order.
-    (b"seal 0 move 1 2 3", b'W'),
-    (b"seal 0 stop 1", b'W'),
+    (b"seal 0 move 1 2 3", b'-'),
+    (b"seal 0 move+ 4294967295 255 255", b'-'),
+    (b"seal 0 move 4294967296 2 3", b'N'),
+    (b"seal 0 move 1 256 3", b'N'),
+    (b"seal 0 move 1 2 256", b'N'),
+    (b"seal 0 move 1 2", b'W'),
+    (b"seal 0 move 1 2 3 4", b'W'),
+    (b"seal 0 move + 1 2 3", b'N'),
+    (b"seal 0 move++ 1 2 3", b'W'),
+    (b"seal 0 attack 1 4294967295", b'-'),
+    (b"seal 0 attack+ 1 2", b'-'),
+    (b"seal 0 attack 1 4294967296", b'N'),
+    (b"seal 0 attack 1", b'W'),
+    (b"seal 0 harvest 1 0 255", b'-'),
+    (b"seal 0 harvest+ 1 2 3 ; stop 1", b'-'),
+    (b"seal 0 harvest 1 2 256", b'N'),
+    (b"seal 0 stop 4294967295", b'-'),
+    (b"seal 0 stop+ 1", b'W'),
+    (b"seal 0 stop", b'W'),
+    (b"seal 0 produce 1 65535", b'-'),
+    (b"seal 0 produce 1 65536", b'N'),
+    (b"seal 0 produce 1", b'W'),
+    (b"seal 0 cancel 1", b'-'),
+    (b"seal 0 cancel 1 2", b'W'),
+    (b"seal 0 pace 255", b'-'),
+    (b"seal 0 pace 0 ; pace 9", b'-'),
+    (b"seal 0 pace 256", b'N'),
+    (b"seal 0 pace+ 1", b'W'),
+    (b"seal 0 halt 1", b'W'),
     (b"seal 0 Donate 1 5", b'W'),
     // Its numbers.
     (b"seal 0 donate", b'W'),
@@ -181,7 +216,7 @@ fn events_are_refused(rt: HostRuntime) -> Result<(), Fail> {
     Ok(())
 }
 
-/// A line of so many orders, and of what comes behind them.
+/// A line of so many orders, and of what follows them.
 fn seal_of(alloc: Global, orders: u32, rest: &[u8]) -> Result<Vec<u8>, AllocError> {
     let mut line = Vec::from_slice(alloc, b"seal 0 donate 1 1")?;
     for _ in 1..orders {
@@ -191,7 +226,7 @@ fn seal_of(alloc: Global, orders: u32, rest: &[u8]) -> Result<Vec<u8>, AllocErro
     Ok(line)
 }
 
-/// Lines of many orders. A word that begins the seventeenth one is looked at, and its numbers are not.
+/// Lines of many orders. The word that begins the seventeenth one is read, and its numbers are not.
 const MANY: [(u32, &[u8], u8); 8] = [
     (16, b"", b'-'),
     (17, b"", b'O'),
@@ -232,7 +267,7 @@ fn events_are_counted(rt: HostRuntime) -> Result<(), Fail> {
     Ok(())
 }
 
-/// A drill that is read in one line: its clients, lag and seed, and each event behind a comma.
+/// A drill that is read in one line: its clients, lag and seed, and each event after a comma.
 fn shown(rt: &impl Abort, alloc: Global, text: &[u8]) -> Result<String, AllocError> {
     assert!(rt; text.len() <= MAX_DRILL_BYTES as usize);
     let Ok(drill) = read_drill(alloc, text) else {
@@ -244,34 +279,39 @@ fn shown(rt: &impl Abort, alloc: Global, text: &[u8]) -> Result<String, AllocErr
         seed,
         events,
     } = drill;
-    let events = Events::of(events.into_vec());
     let mut line = format!(in alloc; "{clients} {lag} {seed}")?;
-    for event in events.as_slice() {
-        show_event(&mut line, event)?;
-    }
+    show_events(&mut line, &events)?;
     Ok(line)
 }
 
+/// Adds events to a line.
+fn show_events(line: &mut String, events: &EventList) -> Result<(), AllocError> {
+    for index in 0..events.len() {
+        show_event(line, events.get(index))?;
+    }
+    Ok(())
+}
+
 /// Adds an event to a line.
-fn show_event(line: &mut String, event: &Event) -> Result<(), AllocError> {
+fn show_event(line: &mut String, event: EventView<'_>) -> Result<(), AllocError> {
     match event {
-        Event::Seal { peer, orders } => show_seal(line, *peer, orders),
-        Event::Up { packet } => write!(line, ", up {packet}"),
-        Event::Down {
+        EventView::Seal { peer, orders } => show_seal(line, peer, &orders.copy()),
+        EventView::Up { packet } => write!(line, ", up {packet}"),
+        EventView::Down {
             peer,
             client,
             frame,
         } => write!(line, ", down {peer} {client} {frame}"),
-        Event::Tick { peer } => write!(line, ", tick {peer}"),
-        Event::TickServer => write!(line, ", tick server"),
-        Event::DropClient { client } => write!(line, ", drop {client}"),
-        Event::Report { peer } => write!(line, ", report {peer}"),
-        Event::Forge {
+        EventView::Tick { peer } => write!(line, ", tick {peer}"),
+        EventView::TickServer => write!(line, ", tick server"),
+        EventView::DropClient { client } => write!(line, ", drop {client}"),
+        EventView::Report { peer } => write!(line, ", report {peer}"),
+        EventView::Forge {
             client,
             frame,
             hash,
         } => write!(line, ", forge {client} {frame} {hash}"),
-        Event::Bye { peer } => write!(line, ", bye {peer}"),
+        EventView::Bye { peer } => write!(line, ", bye {peer}"),
     }
 }
 
@@ -291,7 +331,7 @@ fn show_seal(line: &mut String, peer: u8, orders: &Orders) -> Result<(), AllocEr
 const DRILLS: [(&[u8], &[u8]); 14] = [
     // Without events, with and without a last line feed.
     (b"match 1 2 5489\n", b"1 2 5489"),
-    (b"match 8 2 5489", b"8 2 5489"),
+    (b"match 16 2 5489", b"16 2 5489"),
     (b"match 1 64 4294967295", b"1 64 4294967295"),
     // Each event.
     (b"match 2 1 0\nseal 1\nup 0", b"2 1 0, seal 1 of 0, up 0"),
@@ -309,8 +349,8 @@ const DRILLS: [(&[u8], &[u8]); 14] = [
         b"8 1 0, forge 6 9 81985529216486895",
     ),
     (
-        b"match 8 1 0\nforge 0 4294967295 ffffffffffffffff",
-        b"8 1 0, forge 0 4294967295 18446744073709551615",
+        b"match 16 1 0\nforge 15 4294967295 ffffffffffffffff",
+        b"16 1 0, forge 15 4294967295 18446744073709551615",
     ),
     // Orders. A receiver need not be of the match.
     (
@@ -345,5 +385,33 @@ fn sixteen_orders_are_read(rt: HostRuntime) -> Result<(), Fail> {
     let want =
         b"2 2 3, seal 0 of 16 1:1 1:1 1:1 1:1 1:1 1:1 1:1 1:1 1:1 1:1 1:1 1:1 1:1 1:1 1:1 0:9";
     assert_eq!(rt; got.as_bytes(), want.as_slice());
+    Ok(())
+}
+
+/// A seal of so many orders, with amounts from `first` on.
+fn seal(peer: u8, first: u32, count: u32) -> Event {
+    let mut orders = Orders::empty();
+    for index in 0..count {
+        let _ = orders.try_push(Order::Donate {
+            to: peer,
+            amount: first.wrapping_add(index),
+        });
+    }
+    Event::Seal { peer, orders }
+}
+
+#[test]
+fn each_seal_keeps_its_own_orders(rt: HostRuntime) -> Result<(), Fail> {
+    let mut events = EventList::new(rt.alloc());
+    events.push(seal(0, 10, 2))?;
+    events.push(Event::TickServer)?;
+    events.push(seal(1, 20, 0))?;
+    events.push(seal(2, 30, 3))?;
+    events.push(Event::Up { packet: 9 })?;
+    let mut line = String::new(rt.alloc());
+    show_events(&mut line, &events)?;
+    let want =
+        b", seal 0 of 2 0:10 0:11, tick server, seal 1 of 0, seal 2 of 3 2:30 2:31 2:32, up 9";
+    assert_eq!(rt; line.as_bytes(), want.as_slice());
     Ok(())
 }

@@ -1,4 +1,4 @@
-/// What is wrong with the first word of a line that doesn't fit.
+/// The fault of the first word of a line that doesn't fit.
 #[derive(Clone, Copy, Debug)]
 pub(crate) enum WordFault {
     /// The word is unknown, missing or too many.

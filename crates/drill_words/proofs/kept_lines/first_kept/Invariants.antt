@@ -1,7 +1,7 @@
--- The lines that are passed over say nothing.
+-- The lines so far are passed over.
 use Rattle.std.proofs.Common.{◌≡◌, ◌+◌, ◌<◌, ◌^◌, length}
 use Rattle.base.specs.Lines.{lines_of}
-use Rattle.drill_words.specs.Lines.{kept_from}
+use Rattle.drill_words.specs.KeptLine.{kept_from}
 use Rattle.drill_words.proofs.kept_lines.first_kept.Given as goal
 
 abbrev pub invariant-loop-rest : goal.invariant-loop-rest

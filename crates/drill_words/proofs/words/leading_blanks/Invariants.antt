@@ -1,8 +1,0 @@
--- What is counted so far, and what is left to count, is the whole.
-use Rattle.std.proofs.Common.{◌≡◌, ◌+◌, drop}
-use Rattle.std.specs.List.{prefix_len}
-use Rattle.drill_words.specs.Lines.{is_blank}
-use Rattle.drill_words.proofs.words.leading_blanks.Given as goal
-
-abbrev pub invariant-loop-index : goal.invariant-loop-index
-invariant-loop-index l = l.index + prefix_len is_blank (drop l.index l.line) ≡ prefix_len is_blank l.line

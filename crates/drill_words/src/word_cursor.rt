@@ -1,0 +1,184 @@
+ghost use Rattle.std.specs.Prelude.{◌≡◌, ◌∷◌, ◌<◌, ◌≤◌, true, false, [], length, MatchOption};
+ghost use Rattle.std.specs.Prelude.{MatchResult, IfOk, Ok, Err};
+ghost use Rattle.std.specs.List.{prefix_len};
+ghost use Rattle.drill_words.specs.Words.{is_blank, is_of_word, words_of};
+ghost use Rattle.drill_words.specs.Read.{Takes, after_word, number_at, client_of, client_at};
+ghost use Rattle.drill_words.specs.Read.{hash_at, none_left};
+
+use crate::hash::read_hash;
+use crate::word_fault::WordFault;
+use base::read_number;
+use std::marker::Model;
+
+/// The words of a line that are still to be read, from the left.
+#[derive(Drop)]
+pub(crate) struct WordCursor<'a> {
+    rest: &'a [u8],
+}
+
+impl<'a> Model for WordCursor<'a> {
+    ghost use Rattle.std.specs.Prelude.{List, ℕ};
+    ghost use Rattle.std.specs.List.{prefix_len};
+    ghost use Rattle.drill_words.specs.Words.{words_of};
+
+    ghost Value = { List (List ℕ) };
+
+    ghost view = { λ cursor. words_of cursor.rest.now };
+}
+
+impl<'a> WordCursor<'a> {
+    /// The words of a line.
+    pub(crate) fn of(line: &'a [u8]) -> WordCursor<'a>
+        ensures { result ≡ words_of line.now }
+    {
+        WordCursor { rest: line }
+    }
+
+    /// Takes the next word. None where no word is left.
+    pub(crate) fn next(&mut self) -> Option<&'a [u8]>
+        ensures { MatchOption result ((self.old ≡ []) × (self.new ≡ []))
+            (λ word. self.old ≡ word.now ∷ self.new) }
+    {
+        let (word, rest) = split_word(self.rest)?;
+        self.rest = rest;
+        Some(word)
+    }
+
+    /// Takes the next word, which has to be there.
+    pub(crate) fn required(&mut self) -> Result<&'a [u8], WordFault>
+        ensures { MatchResult result (λ word. self.old ≡ word.now ∷ self.new)
+            (λ fault. (self.old ≡ []) × (fault ≡ WordFault.BadWord)) }
+    {
+        match self.next() {
+            Some(word) => Ok(word),
+            None => Err(WordFault::BadWord),
+        }
+    }
+
+    /// Takes this word and no other.
+    #[tactic(auto, unfolding(crate::specs::Read::after_word))]
+    pub(crate) fn word(&mut self, text: &[u8]) -> Result<(), WordFault>
+        ensures { MatchResult result (λ _. after_word text.now self.old ≡ Ok self.new)
+            (λ fault. after_word text.now self.old ≡ Err fault) }
+    {
+        if self.required()? == text {
+            Ok(())
+        } else {
+            Err(WordFault::BadWord)
+        }
+    }
+
+    /// Takes a number from `least` to `most`.
+    #[tactic(auto, unfolding(crate::specs::Read::number_at))]
+    pub(crate) fn number(&mut self, least: u32, most: u32) -> Result<u32, WordFault>
+        ensures taken { Takes result self.new (number_at least most self.old) }
+        ensures low { IfOk result (λ number. least ≤ number) }
+        ensures high { IfOk result (λ number. number ≤ most) }
+    {
+        match read_number(self.required()?) {
+            Some(number) if u64::from(least) <= number && number <= u64::from(most) => {
+                Ok(number as u32)
+            }
+            _ => Err(WordFault::BadNumber),
+        }
+    }
+
+    /// Takes the number of a client, which is below the number of clients.
+    #[tactic(auto, unfolding(crate::specs::Read::client_at))]
+    pub(crate) fn client(&mut self, clients: u8) -> Result<u8, WordFault>
+        ensures taken { Takes result self.new (client_at clients self.old) }
+        ensures below { IfOk result (λ client. client < clients) }
+    {
+        client_of(self.required()?, clients)
+    }
+
+    /// Takes a hash: exactly 16 lower-case hexadecimal digits.
+    #[tactic(auto, unfolding(crate::specs::Read::hash_at))]
+    pub(crate) fn hash(&mut self) -> Result<u64, WordFault>
+        ensures { Takes result self.new (hash_at self.old) }
+    {
+        match read_hash(self.required()?) {
+            Some(hash) => Ok(hash),
+            None => Err(WordFault::BadWord),
+        }
+    }
+
+    /// True where no word is left.
+    pub(crate) fn is_done(&self) -> bool
+        ensures { result ≡ none_left self.now }
+    {
+        split_word(self.rest).is_none()
+    }
+
+    /// Finds that no word is left.
+    pub(crate) fn end(&self) -> Result<(), WordFault>
+        ensures { MatchResult result (λ _. none_left self.now ≡ true)
+            (λ fault. (none_left self.now ≡ false) × (fault ≡ WordFault.BadWord)) }
+    {
+        if self.is_done() {
+            Ok(())
+        } else {
+            Err(WordFault::BadWord)
+        }
+    }
+}
+
+/// The client that a word names.
+pub(crate) fn client_of(word: &[u8], clients: u8) -> Result<u8, WordFault>
+    ensures client { result ≡ client_of clients word.now }
+    ensures below { IfOk result (λ client. client < clients) }
+{
+    match read_number(word) {
+        None => Err(WordFault::BadNumber),
+        Some(number) if number < u64::from(clients) => Ok(number as u8),
+        Some(_) => Err(WordFault::NoSuchClient),
+    }
+}
+
+/// A space, a tab or a carriage return.
+fn is_blank(byte: u8) -> bool
+    ensures { result ≡ is_blank byte }
+{
+    byte == b' ' || byte == b'\t' || byte == b'\r'
+}
+
+/// How many blanks a line begins with.
+fn leading_blanks(line: &[u8]) -> usize
+    ensures count { result ≡ prefix_len is_blank line.now }
+    ensures limit { result ≤ length line.now }
+{
+    for (index, byte) in line.iter().enumerate() {
+        if !is_blank(*byte) {
+            return index;
+        }
+    }
+    line.len()
+}
+
+/// How many bytes come before the first blank.
+fn word_length(line: &[u8]) -> usize
+    ensures count { result ≡ prefix_len is_of_word line.now }
+    ensures limit { result ≤ length line.now }
+{
+    for (index, byte) in line.iter().enumerate() {
+        if is_blank(*byte) {
+            return index;
+        }
+    }
+    line.len()
+}
+
+/// The first word of a line, and what follows it.
+#[tactic(auto, using(crate::proofs::WordsLemmas::word_steps))]
+fn split_word(line: &[u8]) -> Option<(&[u8], &[u8])>
+    ensures { MatchOption result (words_of line.now ≡ [])
+        (λ split. words_of line.now ≡ split.0.now ∷ words_of split.1.now) }
+{
+    let blanks = leading_blanks(line);
+    if blanks == line.len() {
+        return None;
+    }
+    let (_, from_word) = line.split_at(blanks);
+    let length = word_length(from_word);
+    Some(from_word.split_at(length))
+}
