@@ -1,6 +1,12 @@
-pub mod StageLemmas
-pub mod WithinLemmas
-pub mod HappenLemmas
+pub mod RunningMatchLemmas
+pub mod InFramesLemmas
+pub mod EventLemmas
 pub mod OpeningLemmas
-pub mod RunLemmas
-pub mod DrillLemmas
+pub mod RunsEventsLemmas
+pub mod DrilledLemmas
+pub mod RecordLemmas
+pub mod ArrivedLemmas
+pub mod TickedLemmas
+pub mod FoundLemmas
+pub mod SealedLemmas
+pub mod GrownLemmas

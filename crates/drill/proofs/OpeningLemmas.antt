@@ -1,16 +1,19 @@
 -- The opening of a drill is whole, sound, and the record's opening.
-use Rattle.std.proofs.Common.{◌≡◌, ℕ, zero, suc, ◌+◌, ◌-◌, ◌<◌, List, [], ◌∷◌, ◌++◌, length, map, replicate, refl, sym, ap, ◌∙◌, arith, append_assoc}
+use Rattle.std.proofs.Common.{◌≡◌, ℕ, zero, suc, ◌+◌, ◌-◌, ◌<◌, List, [], ◌∷◌, ◌++◌, length, map}
+use Rattle.std.proofs.Common.{replicate}
+use Rattle.std.proofs.Common.{refl, sym, ap, ◌∙◌, arith, append_assoc}
 use Rattle.std.specs.List.{AllByRecursion}
 use Rattle.game_orders.specs.declared.entry.Entry.{Entry}
 use Rattle.frame_core.specs.Column.{Column, no_column}
 use Rattle.peer_core.specs.Peer.{PeerState, fresh_peer}
-use Rattle.server_core.specs.Served.{fresh_served}
-use Rattle.peer_core.specs.Faithful.{IsFaithful, fresh_faithful}
-use Rattle.server_core.specs.Server.{fresh_server}
-use Rattle.drill.specs.Opening.{fresh_peers}
+use Rattle.peer_core.specs.Faithful.{IsFaithful}
+use Rattle.peer_core.specs.FaithfulLemmas.{fresh_faithful}
+use Rattle.server_core.specs.ServedLemmas.{fresh_is_served}
+use Rattle.frame_core.specs.Match.{Match}
 use Rattle.drill.specs.Record.{nothing_reached, opening}
-use Rattle.drill.proofs.WithinLemmas.{fresh_within}
-use Rattle.drill.specs.Stage.{reached_of, progress_of, AreNumbered, IsWhole, IsSound}
+use Rattle.drill.specs.RunningMatch.{reached_of, progress_of, AreNumbered, IsWhole, IsSound}
+use Rattle.drill.specs.Opening.{fresh_peers, fresh_run}
+use Rattle.drill.proofs.InFramesLemmas.{fresh_in_frames}
 
 -- One peer more: what is held and what is left are together all peers still.
 pub fresh_push :
@@ -35,14 +38,19 @@ length-copies : {X : Type 0} (n : ℕ) (x : X) → length (replicate n x) ≡ n
 length-copies zero x = refl
 length-copies (suc n) x = ap suc (length-copies n x)
 
-numbered-fresh : {W : Type 0} (clients lag : ℕ) (world : W) (me n : ℕ) → AreNumbered clients lag me (fresh_peers clients lag world me n)
+numbered-fresh :
+    {W : Type 0} (clients lag : ℕ) (world : W) (me n : ℕ) →
+    AreNumbered clients lag me (fresh_peers clients lag world me n)
 numbered-fresh clients lag world me zero = tt
 numbered-fresh clients lag world me (suc n) =
-    (record { own = refl; all = refl; ahead = refl }, numbered-fresh clients lag world (me + 1) n)
+    (record { me = refl; clients_are = refl; lag_is = refl }, numbered-fresh clients lag world (me + 1) n)
 
-reached-fresh : {W : Type 0} (clients lag : ℕ) (world : W) (me n : ℕ) → map reached_of (fresh_peers clients lag world me n) ≡ replicate n nothing_reached
+reached-fresh :
+    {W : Type 0} (clients lag : ℕ) (world : W) (me n : ℕ) →
+    map reached_of (fresh_peers clients lag world me n) ≡ replicate n nothing_reached
 reached-fresh clients lag world me zero = refl
-reached-fresh clients lag world me (suc n) = ap (λ rest. nothing_reached ∷ rest) (reached-fresh clients lag world (me + 1) n)
+reached-fresh clients lag world me (suc n) =
+    ap (λ rest. nothing_reached ∷ rest) (reached-fresh clients lag world (me + 1) n)
 
 faithful-fresh :
     {W : Type 0} (after : W → List Entry → W) (start : W) (columns : List Column) (clients lag me n : ℕ) →
@@ -51,29 +59,25 @@ faithful-fresh after start columns clients lag me zero = tt
 faithful-fresh after start columns clients lag me (suc n) =
     (fresh_faithful after start columns me clients lag, faithful-fresh after start columns clients lag (me + 1) n)
 
-pub opening_whole :
-    {W : Type 0} (clients lag : ℕ) (world : W) → IsWhole clients lag [] (fresh_server clients world) (fresh_peers clients lag world 0 clients)
+pub opening_whole : {W : Type 0} (clients lag : ℕ) (world : W) → IsWhole (fresh_run clients lag world)
 opening_whole clients lag world =
     record {
       senders = tt;
-      columned = length-copies clients no_column;
-      boarded = length-copies clients [];
-      within = fresh_within clients;
-      counted = length-fresh clients lag world 0 clients;
-      numbered = numbered-fresh clients lag world 0 clients;
+      columns = length-copies clients no_column;
+      reports = length-copies clients [];
+      in_frames = fresh_in_frames clients;
+      peers = length-fresh clients lag world 0 clients;
+      numbers = numbered-fresh clients lag world 0 clients;
     }
 
-pub opening_sound :
-    {W : Type 0} (after : W → List Entry → W) (hash : W → ℕ) (start : W) (clients lag : ℕ) →
-    IsSound after hash start (fresh_server clients start) (fresh_peers clients lag start 0 clients)
-opening_sound after hash start clients lag =
+pub opening_sound : {W : Type 0} (m : Match W) → IsSound m (fresh_run m.clients m.lag m.start)
+opening_sound m =
     record {
-      served = fresh_served after hash start clients;
-      each = faithful-fresh after start (replicate clients no_column) clients lag 0 clients;
+      served = fresh_is_served m m.clients;
+      each = faithful-fresh m.after m.start (replicate m.clients no_column) m.clients m.lag 0 m.clients;
     }
 
 pub opening_progress :
-    {W : Type 0} (clients lag : ℕ) (world : W) →
-    progress_of [] (fresh_server clients world) (fresh_peers clients lag world 0 clients) ≡ opening clients
+    {W : Type 0} (clients lag : ℕ) (world : W) → progress_of (fresh_run clients lag world) ≡ opening clients
 opening_progress clients lag world =
-    ap (λ peers. let first = opening clients in record first { peers = peers }) (reached-fresh clients lag world 0 clients)
+    ap (λ peers. record (opening clients) { peers = peers }) (reached-fresh clients lag world 0 clients)

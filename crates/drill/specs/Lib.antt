@@ -1,8 +1,10 @@
-pub mod Packet
+pub mod Entering
 pub mod Text
 pub mod Record
 pub mod Shown
 pub mod Report
+pub mod RunningMatch
 pub mod Opening
-pub mod Stage
-pub mod Run
+pub mod RunsEvents
+pub mod Drilled
+pub mod Agreement

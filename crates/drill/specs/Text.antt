@@ -1,8 +1,7 @@
 -- The printed words of a report.
-use Rattle.std.specs.Prelude.{ℕ, zero, suc, ◌+◌, ◌/◌, ◌%◌, nat_lt, if◌then◌else◌, Bool, true, false, List, [], ◌∷◌, ◌++◌, codes}
+use Rattle.std.specs.Prelude.{ℕ, zero, suc, ◌+◌, ◌/◌, ◌%◌, nat_lt, if◌then◌else◌, Bool, true, false}
+use Rattle.std.specs.Prelude.{List, [], ◌∷◌, ◌++◌, codes}
 use Rattle.std.specs.Fmt.{decimal}
-use Rattle.frame_core.specs.declared.put.Put.{Put}
-use Rattle.frame_core.specs.declared.put.Put.TheVariants.{Fixed, Repeat, Conflict, Left, Ahead, Full}
 use Rattle.frame_core.specs.declared.tick_answer.TickAnswer.{TickAnswer}
 use Rattle.frame_core.specs.declared.tick_answer.TickAnswer.TheVariants.{Ticked, NotYet, Over}
 use Rattle.frame_core.specs.declared.summary.Summary.{Summary}
@@ -12,9 +11,16 @@ use Rattle.server_core.specs.declared.reported.Reported.{Reported as ReportAnswe
 use Rattle.server_core.specs.declared.reported.Reported.TheVariants as report
 use Rattle.server_core.specs.declared.alarm.Alarm.{Alarm}
 use Rattle.peer_core.specs.declared.seal_fault.SealFault.{SealFault}
-use Rattle.peer_core.specs.declared.seal_fault.SealFault.TheVariants.{TooEarly, LeftAlready, MatchFull}
+use Rattle.peer_core.specs.declared.seal_fault.SealFault.TheVariants.{TooEarly, LeftAlready}
+use Rattle.peer_core.specs.declared.seal_fault.SealFault.TheVariants.{MatchFull}
+use Rattle.drill.specs.declared.entering.Entering.{Entering}
+use Rattle.drill.specs.declared.entering.Entering.TheVariants.{Fixed, Repeat, Conflict, Left, Ahead}
+use Rattle.drill.specs.declared.entering.Entering.TheVariants.{Full}
 use Rattle.drill.specs.declared.outcome.Outcome.{Outcome}
-use Rattle.drill.specs.declared.outcome.Outcome.TheVariants.{Sealed, NotSealed, NoPacket, Entered, Reported, Leaves, NoEntry, Arrived, Repeated, Ticking, ReportSent, NoFrame, ByeSent}
+use Rattle.drill.specs.declared.outcome.Outcome.TheVariants.{Sealed, NotSealed, NoPacket, Entered}
+use Rattle.drill.specs.declared.outcome.Outcome.TheVariants.{Reported, Leaves, NoEntry}
+use Rattle.drill.specs.declared.outcome.Outcome.TheVariants.{Arrived, Repeated, Ticking, ReportSent}
+use Rattle.drill.specs.declared.outcome.Outcome.TheVariants.{NoFrame, ByeSent}
 
 -- A digit 0 to 15, in lower case.
 abbrev pub hex_digit : ℕ → ℕ
@@ -29,7 +35,7 @@ hex_from (suc digits) n = hex_from digits (n / 16) ++ hex_digit (n % 16) ∷ []
 unfoldable pub hash_text : ℕ → List ℕ
 hash_text hash = hex_from 16 hash
 
--- A client's frame behind a word.
+-- A client's frame after a word.
 abbrev pub place_text : List ℕ → ℕ → ℕ → List ℕ
 place_text word client frame = word ++ codes " " ++ decimal client ++ codes " " ++ decimal frame
 
@@ -40,13 +46,14 @@ seal_fault_text LeftAlready = codes "left already"
 seal_fault_text MatchFull = codes "match full"
 
 -- What a column answered to orders.
-abbrev pub put_text : ℕ → ℕ → Put → List ℕ
-put_text client frame Fixed = place_text (codes "entry") client frame
-put_text client frame Repeat = place_text (codes "repeat") client frame
-put_text client frame (Conflict kept) = place_text (codes "conflict") client frame
-put_text client frame (Left at) = place_text (codes "left") client at
-put_text client frame (Ahead length) = place_text (codes "ahead") client frame ++ codes " " ++ decimal length
-put_text client frame Full = codes "full " ++ decimal client
+abbrev pub entering_text : ℕ → ℕ → Entering → List ℕ
+entering_text client frame Fixed = place_text (codes "entry") client frame
+entering_text client frame Repeat = place_text (codes "repeat") client frame
+entering_text client frame Conflict = place_text (codes "conflict") client frame
+entering_text client frame (Left at) = place_text (codes "left") client at
+entering_text client frame (Ahead length) =
+    place_text (codes "ahead") client frame ++ codes " " ++ decimal length
+entering_text client frame Full = codes "full " ++ decimal client
 
 -- What the board answered to a report.
 abbrev pub reported_text : ℕ → ℕ → ReportAnswer → List ℕ
@@ -70,7 +77,7 @@ abbrev pub outcome_text : Outcome → List ℕ
 outcome_text (Sealed frame) = codes "sealed " ++ decimal frame
 outcome_text (NotSealed fault) = seal_fault_text fault
 outcome_text NoPacket = codes "no packet"
-outcome_text (Entered client frame put) = put_text client frame put
+outcome_text (Entered client frame entering) = entering_text client frame entering
 outcome_text (Reported client frame reported) = reported_text client frame reported
 outcome_text (Leaves client leaving) = leaving_text client leaving
 outcome_text NoEntry = codes "no entry"
@@ -90,7 +97,7 @@ abbrev pub event_lines : ℕ → List Outcome → List ℕ
 event_lines number [] = []
 event_lines number (outcome ∷ rest) = event_line number outcome ++ event_lines (number + 1) rest
 
--- The cash of each client, each behind a space.
+-- The cash of each client, each after a space.
 abbrev pub cash_text : List ℕ → List ℕ
 cash_text [] = []
 cash_text (cash ∷ rest) = codes " " ++ decimal cash ++ cash_text rest
@@ -108,21 +115,25 @@ state_text false = codes " playing\n"
 
 -- The line of a client's column: its number of plays, and whether the client left.
 unfoldable pub column_line : ℕ → ℕ → Bool → List ℕ
-column_line client length left = codes "column " ++ decimal client ++ codes " " ++ decimal length ++ state_text left
+column_line client length left =
+    codes "column " ++ decimal client ++ codes " " ++ decimal length ++ state_text left
 
--- The front of a peer's line: its counts of ticked and sealed frames.
+-- The beginning of a peer's line: its counts of ticked and sealed frames.
 unfoldable pub peer_head : ℕ → ℕ → ℕ → List ℕ
-peer_head peer ticked sealed = codes "peer " ++ decimal peer ++ codes " frames " ++ decimal ticked ++ codes " sealed " ++ decimal sealed
+peer_head peer ticked sealed =
+    codes "peer " ++ decimal peer ++ codes " frames " ++ decimal ticked ++ codes " sealed "
+    ++ decimal sealed
 
--- The front of the server's line: its count of ticked frames.
+-- The beginning of the server's line: its count of ticked frames.
 unfoldable pub server_head : ℕ → List ℕ
 server_head ticked = codes "server frames " ++ decimal ticked
 
--- The line of a client's alarm: the frame, the hash that the client reported and the one that was wanted.
+-- The line of a client's alarm: the frame, the hash that the client reported and the one that was
+-- wanted.
 unfoldable pub alarm_line : ℕ → Alarm → List ℕ
 alarm_line client alarm =
-    codes "alarm " ++ decimal client ++ codes " frame " ++ decimal alarm.frame ++ codes " got " ++ hash_text alarm.got
-    ++ codes " want " ++ hash_text alarm.want ++ codes "\n"
+    codes "alarm " ++ decimal client ++ codes " frame " ++ decimal alarm.frame
+    ++ codes " got " ++ hash_text alarm.got ++ codes " want " ++ hash_text alarm.want ++ codes "\n"
 
 -- The last line of a report.
 unfoldable pub end_line : List ℕ

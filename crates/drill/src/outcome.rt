@@ -1,8 +1,9 @@
-use frame_core::{Leaving, Put, TickAnswer};
+use crate::entering::Entering;
+use frame_core::{Leaving, TickAnswer};
 use peer_core::SealFault;
 use server_core::Reported;
 
-/// What an event of a drill came to.
+/// The outcome of an event of a drill.
 #[derive(Debug, Drop)]
 pub enum Outcome {
     /// The peer sealed this frame.
@@ -18,7 +19,7 @@ pub enum Outcome {
         /// Their frame.
         frame: u32,
         /// What the client's column answered.
-        put: Put,
+        entering: Entering,
     },
     /// The server got a report.
     Reported {

@@ -6,7 +6,7 @@ pub enum RunFault {
     /// A write failed: the sink's count of faults rose.
     #[error("a write failed")]
     Write,
-    /// Memory was wanting.
+    /// Out of memory.
     #[error("out of memory")]
     NoMemory,
 }

@@ -1,9 +1,15 @@
 ghost use Rattle.std.specs.Prelude.{◌≡◌, ◌<◌, ◌≤◌, ◌++◌, List, string_bytes, OnOk, length};
-ghost use Rattle.drill.specs.Text.{hex_digit, hex_from, hash_text, place_text, seal_fault_text, put_text, reported_text, leaving_text, tick_text, outcome_text, event_line, cash_text, world_text, column_line, peer_head, server_head, alarm_line, end_line};
+ghost use Rattle.drill.specs.Text.{hex_digit, hex_from, hash_text, place_text, seal_fault_text};
+ghost use Rattle.drill.specs.Text.{entering_text};
+ghost use Rattle.drill.specs.Text.{reported_text, leaving_text, tick_text, outcome_text};
+ghost use Rattle.drill.specs.Text.{event_line, cash_text};
+ghost use Rattle.drill.specs.Text.{world_text, column_line, peer_head, server_head, alarm_line};
+ghost use Rattle.drill.specs.Text.{end_line};
 
+use crate::entering::Entering;
 use crate::outcome::Outcome;
 use base::NoMemory;
-use frame_core::{Leaving, Put, Sim, TickAnswer};
+use frame_core::{Leaving, Sim, TickAnswer};
 use peer_core::SealFault;
 use server_core::{Alarm, Reported};
 use std::fmt::Write;
@@ -15,7 +21,8 @@ pub(crate) fn add_event_line(
     number: u32,
     outcome: &Outcome,
 ) -> Result<(), NoMemory>
-    ensures { OnOk result (string_bytes text.new ≡ string_bytes text.old ++ event_line number outcome.now) }
+    ensures { OnOk result (string_bytes text.new
+        ≡ string_bytes text.old ++ event_line number outcome.now) }
 {
     write!(text, "{number} ")?;
     add_outcome(text, outcome)?;
@@ -24,13 +31,18 @@ pub(crate) fn add_event_line(
 
 /// Adds the result of an event.
 fn add_outcome(text: &mut String, outcome: &Outcome) -> Result<(), NoMemory>
-    ensures { OnOk result (string_bytes text.new ≡ string_bytes text.old ++ outcome_text outcome.now) }
+    ensures { OnOk result (string_bytes text.new
+        ≡ string_bytes text.old ++ outcome_text outcome.now) }
 {
     match outcome {
         Outcome::Sealed(frame) => write!(text, "sealed {frame}"),
         Outcome::NotSealed(fault) => add_seal_fault(text, fault),
         Outcome::NoPacket => write!(text, "no packet"),
-        Outcome::Entered { client, frame, put } => add_put(text, *client, *frame, put),
+        Outcome::Entered {
+            client,
+            frame,
+            entering,
+        } => add_entering(text, *client, *frame, *entering),
         Outcome::Reported {
             client,
             frame,
@@ -49,7 +61,8 @@ fn add_outcome(text: &mut String, outcome: &Outcome) -> Result<(), NoMemory>
 
 /// Adds why a peer could not seal.
 fn add_seal_fault(text: &mut String, fault: &SealFault) -> Result<(), NoMemory>
-    ensures { OnOk result (string_bytes text.new ≡ string_bytes text.old ++ seal_fault_text fault.now) }
+    ensures { OnOk result (string_bytes text.new
+        ≡ string_bytes text.old ++ seal_fault_text fault.now) }
 {
     match fault {
         SealFault::TooEarly => write!(text, "too early"),
@@ -59,16 +72,22 @@ fn add_seal_fault(text: &mut String, fault: &SealFault) -> Result<(), NoMemory>
 }
 
 /// Adds what a column answered to orders.
-fn add_put(text: &mut String, client: u8, frame: u32, put: &Put) -> Result<(), NoMemory>
-    ensures { OnOk result (string_bytes text.new ≡ string_bytes text.old ++ put_text client frame put.now) }
+fn add_entering(
+    text: &mut String,
+    client: u8,
+    frame: u32,
+    entering: Entering,
+) -> Result<(), NoMemory>
+    ensures { OnOk result (string_bytes text.new
+        ≡ string_bytes text.old ++ entering_text client frame entering) }
 {
-    match put {
-        Put::Fixed => write!(text, "entry {client} {frame}"),
-        Put::Repeat => write!(text, "repeat {client} {frame}"),
-        Put::Conflict(_) => write!(text, "conflict {client} {frame}"),
-        Put::Left(at) => write!(text, "left {client} {at}"),
-        Put::Ahead(length) => write!(text, "ahead {client} {frame} {length}"),
-        Put::Full => write!(text, "full {client}"),
+    match entering {
+        Entering::Fixed => write!(text, "entry {client} {frame}"),
+        Entering::Repeat => write!(text, "repeat {client} {frame}"),
+        Entering::Conflict => write!(text, "conflict {client} {frame}"),
+        Entering::Left(at) => write!(text, "left {client} {at}"),
+        Entering::Ahead(length) => write!(text, "ahead {client} {frame} {length}"),
+        Entering::Full => write!(text, "full {client}"),
     }
 }
 
@@ -79,7 +98,8 @@ fn add_reported(
     frame: u32,
     reported: &Reported,
 ) -> Result<(), NoMemory>
-    ensures { OnOk result (string_bytes text.new ≡ string_bytes text.old ++ reported_text client frame reported.now) }
+    ensures { OnOk result (string_bytes text.new
+        ≡ string_bytes text.old ++ reported_text client frame reported.now) }
 {
     match reported {
         Reported::Kept => write!(text, "report {client} {frame}"),
@@ -90,7 +110,8 @@ fn add_reported(
 
 /// Adds what a column answered to a departure.
 fn add_leaving(text: &mut String, client: u8, leaving: &Leaving) -> Result<(), NoMemory>
-    ensures { OnOk result (string_bytes text.new ≡ string_bytes text.old ++ leaving_text client leaving.now) }
+    ensures { OnOk result (string_bytes text.new
+        ≡ string_bytes text.old ++ leaving_text client leaving.now) }
 {
     match leaving {
         Leaving::Fixed(at) => write!(text, "leave {client} {at}"),
@@ -117,7 +138,8 @@ pub(crate) fn add_column_line(
     length: u32,
     left: bool,
 ) -> Result<(), NoMemory>
-    ensures { OnOk result (string_bytes text.new ≡ string_bytes text.old ++ column_line client length left) }
+    ensures { OnOk result (string_bytes text.new
+        ≡ string_bytes text.old ++ column_line client length left) }
 {
     write!(text, "column {client} {length}")?;
     if left {
@@ -127,7 +149,7 @@ pub(crate) fn add_column_line(
     }
 }
 
-/// Adds the front of a peer's line.
+/// Adds the beginning of a peer's line.
 #[tactic(auto, unfolding(crate::specs::Text::peer_head))]
 pub(crate) fn add_peer_head(
     text: &mut String,
@@ -135,12 +157,13 @@ pub(crate) fn add_peer_head(
     ticked: u32,
     sealed: u32,
 ) -> Result<(), NoMemory>
-    ensures { OnOk result (string_bytes text.new ≡ string_bytes text.old ++ peer_head peer ticked sealed) }
+    ensures { OnOk result (string_bytes text.new
+        ≡ string_bytes text.old ++ peer_head peer ticked sealed) }
 {
     write!(text, "peer {peer} frames {ticked} sealed {sealed}")
 }
 
-/// Adds the front of the server's line.
+/// Adds the beginning of the server's line.
 #[tactic(auto, unfolding(crate::specs::Text::server_head))]
 pub(crate) fn add_server_head(text: &mut String, ticked: u32) -> Result<(), NoMemory>
     ensures { OnOk result (string_bytes text.new ≡ string_bytes text.old ++ server_head ticked) }
@@ -151,7 +174,8 @@ pub(crate) fn add_server_head(text: &mut String, ticked: u32) -> Result<(), NoMe
 /// Adds the line of a client's alarm.
 #[tactic(auto, unfolding(crate::specs::Text::alarm_line))]
 pub(crate) fn add_alarm_line(text: &mut String, client: u8, alarm: Alarm) -> Result<(), NoMemory>
-    ensures { OnOk result (string_bytes text.new ≡ string_bytes text.old ++ alarm_line client alarm) }
+    ensures { OnOk result (string_bytes text.new
+        ≡ string_bytes text.old ++ alarm_line client alarm) }
 {
     let frame = alarm.frame;
     write!(text, "alarm {client} frame {frame} got ")?;
@@ -172,7 +196,8 @@ pub(crate) fn add_end_line(text: &mut String) -> Result<(), NoMemory>
 /// Adds the rest of a line that shows a world.
 #[tactic(auto, unfolding(crate::specs::Text::world_text))]
 pub(crate) fn add_world<S: Sim>(text: &mut String, world: &S) -> Result<(), NoMemory>
-    ensures { OnOk result (string_bytes text.new ≡ string_bytes text.old ++ world_text S.hash_of S.summary_of world.now) }
+    ensures { OnOk result (string_bytes text.new
+        ≡ string_bytes text.old ++ world_text S.hash_of S.summary_of world.now) }
 {
     let hash = world.hash();
     let summary = world.summary();
@@ -184,7 +209,7 @@ pub(crate) fn add_world<S: Sim>(text: &mut String, world: &S) -> Result<(), NoMe
     writeln!(text)
 }
 
-/// Adds each amount behind a space.
+/// Adds each amount after a space.
 fn add_cash(text: &mut String, each: &[u32]) -> Result<(), NoMemory>
     ensures { OnOk result (string_bytes text.new ≡ string_bytes text.old ++ cash_text each.now) }
 {
