@@ -1,11 +1,16 @@
 -- The blanks at the end of a text.
-use Rattle.std.proofs.Common.{◌≡◌, ℕ, ◌+◌, ◌-◌, ◌<◌, ◌≤◌, Bool, true, false, ◌&&◌, cond, List, [], ◌∷◌, ◌++◌, length, drop, take, ◌⊎◌, inl, inr, refl, sym, ap, ◌∙◌, arith, eqb, ltb, leb, get_or}
-use Rattle.std.proofs.lemmas.Bool.{cases_Bool, cond-true, cond-false, and_parts, and_right, or_from, or_parts, or_left, or_right, eqb-true, leb-true, ltb-true, le-leb, lt-ltb}
+use Rattle.std.proofs.Common.{◌≡◌, ℕ, ◌+◌, ◌-◌, ◌<◌, ◌≤◌, Bool, true, false, ◌&&◌, cond, List, []}
+use Rattle.std.proofs.Common.{◌∷◌, ◌++◌, length, drop, take, ◌⊎◌, inl, inr, refl, sym, ap, ◌∙◌}
+use Rattle.std.proofs.Common.{arith, eqb, ltb, leb, get_or}
+use Rattle.std.proofs.lemmas.Bool.{cases_Bool, cond-true, cond-false, and_parts, and_right, or_from}
+use Rattle.std.proofs.lemmas.Bool.{or_parts, or_left, or_right, eqb-true, leb-true, ltb-true}
+use Rattle.std.proofs.lemmas.Bool.{le-leb, lt-ltb}
 use Rattle.std.proofs.lemmas.Bool.Decides.{nat_tests}
 use Rattle.std.proofs.lemmas.List.{take-append-drop, drop_more, drop_all}
 use Rattle.std.proofs.lemmas.Str.{IsCharBoundary-end, IsCharBoundary-before_ascii}
 use Rattle.std.specs.Str.{IsUtf8, IsCharBoundary}
-use Rattle.yaml_lines.specs.Blanks.{is_blank_byte, only_blanks, is_blank_text, trim_end, ends_blank, last_blank_len}
+use Rattle.yaml_lines.specs.Blanks.{is_blank_byte, only_blanks, is_blank_text, trim_end, ends_blank}
+use Rattle.yaml_lines.specs.Blanks.{last_blank_len}
 use Rattle.yaml_lines.proofs.BlankSteps.{blank_byte_small}
 
 -- A tail that is not a rest of nothing but blanks, nor of a blank that has begun.

@@ -1,11 +1,15 @@
 -- One blank at the start of a text.
-use Rattle.std.proofs.Common.{◌≡◌, ℕ, ◌<◌, true, false, ◌&&◌, List, [], ◌∷◌, drop, ◌==◌, ◌⊎◌, inl, inr, refl, sym, ap, ◌∙◌, arith, eqb}
-use Rattle.std.proofs.lemmas.Bool.{cases_Bool, cond-true, cond-false, and_parts, and_left, and_right, and_cases, eqb-true}
+use Rattle.std.proofs.Common.{◌≡◌, ℕ, ◌<◌, true, false, ◌&&◌, List, [], ◌∷◌, drop, ◌==◌, ◌⊎◌, inl}
+use Rattle.std.proofs.Common.{inr, refl, sym, ap, ◌∙◌, arith, eqb}
+use Rattle.std.proofs.lemmas.Bool.{cases_Bool, cond-true, cond-false, and_parts, and_left}
+use Rattle.std.proofs.lemmas.Bool.{and_right, and_cases, eqb-true}
 use Rattle.std.proofs.lemmas.Bool.Decides.{nat_tests}
-use Rattle.std.proofs.lemmas.Str.{IsCharBoundary-end, IsCharBoundary-start, IsCharBoundary-after_ascii, IsCharBoundary-past_char}
+use Rattle.std.proofs.lemmas.Str.{IsCharBoundary-end, IsCharBoundary-start}
+use Rattle.std.proofs.lemmas.Str.{IsCharBoundary-after_ascii, IsCharBoundary-past_char}
 use lib.Utf8.{encode}
 use Rattle.std.specs.Str.{IsUtf8, IsCharBoundary}
-use Rattle.yaml_lines.specs.Blanks.{is_blank_byte, begins_191, begins_187_191, blank_len, after_blanks, trim_start, only_blanks}
+use Rattle.yaml_lines.specs.Blanks.{is_blank_byte, begins_191, begins_187_191, blank_len}
+use Rattle.yaml_lines.specs.Blanks.{after_blanks, trim_start, only_blanks}
 
 -- A blank byte is one of three.
 pub blank_byte_small : (byte : ℕ) → is_blank_byte byte ≡ true → byte < 128
@@ -22,7 +26,8 @@ begins_187_191-cons (x ∷ rest) h =
     let q = begins_191-cons rest p.1 in
     (q.0, ap (λ n. n ∷ rest) (eqb-true x 187 p.0) ∙ ap (λ l. 187 ∷ l) q.1)
 
--- The text begins with a blank of one byte, with U+FEFF, or with no blank, and what each of the functions makes of it.
+-- The text begins with a blank of one byte, with U+FEFF, or with no blank, and what each of the
+-- functions makes of it.
 pub record OneByte (byte : ℕ) (rest : List ℕ) : Type 0 where
   pub small : byte < 128
   pub len : blank_len (byte ∷ rest) ≡ 1

@@ -1,4 +1,4 @@
--- Where a text may be cut: behind an ASCII byte.
+-- Where a text may be cut: after an ASCII byte.
 use Rattle.std.proofs.Common.{ℕ, ◌<◌, ◌≤◌, List, length, get_or}
 use Rattle.std.proofs.lemmas.Str.{lead_after_ascii}
 use Rattle.std.specs.Str.{IsUtf8}

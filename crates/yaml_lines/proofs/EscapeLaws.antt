@@ -1,7 +1,10 @@
 -- What `escape` and `unescape` leave as it is.
-use Rattle.std.proofs.Common.{◌≡◌, ℕ, true, false, not, ◌&&◌, ◌||◌, cond, List, [], ◌∷◌, ◌++◌, inl, inr, refl, sym, ap, ◌∙◌, eqb, ltb}
-use Rattle.std.proofs.lemmas.Bool.{cases_Bool, cond-true, cond-false, and_parts, and_right, and_from, eqb-true}
-use Rattle.yaml_lines.specs.Blanks.{is_blank_byte, begins_191, begins_187_191, blank_len, begins_blank, only_blanks, ends_blank}
+use Rattle.std.proofs.Common.{◌≡◌, ℕ, true, false, not, ◌&&◌, ◌||◌, cond, List, [], ◌∷◌, ◌++◌, inl}
+use Rattle.std.proofs.Common.{inr, refl, sym, ap, ◌∙◌, eqb, ltb}
+use Rattle.std.proofs.lemmas.Bool.{cases_Bool, cond-true, cond-false, and_parts, and_right}
+use Rattle.std.proofs.lemmas.Bool.{and_from, eqb-true}
+use Rattle.yaml_lines.specs.Blanks.{is_blank_byte, begins_191, begins_187_191, blank_len}
+use Rattle.yaml_lines.specs.Blanks.{begins_blank, only_blanks, ends_blank}
 use Rattle.yaml_lines.specs.Reading.{begins_with, unescape}
 use Rattle.yaml_lines.specs.Printed.{escape}
 use Rattle.yaml_lines.specs.Readable.{lacks, begins_guarded}
@@ -113,7 +116,7 @@ unescape_sign byte rest h = cond-true _ _ _ h
 unescape_other : (byte : ℕ) (rest : List ℕ) → (eqb byte 92 && begins_with 35 rest) ≡ false → unescape (byte ∷ rest) ≡ byte ∷ unescape rest
 unescape_other byte rest h = cond-false _ _ _ h
 
--- A backslash that is dropped has a `#` behind it, and neither begins a blank.
+-- A backslash that is dropped has a `#` after it, and neither begins a blank.
 record Sign (byte : ℕ) (rest : List ℕ) : Type 0 where
   next : List ℕ
   slash : byte ≡ 92
@@ -188,8 +191,8 @@ ends_blank-unescape (byte ∷ rest) =
           ∙ ap (λ x. only_blanks [] (byte ∷ rest) || x) (ends_blank-unescape rest)
     ]
 
--- A byte other than a backslash that doesn't stand in a text doesn't stand in what is written for it, and one that
--- doesn't stand in what is read doesn't stand in what it says.
+-- A byte other than a backslash that doesn't stand in a text doesn't stand in what is written for
+-- it, and one that doesn't stand in what is read doesn't stand in what it says.
 pub lacks-escape : (byte : ℕ) (text : List ℕ) → eqb 92 byte ≡ false → eqb 35 byte ≡ false → lacks byte text ≡ true → lacks byte (escape text) ≡ true
 lacks-escape byte [] s g h = refl
 lacks-escape byte (first ∷ rest) s g h =
@@ -208,7 +211,8 @@ lacks-unescape byte (first ∷ rest) h =
       | inr k ↦ ap (lacks byte) (unescape_other first rest k) ∙ and_from _ _ p.0 (lacks-unescape byte rest p.1)
     ]
 
--- A text that begins with no backslash and blank doesn't begin with them when it is escaped or read.
+-- A text that begins with no backslash and blank doesn't begin with them when it is escaped or
+-- read.
 pub begins_guarded-escape : (text : List ℕ) → begins_guarded (escape text) ≡ begins_guarded text
 begins_guarded-escape [] = refl
 begins_guarded-escape (byte ∷ rest) =

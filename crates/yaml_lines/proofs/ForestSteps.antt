@@ -1,13 +1,15 @@
 -- The forest of the nodes of a forest is that forest.
-use Rattle.std.proofs.Common.{◌≡◌, ℕ, suc, ◌+◌, false, List, [], ◌++◌, Ok, refl, sym, ap, subst, ◌∙◌, arith, append_assoc, append-nil}
+use Rattle.std.proofs.Common.{◌≡◌, ℕ, suc, ◌+◌, false, List, [], ◌++◌, Ok, refl, sym, ap, subst}
+use Rattle.std.proofs.Common.{◌∙◌, arith, append_assoc, append-nil}
 use Rattle.std.proofs.lemmas.Bool.{cond-false}
 use Rattle.yaml_lines.specs.declared.place.Place.{Place}
 use Rattle.base.specs.Lines.{lines_of}
 use Rattle.yaml_lines.specs.Kept.{Kept, kept_from, kept_lines, fault_from, first_line_fault}
 use Rattle.yaml_lines.specs.Trees.{Trees, none, more, flat}
-use Rattle.yaml_lines.specs.Built.{is_empty, added_last, below_last, at_level, joined_by, forest_of, parsed_by, parsed}
+use Rattle.yaml_lines.specs.Built.{is_empty, added_last, below_last, at_level, joined_by, forest_of}
+use Rattle.yaml_lines.specs.Built.{parsed_by, parsed}
 
--- One list behind another.
+-- One list after another.
 abbrev appended : Trees → Trees → Trees
 appended none last = last
 appended (more key value place children rest) last = more key value place children (appended rest last)
@@ -42,7 +44,7 @@ below_last-appended step (more k v p c r) key value place children =
 record IsPlaceAt (level : ℕ) (whole : Trees → Trees) : Type 0 where
   changed : (step : Trees → Trees) (list : Trees) → at_level level step (whole list) ≡ whole (step list)
 
--- The place of the children of a node behind that list.
+-- The place of the children of a node after that list.
 below : (level : ℕ) (whole : Trees → Trees) (list : Trees) (key value : List ℕ) (place : Place) → IsPlaceAt level whole →
     IsPlaceAt (level + 1) (λ children. whole (appended list (more key value place children none)))
 below level whole list key value place h =

@@ -1,5 +1,6 @@
 -- One more node in a list, and a closed node among the children of the one before it.
-use Rattle.std.proofs.Common.{◌≡◌, ℕ, suc, ◌+◌, List, [], ◌∷◌, ◌++◌, length, refl, sym, ap, ◌∙◌, Vec, Global, append_assoc, append-nil, arith}
+use Rattle.std.proofs.Common.{◌≡◌, ℕ, suc, ◌+◌, List, [], ◌∷◌, ◌++◌, length, refl, sym, ap, ◌∙◌}
+use Rattle.std.proofs.Common.{Vec, Global, append_assoc, append-nil, arith}
 use Rattle.std.proofs.lemmas.List.{length_push}
 use Rattle.yaml_lines.specs.declared.forest.Forest.{Forest}
 use Rattle.yaml_lines.specs.declared.forest.Node.{Node}

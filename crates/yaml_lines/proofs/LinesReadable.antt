@@ -1,16 +1,25 @@
 -- What a line says can be printed and read again.
-use Rattle.std.proofs.Common.{◌≡◌, ℕ, zero, suc, ◌+◌, ◌-◌, ◌≤◌, Bool, true, false, not, ◌&&◌, ◌||◌, cond, List, [], ◌∷◌, ◌++◌, length, take, get_or, inl, inr, refl, sym, ap, subst, ◌∙◌, arith, eqb, ltb, append-nil, Option}
-use Rattle.std.proofs.lemmas.Bool.{cases_Bool, cond-true, cond-false, and_parts, and_left, and_right, and_cases, and_from, or_from, eqb-true, ltb-false}
+use Rattle.std.proofs.Common.{◌≡◌, ℕ, zero, suc, ◌+◌, ◌-◌, ◌≤◌, Bool, true, false, not, ◌&&◌, ◌||◌}
+use Rattle.std.proofs.Common.{cond, List, [], ◌∷◌, ◌++◌, length, take, get_or, inl, inr, refl, sym}
+use Rattle.std.proofs.Common.{ap, subst, ◌∙◌, arith, eqb, ltb, append-nil, Option}
+use Rattle.std.proofs.lemmas.Bool.{cases_Bool, cond-true, cond-false, and_parts, and_left}
+use Rattle.std.proofs.lemmas.Bool.{and_right, and_cases, and_from, or_from, eqb-true, ltb-false}
 use Rattle.yaml_lines.specs.declared.place.Place.{Place}
-use Rattle.yaml_lines.specs.Blanks.{is_blank_byte, begins_191, begins_187_191, blank_len, begins_blank, after_blanks, only_blanks, is_blank_text, ends_blank, trim_start, trim_end, trim}
-use Rattle.yaml_lines.specs.Reading.{Words, begins_with, ends_with, without_last, unescape, after_indent, level_of, without_comment, before_colon, after_colon, unguarded_start, unguarded_end, key_of, value_of, words_of}
+use Rattle.yaml_lines.specs.Blanks.{is_blank_byte, begins_191, begins_187_191, blank_len}
+use Rattle.yaml_lines.specs.Blanks.{begins_blank, after_blanks, only_blanks, is_blank_text}
+use Rattle.yaml_lines.specs.Blanks.{ends_blank, trim_start, trim_end, trim}
+use Rattle.yaml_lines.specs.Reading.{Words, begins_with, ends_with, without_last, unescape}
+use Rattle.yaml_lines.specs.Reading.{after_indent, level_of, without_comment, before_colon}
+use Rattle.yaml_lines.specs.Reading.{after_colon, unguarded_start, unguarded_end, key_of, value_of}
+use Rattle.yaml_lines.specs.Reading.{words_of}
 use Rattle.std.specs.List.{onto_first}
 use Rattle.base.specs.Lines.{lines_of}
 use Rattle.yaml_lines.specs.Kept.{Kept, kept_of, kept_from, kept_lines}
 use Rattle.yaml_lines.specs.Readable.{lacks, begins_guarded, ends_guarded, IsReadable, AllReadable}
 use Rattle.yaml_lines.proofs.BlankSteps.{front_cases}
 use Rattle.yaml_lines.proofs.BlankEnds.{ends_blank-append, last_one}
-use Rattle.yaml_lines.proofs.EscapeLaws.{blank_len-unescape, ends_blank-unescape, begins_guarded-unescape, lacks-unescape, unescape-push}
+use Rattle.yaml_lines.proofs.EscapeLaws.{blank_len-unescape, ends_blank-unescape}
+use Rattle.yaml_lines.proofs.EscapeLaws.{begins_guarded-unescape, lacks-unescape, unescape-push}
 use Rattle.yaml_lines.proofs.ReadAgain.{ends_guarded-push}
 
 -- Lines have no LF.

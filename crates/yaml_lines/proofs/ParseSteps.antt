@@ -1,12 +1,14 @@
 -- One line of the whole file.
-use Rattle.std.proofs.Common.{◌≡◌, ℕ, ◌+◌, ◌≤◌, List, ◌∷◌, ◌++◌, Option, None, sym, ap, ◌∙◌, ltb, append_assoc, inl, inr}
+use Rattle.std.proofs.Common.{◌≡◌, ℕ, ◌+◌, ◌≤◌, List, ◌∷◌, ◌++◌, Option, None, sym, ap, ◌∙◌, ltb}
+use Rattle.std.proofs.Common.{append_assoc, inl, inr}
 use Rattle.std.proofs.lemmas.Bool.{cases_Bool, cond-true, ltb-false}
 use Rattle.yaml_lines.specs.declared.place.Place.{Place}
 use Rattle.yaml_lines.specs.declared.fault.LineFault.{LineFault}
 use Rattle.yaml_lines.specs.declared.TheConstants.{MAX_LINES}
 use Rattle.yaml_lines.specs.Reading.{words_of}
 use Rattle.base.specs.Lines.{lines_of}
-use Rattle.yaml_lines.specs.Kept.{Kept, kept_of, kept_from, line_fault, allowed_after, or_later, fault_from}
+use Rattle.yaml_lines.specs.Kept.{Kept, kept_of, kept_from, line_fault, allowed_after, or_later}
+use Rattle.yaml_lines.specs.Kept.{fault_from}
 
 -- A line without a fault is one of the lines that a file may have.
 pub line_within : (place : Place) (allowed : ℕ) (text : List ℕ) → line_fault place allowed text ≡ None → place.line ≤ MAX_LINES

@@ -1,4 +1,4 @@
--- The lines of a node, of its children, and of the nodes behind it.
+-- The lines of a node, of its children, and of the nodes after it.
 use Rattle.std.proofs.Common.{◌≡◌, ℕ, ◌+◌, List, [], ◌∷◌, ◌++◌, refl, sym, ap, ◌∙◌, append_assoc}
 use Rattle.yaml_lines.specs.declared.forest.Node.{Node}
 use Rattle.yaml_lines.specs.declared.forest.Forest.TheViews.{out-Node}

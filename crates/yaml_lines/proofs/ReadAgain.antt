@@ -1,17 +1,29 @@
 -- A printed line says what its node says.
-use Rattle.std.proofs.Common.{◌≡◌, ℕ, zero, suc, ◌+◌, ◌-◌, ◌/◌, ◌≤◌, Bool, true, false, not, ◌&&◌, ◌||◌, cond, List, [], ◌∷◌, ◌++◌, length, take, get_or, inl, inr, refl, sym, ap, ◌∙◌, arith, eqb, ltb, append_assoc, append-nil, Some, None}
-use Rattle.std.proofs.lemmas.Bool.{cases_Bool, cond-true, cond-false, and_parts, and_left, and_from, or_from, or_parts, eqb-true, lt-ltb, ltb-false, not-true}
+use Rattle.std.proofs.Common.{◌≡◌, ℕ, zero, suc, ◌+◌, ◌-◌, ◌/◌, ◌≤◌, Bool, true, false, not, ◌&&◌}
+use Rattle.std.proofs.Common.{◌||◌, cond, List, [], ◌∷◌, ◌++◌, length, take, get_or, inl, inr, refl}
+use Rattle.std.proofs.Common.{sym, ap, ◌∙◌, arith, eqb, ltb, append_assoc, append-nil, Some, None}
+use Rattle.std.proofs.lemmas.Bool.{cases_Bool, cond-true, cond-false, and_parts, and_left, and_from}
+use Rattle.std.proofs.lemmas.Bool.{or_from, or_parts, eqb-true, lt-ltb, ltb-false, not-true}
 use Rattle.std.proofs.lemmas.List.{length_push, take_at, get_or_push}
-use Rattle.yaml_lines.specs.Blanks.{is_blank_byte, begins_191, begins_187_191, blank_len, begins_blank, is_blank_text, ends_blank, trim_end, trim}
-use Rattle.yaml_lines.specs.Reading.{Words, without_last, unescape, after_indent, indent_tabs, indent_spaces, level_of, without_comment, before_colon, after_colon, unguarded_start, unguarded_end, key_of, value_of, words_of}
+use Rattle.yaml_lines.specs.Blanks.{is_blank_byte, begins_191, begins_187_191, blank_len}
+use Rattle.yaml_lines.specs.Blanks.{begins_blank, is_blank_text, ends_blank, trim_end, trim}
+use Rattle.yaml_lines.specs.Reading.{Words, without_last, unescape, after_indent, indent_tabs}
+use Rattle.yaml_lines.specs.Reading.{indent_spaces, level_of, without_comment, before_colon}
+use Rattle.yaml_lines.specs.Reading.{after_colon, unguarded_start, unguarded_end, key_of, value_of}
+use Rattle.yaml_lines.specs.Reading.{words_of}
 use Rattle.std.specs.List.{onto_first}
 use Rattle.base.specs.Lines.{lines_of}
 use Rattle.yaml_lines.specs.Kept.{Kept, kept_of, kept_from, kept_lines}
-use Rattle.yaml_lines.specs.Printed.{escape, start_guard, end_guard, printed_value, printed_text, tabs, printed_line, printed}
-use Rattle.yaml_lines.specs.Readable.{lacks, begins_guarded, ends_guarded, IsReadable, AllReadable, said}
+use Rattle.yaml_lines.specs.Printed.{escape, start_guard, end_guard, printed_value, printed_text}
+use Rattle.yaml_lines.specs.Printed.{tabs, printed_line, printed}
+use Rattle.yaml_lines.specs.Readable.{lacks, begins_guarded, ends_guarded, IsReadable, AllReadable}
+use Rattle.yaml_lines.specs.Readable.{said}
 use Rattle.yaml_lines.proofs.BlankSteps.{trim_start-none}
-use Rattle.yaml_lines.proofs.BlankEnds.{NeverBlank, never_blank-append, ends_blank-append, trim_end-none, last_one}
-use Rattle.yaml_lines.proofs.EscapeLaws.{unescape-escape, blank_len-escape, ends_blank-escape, begins_guarded-escape, lacks-escape, escape-push, escape-push_sign}
+use Rattle.yaml_lines.proofs.BlankEnds.{NeverBlank, never_blank-append, ends_blank-append}
+use Rattle.yaml_lines.proofs.BlankEnds.{trim_end-none, last_one}
+use Rattle.yaml_lines.proofs.EscapeLaws.{unescape-escape, blank_len-escape, ends_blank-escape}
+use Rattle.yaml_lines.proofs.EscapeLaws.{begins_guarded-escape, lacks-escape, escape-push}
+use Rattle.yaml_lines.proofs.EscapeLaws.{escape-push_sign}
 
 -- The lines of a text that begins with one.
 pub lines_of-line : (line rest : List ℕ) → lacks 10 line ≡ true → lines_of (line ++ 10 ∷ rest) ≡ line ∷ lines_of rest
@@ -182,7 +194,8 @@ pub unguarded_start-none : (text : List ℕ) → begins_guarded text ≡ false �
 unguarded_start-none [] h = refl
 unguarded_start-none (byte ∷ rest) h = cond-false _ _ _ h
 
--- What is between the space and the LF: `s` says that the value begins with a blank, `e` that it ends with one.
+-- What is between the space and the LF: `s` says that the value begins with a blank, `e` that it
+-- ends with one.
 abbrev guarded : Bool → Bool → List ℕ → List ℕ
 guarded s e value = cond s (92 ∷ []) [] ++ (escape value ++ cond e (92 ∷ []) [])
 

@@ -3,9 +3,12 @@ use Rattle.std.proofs.Common.{◌≡◌}
 use Rattle.yaml_lines.specs.declared.forest.Forest.{Forest}
 use Rattle.yaml_lines.specs.declared.forest.Node.{Node}
 use Rattle.yaml_lines.specs.declared.forest.Forest.TheOpen.{Forest-F, Node-F}
-use Rattle.yaml_lines.specs.declared.forest.Forest.TheViews.{out-Forest, out-Node, roll-Forest, roll-Node}
-use Rattle.yaml_lines.specs.declared.forest.Forest.TheFolds.{fold-roll-Forest, fold-roll-Node, fold_out-Forest, fold_out-Node}
-use Rattle.yaml_lines.specs.Trees.{Trees, more, node_step, forest_step, trees_of, before, trees_of_nodes}
+use Rattle.yaml_lines.specs.declared.forest.Forest.TheViews.{out-Forest, out-Node, roll-Forest}
+use Rattle.yaml_lines.specs.declared.forest.Forest.TheViews.{roll-Node}
+use Rattle.yaml_lines.specs.declared.forest.Forest.TheFolds.{fold-roll-Forest, fold-roll-Node}
+use Rattle.yaml_lines.specs.declared.forest.Forest.TheFolds.{fold_out-Forest, fold_out-Node}
+use Rattle.yaml_lines.specs.Trees.{Trees, more, node_step, forest_step, trees_of, before}
+use Rattle.yaml_lines.specs.Trees.{trees_of_nodes}
 
 pub trees_roll : (x : Forest-F Forest Node) → trees_of (roll-Forest x) ≡ trees_of_nodes x.nodes.items
 trees_roll = fold-roll-Forest Trees (Trees → Trees) forest_step node_step

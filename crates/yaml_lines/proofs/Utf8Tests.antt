@@ -1,5 +1,7 @@
--- The test for UTF-8, from what a reader of UTF-8 answers; and the test for blanks, from a text trimmed at its start.
-use Rattle.std.proofs.Common.{◌≡◌, ℕ, zero, suc, ◌≤◌, true, false, List, [], ◌∷◌, length, inl, inr, refl, ap, sym, ◌∙◌, eqb, arith}
+-- The test for UTF-8, from what a reader of UTF-8 answers; and the test for blanks, from a text
+-- trimmed at its start.
+use Rattle.std.proofs.Common.{◌≡◌, ℕ, zero, suc, ◌≤◌, true, false, List, [], ◌∷◌, length, inl, inr}
+use Rattle.std.proofs.Common.{refl, ap, sym, ◌∙◌, eqb, arith}
 use Rattle.std.proofs.lemmas.Bool.{false_from_ne_true, ne_eqb}
 use Rattle.std.proofs.lemmas.Str.{is_utf8-from_IsUtf8, IsUtf8-from_is_utf8}
 use Rattle.std.specs.Str.{IsUtf8, is_utf8}

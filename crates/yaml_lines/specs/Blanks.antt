@@ -1,11 +1,13 @@
 -- Blanks, and texts without the blanks at their ends. A text is the list of its UTF-8 bytes.
-use Rattle.std.specs.Prelude.{ℕ, zero, suc, Bool, true, false, ◌&&◌, ◌||◌, List, [], ◌∷◌, if◌then◌else◌, ◌==◌, nat_lt, nat_le, ◌-◌, length, slice_index}
+use Rattle.std.specs.Prelude.{ℕ, zero, suc, Bool, true, false, ◌&&◌, ◌||◌, List, [], ◌∷◌}
+use Rattle.std.specs.Prelude.{if◌then◌else◌, ◌==◌, nat_lt, nat_le, ◌-◌, length, slice_index}
 
 -- A blank of one byte: space, tab and carriage return.
 abbrev pub is_blank_byte : ℕ → Bool
 is_blank_byte byte = byte == 32 || byte == 9 || byte == 13
 
--- The other blank is U+FEFF, in UTF-8 the bytes 239, 187 and 191. These two tests look for its last byte and its last two.
+-- The other blank is U+FEFF, in UTF-8 the bytes 239, 187 and 191. These two tests look for its last
+-- byte and its last two.
 abbrev pub begins_191 : List ℕ → Bool
 begins_191 [] = false
 begins_191 (byte ∷ rest) = byte == 191
@@ -23,7 +25,8 @@ blank_len (byte ∷ rest) = if is_blank_byte byte then 1 else (if byte == 239 &&
 abbrev pub begins_blank : List ℕ → Bool
 begins_blank text = nat_lt 0 (blank_len text)
 
--- The text without the blanks at its start. The number says how many bytes of the last blank are still to be passed over.
+-- The text without the blanks at its start. The number says how many bytes of the last blank are
+-- still to be passed over.
 abbrev pub after_blanks : ℕ → List ℕ → List ℕ
 after_blanks skip [] = []
 after_blanks (suc skip) (byte ∷ rest) = after_blanks skip rest

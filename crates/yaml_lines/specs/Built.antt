@@ -1,6 +1,7 @@
--- The forest of lines: each line joins the forest of the lines above it, as a child of the nearest of them whose level is
--- one less.
-use Rattle.std.specs.Prelude.{ℕ, zero, suc, Bool, true, false, List, [], ◌∷◌, if◌then◌else◌, Option, Some, None, Result, Ok, Err}
+-- The forest of lines: each line joins the forest of the lines above it, as a child of the nearest
+-- of them whose level is one less.
+use Rattle.std.specs.Prelude.{ℕ, zero, suc, Bool, true, false, List, [], ◌∷◌, if◌then◌else◌, Option}
+use Rattle.std.specs.Prelude.{Some, None, Result, Ok, Err}
 use Rattle.yaml_lines.specs.declared.fault.LineFault.{LineFault}
 use Rattle.yaml_lines.specs.Kept.{Kept, kept_lines, first_line_fault}
 use Rattle.yaml_lines.specs.Trees.{Trees, none, more}
@@ -9,7 +10,7 @@ abbrev pub is_empty : Trees → Bool
 is_empty none = true
 is_empty (more key value place children rest) = false
 
--- A line, without children, behind the last node of a list.
+-- A line, without children, after the last node of a list.
 abbrev pub added_last : Kept → Trees → Trees
 added_last line none = more line.words.key line.words.value line.place none none
 added_last line (more key value place children rest) = more key value place children (added_last line rest)
@@ -20,8 +21,8 @@ below_last step none = none
 below_last step (more key value place children rest) =
     if is_empty rest then more key value place (step children) rest else more key value place children (below_last step rest)
 
--- A forest changed by `step` at a level: at level 0 its own list is changed, and at each deeper level the children of the
--- last node of the level above.
+-- A forest changed by `step` at a level: at level 0 its own list is changed, and at each deeper
+-- level the children of the last node of the level above.
 abbrev pub at_level : ℕ → (step : Trees → Trees) → Trees → Trees
 at_level zero step trees = step trees
 at_level (suc level) step trees = at_level level (below_last step) trees

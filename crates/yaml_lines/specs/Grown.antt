@@ -1,5 +1,5 @@
--- A forest that grows line by line: the nodes at level 0 that are complete, and the open nodes, each of which is
--- the last child of the one before it.
+-- A forest that grows line by line: the nodes at level 0 that are complete, and the open nodes,
+-- each of which is the last child of the one before it.
 use Rattle.std.specs.Prelude.{ℕ, ◌+◌, List, [], ◌∷◌, ◌++◌, length}
 use Rattle.yaml_lines.specs.declared.growing.Open.{Open}
 use Rattle.yaml_lines.specs.declared.growing.Growing.{Growing}

@@ -1,10 +1,13 @@
 -- The kept lines of a text, and its first line at fault.
-use Rattle.std.specs.Prelude.{◌≡◌, ℕ, ◌+◌, not, List, [], ◌∷◌, ◌++◌, length, if◌then◌else◌, nat_lt, nat_le, Option, Some, None, ◌⊎◌}
+use Rattle.std.specs.Prelude.{◌≡◌, ℕ, ◌+◌, not, List, [], ◌∷◌, ◌++◌, length, if◌then◌else◌, nat_lt}
+use Rattle.std.specs.Prelude.{nat_le, Option, Some, None, ◌⊎◌}
 use Rattle.std.specs.Str.{is_utf8}
 use Rattle.base.specs.Lines.{lines_of}
 use Rattle.yaml_lines.specs.declared.place.Place.{Place}
 use Rattle.yaml_lines.specs.declared.fault.LineFault.{LineFault}
-use Rattle.yaml_lines.specs.declared.fault.LineFault.TheVariants.{NotUtf8, BadIndent, TooDeep, LineTooLong, TooManyLines, NoMemory}
+use Rattle.yaml_lines.specs.declared.fault.LineFault.TheVariants.{NotUtf8, BadIndent, TooDeep}
+use Rattle.yaml_lines.specs.declared.fault.LineFault.TheVariants.{LineTooLong, TooManyLines}
+use Rattle.yaml_lines.specs.declared.fault.LineFault.TheVariants.{NoMemory}
 use Rattle.yaml_lines.specs.declared.TheConstants.{MAX_LINES, MAX_LINE_BYTES, MAX_LEVELS}
 use Rattle.yaml_lines.specs.Reading.{Words, words_of}
 
@@ -61,6 +64,6 @@ fault_from file line allowed (text ∷ rest) =
 abbrev pub first_line_fault : ℕ → List ℕ → Option LineFault
 first_line_fault file bytes = fault_from file 1 0 (lines_of bytes)
 
--- The answer is this fault, but for want of memory.
+-- The answer is this fault, or out of memory in its place.
 abbrev pub IsLineFault : LineFault → Option LineFault → Type 0
 IsLineFault fault first = (fault ≡ NoMemory) ⊎ (first ≡ Some fault)

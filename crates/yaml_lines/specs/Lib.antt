@@ -1,3 +1,4 @@
+pub mod Fault
 pub mod Blanks
 pub mod Reading
 pub mod Kept

@@ -16,7 +16,7 @@ start_guard value = if begins_blank value then 92 ∷ [] else []
 abbrev pub end_guard : List ℕ → List ℕ
 end_guard value = if ends_blank value then 92 ∷ [] else []
 
--- A value that isn't empty stands behind a space.
+-- A value that isn't empty stands after a space.
 abbrev pub printed_value : List ℕ → List ℕ
 printed_value [] = []
 printed_value (byte ∷ rest) = 32 ∷ (start_guard (byte ∷ rest) ++ (escape (byte ∷ rest) ++ end_guard (byte ∷ rest)))

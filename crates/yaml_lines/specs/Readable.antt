@@ -19,8 +19,8 @@ begins_guarded (byte ∷ rest) = byte == 92 && begins_blank rest
 abbrev pub ends_guarded : List ℕ → Bool
 ends_guarded text = ends_with 92 text && ends_blank (without_last text)
 
--- A key has no LF, no colon and no blank at its ends. A value has no LF, and no backslash before a blank at its start or
--- behind one at its end.
+-- A key has no LF, no colon and no blank at its ends. A value has no LF, and no backslash before a
+-- blank at its start or after one at its end.
 pub record IsReadable (words : Words) : Type 0 where
   pub key_in_line : lacks 10 words.key ≡ true
   pub key_no_colon : lacks 58 words.key ≡ true

@@ -1,8 +1,10 @@
 -- What one line says, read by itself.
-use Rattle.std.specs.Prelude.{ℕ, ◌+◌, ◌-◌, ◌/◌, Bool, false, ◌&&◌, ◌||◌, not, List, [], ◌∷◌, if◌then◌else◌, ◌==◌, nat_lt, length, take, slice_index, Option, Some, None}
+use Rattle.std.specs.Prelude.{ℕ, ◌+◌, ◌-◌, ◌/◌, Bool, false, ◌&&◌, ◌||◌, not, List, [], ◌∷◌}
+use Rattle.std.specs.Prelude.{if◌then◌else◌, ◌==◌, nat_lt, length, take, slice_index, Option, Some}
+use Rattle.std.specs.Prelude.{None}
 use Rattle.yaml_lines.specs.Blanks.{begins_blank, is_blank_text, ends_blank, trim}
 
--- The line behind its indent, the longest front of tabs and spaces.
+-- The line after its indent, the longest prefix of tabs and spaces.
 abbrev pub after_indent : List ℕ → List ℕ
 after_indent [] = []
 after_indent (byte ∷ rest) = if byte == 9 || byte == 32 then after_indent rest else byte ∷ rest
@@ -20,14 +22,14 @@ indent_spaces (byte ∷ rest) = if byte == 32 then indent_spaces rest + 1 else (
 abbrev pub level_of : List ℕ → ℕ
 level_of line = indent_tabs line + indent_spaces line / 4
 
--- The text before its comment, which begins at the first `#` that has no backslash directly before it.
--- `before` is the byte that stands before the text.
+-- The text before its comment, which begins at the first `#` that has no backslash directly before
+-- it. `before` is the byte that stands before the text.
 abbrev pub without_comment : ℕ → List ℕ → List ℕ
 without_comment before [] = []
 without_comment before (byte ∷ rest) =
     if byte == 35 && not (before == 92) then [] else byte ∷ without_comment byte rest
 
--- What stands before the first colon, and what stands behind it.
+-- What stands before the first colon, and what stands after it.
 abbrev pub before_colon : List ℕ → List ℕ
 before_colon [] = []
 before_colon (byte ∷ rest) = if byte == 58 then [] else byte ∷ before_colon rest
@@ -54,7 +56,7 @@ abbrev pub unguarded_start : List ℕ → List ℕ
 unguarded_start [] = []
 unguarded_start (byte ∷ rest) = if byte == 92 && begins_blank rest then rest else byte ∷ rest
 
--- A backslash behind a last blank keeps that blank, and is dropped.
+-- A backslash after a last blank keeps that blank, and is dropped.
 unfoldable pub unguarded_end : List ℕ → List ℕ
 unguarded_end text = if ends_with 92 text && ends_blank (without_last text) then without_last text else text
 
@@ -69,7 +71,7 @@ pub record Words : Type 0 where
   pub key : List ℕ
   pub value : List ℕ
 
--- What a text behind an indent says.
+-- What a text after an indent says.
 unfoldable pub key_of : List ℕ → List ℕ
 key_of text = unescape (trim (before_colon text))
 

@@ -1,5 +1,6 @@
 ghost use Rattle.std.specs.Prelude.{◌≡◌, ◌<◌, ◌≤◌, ◌-◌, ◌==◌, true, false, length, take};
-ghost use Rattle.yaml_lines.specs.Blanks.{blank_len, trim_start, trim_end, trim, is_blank_byte, last_blank_len, ends_blank, begins_blank};
+ghost use Rattle.yaml_lines.specs.Blanks.{blank_len, trim_start, trim_end, trim, is_blank_byte};
+ghost use Rattle.yaml_lines.specs.Blanks.{last_blank_len, ends_blank, begins_blank};
 
 /// A blank of one byte: space, tab or carriage return.
 fn is_blank_byte(byte: u8) -> bool
@@ -80,7 +81,8 @@ pub fn trim_end(text: &str) -> &str
     }
 }
 
-/// The text without the blanks at both ends. A blank is a space, a tab, a carriage return or the character U+FEFF.
+/// The text without the blanks at both ends. A blank is a space, a tab, a carriage return or the
+/// character U+FEFF.
 pub fn trim(text: &str) -> &str
     ensures { result.now ≡ trim text.now }
 {

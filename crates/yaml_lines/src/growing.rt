@@ -15,8 +15,8 @@ pub struct Open {
     pub nodes: Vec<Node>,
 }
 
-/// A forest that grows line by line: the complete nodes at level 0, and the open nodes, each of which is the
-/// last child of the one before it.
+/// A forest that grows line by line: the complete nodes at level 0, and the open nodes, each of
+/// which is the last child of the one before it.
 #[derive(Drop)]
 pub struct Growing {
     /// The complete nodes at level 0, in order.

@@ -1,7 +1,11 @@
-ghost use Rattle.std.specs.Prelude.{◌≡◌, ◌<◌, ◌≤◌, ◌+◌, ◌-◌, ◌/◌, ◌==◌, true, false, ◌++◌, MatchOption, slice_index, length, take, drop, string_bytes, IfOk, IfErr, IfSome, OnOk, Some, None, option_map};
+ghost use Rattle.std.specs.Prelude.{◌≡◌, ◌<◌, ◌≤◌, ◌+◌, ◌-◌, ◌/◌, ◌==◌, true, false, ◌++◌};
+ghost use Rattle.std.specs.Prelude.{MatchOption, slice_index, length, take, drop, string_bytes};
+ghost use Rattle.std.specs.Prelude.{IfOk, IfErr, IfSome, OnOk, Some, None, option_map};
 ghost use Rattle.yaml_lines.specs.Kept.{line_fault, IsLineFault};
 ghost use Rattle.yaml_lines.specs.Found.{words_found};
-ghost use Rattle.yaml_lines.specs.Reading.{words_of, after_indent, level_of, without_comment, before_colon, after_colon, unguarded_start, unguarded_end, unescape, key_of, value_of};
+ghost use Rattle.yaml_lines.specs.Reading.{words_of, after_indent, level_of, without_comment};
+ghost use Rattle.yaml_lines.specs.Reading.{before_colon, after_colon, unguarded_start};
+ghost use Rattle.yaml_lines.specs.Reading.{unguarded_end, unescape, key_of, value_of};
 
 use crate::fault::LineFault;
 use crate::found::Found;
@@ -12,7 +16,7 @@ use base::NoMemory;
 use std::alloc::Global;
 use std::str;
 
-/// The level of a line, and what stands behind its indent.
+/// The level of a line, and what stands after its indent.
 #[tactic(auto, using(crate::proofs::Cuts::cuts))]
 fn split_indent(line: &str) -> (usize, &str)
     ensures level { result.0 ≡ level_of line.now }
@@ -45,7 +49,7 @@ fn without_comment(text: &str) -> &str
     text
 }
 
-/// What stands before the first colon, and what stands behind it.
+/// What stands before the first colon, and what stands after it.
 #[tactic(auto, using(crate::proofs::Cuts::cuts))]
 fn split_colon(text: &str) -> (&str, &str)
     ensures key { result.0.now ≡ before_colon text.now }
@@ -110,7 +114,7 @@ fn unescape(alloc: Global, text: &str) -> Result<String, NoMemory>
     Ok(made)
 }
 
-/// The key and the value of what stands behind an indent.
+/// The key and the value of what stands after an indent.
 #[tactic(auto, unfolding(crate::specs::Reading::key_of, crate::specs::Reading::value_of))]
 fn read_words(alloc: Global, text: &str) -> Result<(Text, Text), NoMemory>
     ensures { IfOk result (λ words. (words.0 ≡ key_of text.now) × (words.1 ≡ value_of text.now)) }
@@ -118,11 +122,11 @@ fn read_words(alloc: Global, text: &str) -> Result<(Text, Text), NoMemory>
     let (key, value) = split_colon(text);
     let key = unescape(alloc, blanks::trim(key))?;
     let value = unescape(alloc, unguarded_end(unguarded_start(blanks::trim(value))))?;
-    Ok((Text::from_string(key), Text::from_string(value)))
+    Ok((Text::from_string(key)?, Text::from_string(value)?))
 }
 
-/// Reads one line by itself: what it says, or nothing where only blanks and a comment stand in it. Levels up
-/// to `allowed` may follow the lines before it.
+/// Reads one line by itself: what it says, or nothing where only blanks and a comment stand in it.
+/// Levels up to `allowed` may follow the lines before it.
 #[tactic(auto, using(crate::proofs::Utf8Tests::utf8_tests), unfolding(crate::specs::Kept::line_fault, crate::specs::Reading::words_of))]
 pub fn read_line(
     alloc: Global,

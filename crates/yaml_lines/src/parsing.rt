@@ -1,8 +1,10 @@
-ghost use Rattle.std.specs.Prelude.{◌≡◌, ◌<◌, ◌≤◌, ◌+◌, ◌++◌, ◌∷◌, [], length, IfOk, IfErr, OnOk, MatchOption, None};
+ghost use Rattle.std.specs.Prelude.{◌≡◌, ◌<◌, ◌≤◌, ◌+◌, ◌++◌, ◌∷◌, [], length, IfOk, IfErr, OnOk};
+ghost use Rattle.std.specs.Prelude.{MatchOption, None};
 ghost use Rattle.yaml_lines.specs.Built.{parsed};
 ghost use Rattle.yaml_lines.specs.Grown.{flat_grown, height};
 ghost use Rattle.base.specs.Lines.{lines_of};
-ghost use Rattle.yaml_lines.specs.Kept.{kept_of, kept_lines, line_fault, allowed_after, first_line_fault, IsLineFault};
+ghost use Rattle.yaml_lines.specs.Kept.{kept_of, kept_lines, line_fault, allowed_after};
+ghost use Rattle.yaml_lines.specs.Kept.{first_line_fault, IsLineFault};
 ghost use Rattle.yaml_lines.specs.Readable.{AllReadable};
 ghost use Rattle.yaml_lines.specs.Reading.{words_of};
 ghost use Rattle.yaml_lines.specs.Trees.{trees_of, flat};
@@ -15,7 +17,7 @@ use crate::line::read_line;
 use crate::place::Place;
 use std::alloc::Global;
 
-/// The first line, without its LF, and the bytes behind that. Nothing where no bytes are left.
+/// The first line, without its LF, and the bytes after it. Nothing where no bytes are left.
 #[tactic(auto, using(crate::proofs::LineSteps::line_steps))]
 fn next_line(bytes: &[u8]) -> Option<(&[u8], &[u8])>
     ensures { MatchOption result (bytes.now ≡ [])
@@ -47,12 +49,12 @@ fn add_line(alloc: Global, grown: &mut Growing, place: Place, line: &[u8]) -> Re
     }
 }
 
-/// Reads a file: its kept lines as a forest, or its first line fault. `file` is the file's number, which each place has;
-/// its lines are numbered from 1.
+/// Reads a file: its kept lines as a forest, or its first line fault. `file` is the file's number,
+/// which each place has; its lines are numbered from 1.
 ///
-/// The fault is that of the earliest line that has one. In one line the order is: `TooManyLines`, `NotUtf8`,
-/// `LineTooLong`, each also where the line isn't kept, then `BadIndent` and `TooDeep`. `NoMemory` is want of memory, and
-/// may come in place of any answer.
+/// The fault is that of the earliest line that has one. In one line the order is: `TooManyLines`,
+/// `NotUtf8`, `LineTooLong`, each also where the line isn't kept, then `BadIndent` and `TooDeep`.
+/// `NoMemory` means out of memory, and may come in place of any answer.
 pub fn parse(alloc: Global, file: u16, bytes: &[u8]) -> Result<Forest, LineFault>
     ensures sound { OnOk result (first_line_fault file bytes.now ≡ None) }
     ensures done { IfOk result (λ forest. parsed file bytes.now ≡ Ok (trees_of forest)) }

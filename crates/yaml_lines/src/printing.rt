@@ -22,7 +22,8 @@ fn write_escaped(out: &mut Vec<u8>, text: &[u8]) -> Result<(), NoMemory>
     Ok(())
 }
 
-/// Writes a value behind a space, with the backslashes that keep blanks at its ends. An empty value is left out.
+/// Writes a value after a space, with the backslashes that keep blanks at its ends. An empty value
+/// is left out.
 fn write_value(out: &mut Vec<u8>, value: &[u8]) -> Result<(), NoMemory>
     ensures { OnOk result (out.new.items ≡ out.old.items ++ printed_value value.now) }
 {
@@ -73,9 +74,9 @@ fn write_forest(out: &mut Vec<u8>, indent: &mut Vec<u8>, forest: &Forest) -> Res
     Ok(())
 }
 
-/// Writes a forest as lines: each node in preorder with one tab a level, its key, a colon and its value. Where the keys
-/// and values came out of lines, the lines have the same levels, keys and values when they are read again. It fails only
-/// for want of memory.
+/// Writes a forest as lines: each node in preorder with one tab a level, its key, a colon and its
+/// value. Where the keys and values came out of lines, the lines have the same levels, keys and
+/// values when they are read again. It fails only where memory runs out.
 #[tactic(auto, using(crate::proofs::ReadAgain::read_again))]
 pub fn print(alloc: Global, forest: &Forest) -> Result<Vec<u8>, NoMemory>
     ensures written { IfOk result (λ bytes. bytes.items ≡ printed (flat 0 (trees_of forest.now))) }

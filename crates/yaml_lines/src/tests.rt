@@ -6,7 +6,7 @@ use std::alloc::{AllocError, Global};
 use std::str;
 use std::test::Fail;
 
-/// What is printed of a text, or the fault's name and its line behind `! `.
+/// What is printed of a text, or the fault's name and its line after `! `.
 fn outcome(alloc: Global, bytes: &[u8]) -> Result<Vec<u8>, NoMemory> {
     let fault = match parse(alloc, 3, bytes) {
         Ok(forest) => return print(alloc, &forest),
@@ -159,7 +159,7 @@ fn texts(rt: HostRuntime) -> Result<(), Fail> {
     Ok(())
 }
 
-/// A front, a byte, how many times it stands, and a rest.
+/// A prefix, a byte, how many times it stands, and a rest.
 type Part = (&'static [u8], u8, u32, &'static [u8]);
 
 fn add_part(text: &mut Vec<u8>, part: Part) -> Result<(), NoMemory> {
@@ -278,7 +278,8 @@ fn stairs(alloc: Global, lines: u32) -> Result<Vec<u8>, NoMemory> {
 
 const TABS_32: &[u8] = b"\t\t\t\t\t\t\t\t\t\t\t\t\t\t\t\t\t\t\t\t\t\t\t\t\t\t\t\t\t\t\t\t";
 
-/// How many lines go down, what stands behind them, and the fault. Without a fault the lines are printed as they are.
+/// How many lines go down, what stands after them, and the fault. Without a fault the lines are
+/// printed as they are.
 static DEEP_ROWS: [(u32, Part, &[u8]); 10] = [
     (31, (b"", 0, 0, b""), b""),
     (32, (b"", 0, 0, b""), b""),

@@ -1,50 +1,56 @@
 ghost use Rattle.std.specs.Prelude.{◌≡◌, IfOk, string_bytes};
 
 use base::NoMemory;
-use std::alloc::Global;
 use std::marker::Model;
+use std::rc::RcStr;
 
-/// A key or a value of a node, seen as its UTF-8 bytes.
+/// A key or a value of a node, seen as its UTF-8 bytes. Its copies share them.
 #[derive(Drop)]
 pub struct Text {
-    held: String,
+    held: Option<RcStr>,
 }
 
 impl Model for Text {
-    ghost use Rattle.std.specs.Prelude.{ℕ, List, string_bytes};
+    ghost use Rattle.std.specs.Prelude.{ℕ, List, [], option_map, unwrap_or};
+    ghost use Rattle.std.specs.Rc.{rc_str_bytes};
 
     ghost Value = { List ℕ };
 
-    ghost view = { λ text. string_bytes text.held };
+    ghost view = { λ text. unwrap_or (option_map rc_str_bytes text.held) [] };
 }
 
 impl Text {
-    /// The text of a string, without a copy.
-    pub fn from_string(held: String) -> Self
-        ensures { result ≡ string_bytes held }
+    /// The text of a string, whose bytes are not copied. The empty text takes no memory.
+    pub fn from_string(held: String) -> Result<Text, NoMemory>
+        ensures { IfOk result (λ text. text ≡ string_bytes held) }
     {
-        Text { held }
-    }
-
-    /// The string of the text, without a copy.
-    pub fn into_string(self) -> String
-        ensures { string_bytes result ≡ self }
-    {
-        self.held
+        if held.is_empty() {
+            return Ok(Text { held: None });
+        }
+        let held = RcStr::from_string(held)?;
+        Ok(Text { held: Some(held) })
     }
 
     /// The text as a `&str`.
     pub fn as_str(&self) -> &str
         ensures { result.now ≡ self.now }
     {
-        self.held.as_str()
+        match &self.held {
+            Some(held) => held.as_str(),
+            None => "",
+        }
     }
 
-    /// A copy of the text. It fails only for want of memory.
-    pub fn copy(&self, alloc: Global) -> Result<Text, NoMemory>
+    /// The same text, whose bytes are not copied.
+    pub fn copy(&self) -> Result<Text, NoMemory>
         ensures { IfOk result (λ text. text ≡ self.now) }
     {
-        let held = String::from_str(alloc, self.held.as_str())?;
-        Ok(Text { held })
+        match &self.held {
+            Some(held) => {
+                let held = held.clone()?;
+                Ok(Text { held: Some(held) })
+            }
+            None => Ok(Text { held: None }),
+        }
     }
 }

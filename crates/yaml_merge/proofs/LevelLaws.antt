@@ -1,10 +1,12 @@
 -- Where a node stands in a list, and what its key finds.
-use Rattle.std.proofs.Common.{◌≡◌, ℕ, zero, suc, ◌<◌, List, refl, ap, ◌∙◌, arith, Some, None, sym, inl, inr}
+use Rattle.std.proofs.Common.{◌≡◌, ℕ, zero, suc, ◌<◌, List, refl, ap, ◌∙◌, arith, Some, None, sym}
+use Rattle.std.proofs.Common.{inl, inr}
 use Rattle.std.proofs.lemmas.Bool.{cases_Bool, cond-true, cond-false}
 use Rattle.std.specs.Str.{bytes_eq}
 use Rattle.yaml_lines.specs.declared.place.Place.{Place}
 use Rattle.yaml_lines.specs.Trees.{Trees, none, more}
-use Rattle.yaml_merge.specs.Levels.{width, Stands, children_from, emptied, emptied_at, put_at, removed_from}
+use Rattle.yaml_merge.specs.Levels.{width, Stands, children_from, emptied, emptied_at, put_at}
+use Rattle.yaml_merge.specs.Levels.{removed_from}
 use Rattle.yaml_merge.specs.Merging.{Lacks, joined, children_at, newer_value, behind, without}
 use Rattle.yaml_merge.specs.Resolving.{added}
 

@@ -1,5 +1,7 @@
 -- A list that is held as keys and bodies, changed at one place.
-use Rattle.std.proofs.Common.{◌≡◌, ℕ, zero, suc, ◌+◌, ◌<◌, ◌≤◌, Bool, true, false, ◌||◌, map, List, [], ◌∷◌, ◌++◌, length, get_or, set, refl, sym, ap, ◌∙◌, arith, Global, Option, Some, None, position, inl, inr}
+use Rattle.std.proofs.Common.{◌≡◌, ℕ, zero, suc, ◌+◌, ◌<◌, ◌≤◌, Bool, true, false, ◌||◌, map, List}
+use Rattle.std.proofs.Common.{[], ◌∷◌, ◌++◌, length, get_or, set, refl, sym, ap, ◌∙◌, arith, Global}
+use Rattle.std.proofs.Common.{Option, Some, None, position, inl, inr}
 use Rattle.std.proofs.lemmas.Bool.{cases_Bool, cond-false}
 use Rattle.std.proofs.lemmas.Bool.Decides.{same_from_decides}
 use Rattle.std.proofs.lemmas.List.Quantifiers.{position-Some}
@@ -14,7 +16,8 @@ use Rattle.std.specs.Str.{bytes_eq}
 use Rattle.yaml_lines.specs.declared.place.Place.{Place}
 use Rattle.yaml_lines.specs.Trees.{Trees, none, more}
 use Rattle.yaml_merge.specs.declared.level.Body.{Body}
-use Rattle.yaml_merge.specs.Levels.{zipped, width, keys_of, Stands, children_from, emptied_at, put_at, removed_from}
+use Rattle.yaml_merge.specs.Levels.{zipped, width, keys_of, Stands, children_from, emptied_at}
+use Rattle.yaml_merge.specs.Levels.{put_at, removed_from}
 use Rattle.yaml_merge.specs.Merging.{Lacks, count, newer_value}
 use Rattle.yaml_merge.specs.Resolving.{added}
 

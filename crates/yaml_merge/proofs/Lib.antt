@@ -3,6 +3,9 @@ pub mod LevelSteps
 pub mod JoinSteps
 pub mod SizeSteps
 pub mod StepSteps
+pub mod KeptSteps
+pub mod TwiceLemmas
+pub mod DescentSteps
 pub mod TopSteps
 pub mod NodeSteps
 pub mod ListSteps

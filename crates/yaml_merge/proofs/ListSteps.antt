@@ -1,5 +1,6 @@
 -- One node of a list that is being resolved.
-use Rattle.std.proofs.Common.{◌≡◌, ℕ, zero, suc, ◌+◌, ◌-◌, ◌*◌, ◌<◌, List, length, drop, get_or, refl, sym, ap, ◌∙◌, arith, inl, inr, Ok, Err}
+use Rattle.std.proofs.Common.{◌≡◌, ℕ, zero, suc, ◌+◌, ◌-◌, ◌*◌, ◌<◌, List, length, drop, get_or}
+use Rattle.std.proofs.Common.{refl, sym, ap, ◌∙◌, arith, inl, inr, Ok, Err}
 use Rattle.std.proofs.lemmas.List.{drop_more}
 use Rattle.base.specs.Steps.{◌>>=◌, IsFault}
 use Rattle.yaml_lines.specs.declared.forest.Node.{Node}
@@ -51,7 +52,7 @@ resolved_step free room tops path nodes at node start next kept all h n t w e =
     ∙ ap (λ o. o >>= rest) w)
     ∙ e
 
-resolved_fault : (free room : ℕ) (tops : Trees) (path : List (List ℕ)) (nodes : List Node) (at : ℕ) (node : Node) (start : Trees) (fault : MergeFault) (all : Outcome) →
+pub resolved_fault : (free room : ℕ) (tops : Trees) (path : List (List ℕ)) (nodes : List Node) (at : ℕ) (node : Node) (start : Trees) (fault : MergeFault) (all : Outcome) →
     at < length nodes → node ≡ get_or nodes at node →
     taken_in free room tops path (out-Node node).key (out-Node node).value (out-Node node).place (trees_of (out-Node node).children) start ≡ Err fault →
     resolved_list free (trees_of_nodes (drop at nodes)) room tops path start ≡ all → all ≡ Err fault

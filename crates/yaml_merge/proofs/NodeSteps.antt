@@ -1,5 +1,6 @@
 -- A list that is held as keys and bodies, turned into nodes.
-use Rattle.std.proofs.Common.{◌≡◌, ℕ, zero, suc, ◌<◌, List, [], ◌∷◌, ◌++◌, length, get_or, refl, sym, ap, ◌∙◌, arith, Global}
+use Rattle.std.proofs.Common.{◌≡◌, ℕ, zero, suc, ◌<◌, List, [], ◌∷◌, ◌++◌, length, get_or, refl}
+use Rattle.std.proofs.Common.{sym, ap, ◌∙◌, arith, Global}
 use Rattle.std.specs.List.{zip}
 use Rattle.std.specs.Prelude.{String, string_bytes}
 use Rattle.yaml_lines.specs.declared.place.Place.{Place}

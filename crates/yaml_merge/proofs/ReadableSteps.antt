@@ -1,6 +1,7 @@
--- Every key and value of a resolved forest is that of a node of some file, so lines can give its nodes where they can
--- give those of all files.
-use Rattle.std.proofs.Common.{◌≡◌, ℕ, zero, suc, ◌+◌, ◌-◌, Bool, true, false, cond, ltb, eqb, List, [], ◌∷◌, ◌++◌, map, drop, Option, Some, None, Result, Ok, Err, subst}
+-- Every key and value of a resolved forest is that of a node of some file, so lines can give its
+-- nodes where they can give those of all files.
+use Rattle.std.proofs.Common.{◌≡◌, ℕ, zero, suc, ◌+◌, ◌-◌, Bool, true, false, cond, ltb, eqb, List}
+use Rattle.std.proofs.Common.{[], ◌∷◌, ◌++◌, map, drop, Option, Some, None, Result, Ok, Err, subst}
 use Rattle.std.specs.List.{All}
 use Rattle.std.specs.Result.{IfOk}
 use Rattle.std.specs.Str.{bytes_eq}
@@ -16,8 +17,11 @@ use Rattle.yaml_lines.specs.Readable.{IsReadable, AllReadable, IsReadableForest}
 use Rattle.yaml_merge.specs.declared.fault.MergeFault.{MergeFault}
 use Rattle.yaml_merge.specs.declared.fault.MergeFault.TheVariants.{Cycle, TooLarge, TooDeep}
 use Rattle.yaml_merge.specs.declared.TheConstants.{MAX_PATH, MAX_LIST_NODES, MAX_FOREST_NODES}
-use Rattle.yaml_merge.specs.Merging.{newer_value, joined, children_at, merged_into, merged_files, behind, without, count, levels}
-use Rattle.yaml_merge.specs.Resolving.{inherits, removes, parent_of, in_path, Outcome, within, inherited, removed, inherit_step, node_step, resolved_list, added, resolved_tops, removed_tops, resolved_files}
+use Rattle.yaml_merge.specs.Merging.{newer_value, joined, children_at, merged_into, merged_files}
+use Rattle.yaml_merge.specs.Merging.{behind, without, count, levels}
+use Rattle.yaml_merge.specs.Resolving.{inherits, removes, parent_of, in_path, Outcome, within}
+use Rattle.yaml_merge.specs.Resolving.{inherited, removed, inherit_step, node_step, resolved_list}
+use Rattle.yaml_merge.specs.Resolving.{added, resolved_tops, removed_tops, resolved_files}
 
 -- A readable node, wherever it stands.
 abbrev ReadableNode : (key value : List ℕ) → Type 0

@@ -1,5 +1,7 @@
 -- A node that is removed from a list of nodes.
-use Rattle.std.proofs.Common.{◌≡◌, ℕ, suc, ◌+◌, ◌<◌, true, false, List, [], ◌∷◌, ◌++◌, length, take, drop, get_or, inl, inr, refl, sym, ap, ◌∙◌, arith, Some, None, Ok, Err}
+use Rattle.std.proofs.Common.{◌≡◌, ℕ, suc, ◌+◌, ◌<◌, true, false, List, [], ◌∷◌, ◌++◌, length, take}
+use Rattle.std.proofs.Common.{drop, get_or, inl, inr, refl, sym, ap, ◌∙◌, arith, Some, None, Ok}
+use Rattle.std.proofs.Common.{Err}
 use Rattle.std.proofs.lemmas.Bool.{cases_Bool, cond-true, cond-false}
 use Rattle.std.proofs.lemmas.List.{take-append-drop, drop_more, take_more, take_all}
 use Rattle.std.specs.List.{remove}

@@ -1,5 +1,8 @@
--- In a resolved forest each key stands once in its list, and nothing is left to inherit or to remove.
-use Rattle.std.proofs.Common.{◌≡◌, ℕ, zero, suc, ◌-◌, Bool, true, false, cond, ltb, eqb, List, [], ◌∷◌, ◌++◌, map, drop, sym, ◌∙◌, inl, inr, Option, Some, None, Result, Ok, Err, subst}
+-- In a resolved forest each key stands once in its list, and nothing is left to inherit or to
+-- remove.
+use Rattle.std.proofs.Common.{◌≡◌, ℕ, zero, suc, ◌-◌, Bool, true, false, cond, ltb, eqb, List, []}
+use Rattle.std.proofs.Common.{◌∷◌, ◌++◌, map, drop, sym, ◌∙◌, inl, inr, Option, Some, None, Result}
+use Rattle.std.proofs.Common.{Ok, Err, subst}
 use Rattle.std.proofs.lemmas.Bool.{cases_Bool, cond-true, cond-false}
 use Rattle.std.proofs.lemmas.Result.{IfOk-weaker}
 use Rattle.std.specs.Prelude.{IfSome}
@@ -13,9 +16,13 @@ use Rattle.yaml_lines.specs.Trees.{Trees, none, more, trees_of}
 use Rattle.yaml_merge.specs.declared.fault.MergeFault.{MergeFault}
 use Rattle.yaml_merge.specs.declared.fault.MergeFault.TheVariants.{Cycle, TooLarge, TooDeep}
 use Rattle.yaml_merge.specs.declared.TheConstants.{MAX_PATH, MAX_LIST_NODES, MAX_FOREST_NODES}
-use Rattle.yaml_merge.specs.Merging.{Lacks, newer_value, joined, children_at, merged_into, merged_files, behind, without, count, levels}
-use Rattle.yaml_merge.specs.Resolving.{inherits, removes, parent_of, in_path, Outcome, within, inherited, removed, inherit_step, join_step, node_step, resolved_list, added, resolved_tops, removed_tops, resolved_files}
-use Rattle.yaml_merge.specs.Settled.{IsSettled, IsSettledTop, IsSettledForest}
+use Rattle.yaml_merge.specs.Merging.{Lacks, newer_value, joined, children_at, merged_into}
+use Rattle.yaml_merge.specs.Merging.{merged_files, behind, without, count, levels}
+use Rattle.yaml_merge.specs.Resolving.{inherits, removes, parent_of, in_path, Outcome, within}
+use Rattle.yaml_merge.specs.Resolving.{inherited, removed, inherit_step, join_step, node_step}
+use Rattle.yaml_merge.specs.Resolving.{resolved_list, added, resolved_tops, removed_tops}
+use Rattle.yaml_merge.specs.Resolving.{resolved_files}
+use Rattle.yaml_merge.specs.Settled.{IsSettled, IsSettledTop, IsSettledForest, IsOnce}
 use Rattle.yaml_merge.proofs.LevelSteps.{bytes_flip}
 
 -- What holds of both sides of a choice.
@@ -150,10 +157,6 @@ resolved_list_settled (suc free) (more key value place children rest) room tops 
     (λ list k. resolved_list_settled (suc free) rest room tops path list k)
 
 -- The merged files: each key stands once at the top level.
-abbrev IsOnce : Trees → Type 0
-IsOnce none = Unit {0}
-IsOnce (more key value place children rest) = Lacks key rest × IsOnce rest
-
 joined_once : (key value : List ℕ) (place : Place) (below : Trees → Trees) (list : Trees) → IsOnce list → IsOnce (joined key value place below list)
 joined_once key value place below none h = (tt, tt)
 joined_once key value place below (more first old last children rest) (l, s) =
@@ -166,7 +169,7 @@ merged_into_once none old h = h
 merged_into_once (more key value place children rest) old h =
     merged_into_once rest (joined key value place (merged_into children) old) (joined_once key value place (merged_into children) old h)
 
-merged_files_once : (files : List Trees) (list : Trees) → IsOnce list → IsOnce (merged_files files list)
+pub merged_files_once : (files : List Trees) (list : Trees) → IsOnce list → IsOnce (merged_files files list)
 merged_files_once [] list h = h
 merged_files_once (file ∷ files) list h = merged_files_once files (merged_into file list) (merged_into_once file list h)
 

@@ -1,6 +1,9 @@
 -- The parts of a step.
-use Rattle.std.proofs.Common.{◌≡◌, ◌≢◌, ◌==◌, ℕ, ◌<◌, ◌≤◌, true, false, leb, List, [], ◌∷◌, drop, Option, None, Some, Ok, Err, MatchOption, Bor, refl, sym, ap, inl, inr, eqb-true}
-use Rattle.std.proofs.lemmas.Bool.{cases_Bool, cond-true, cond-false, lt-ltb, le-ltb, leb-true, leb-false}
+use Rattle.std.proofs.Common.{◌≡◌, ◌≢◌, ◌==◌, ℕ, ◌<◌, ◌≤◌, true, false, leb, List, [], ◌∷◌, drop}
+use Rattle.std.proofs.Common.{Option, None, Some, Ok, Err, MatchOption, Bor, refl, sym, ap, inl}
+use Rattle.std.proofs.Common.{inr, eqb-true}
+use Rattle.std.proofs.lemmas.Bool.{cases_Bool, cond-true, cond-false, lt-ltb, le-ltb, leb-true}
+use Rattle.std.proofs.lemmas.Bool.{leb-false}
 use Rattle.yaml_lines.specs.declared.place.Place.{Place}
 use Rattle.yaml_lines.specs.Trees.{Trees}
 use Rattle.yaml_merge.specs.declared.fault.MergeFault.TheVariants.{TooLarge, TooDeep}
@@ -25,7 +28,7 @@ inherited_deep room place list parent h = cond-true _ _ _ (lt-ltb room (levels p
 
 pub ruleset within_steps = (within_small, within_large, inherited_flat, inherited_deep)
 
--- What stands behind the sign of a removal.
+-- What stands after the sign of a removal.
 pub removal_done : (key : List ℕ) (r : Option (Bor (List ℕ))) → MatchOption r ((rest : List ℕ) → key ≢ 45 ∷ rest) (λ removed. key ≡ 45 ∷ removed.now) →
     MatchOption r (removes key ≡ false) (λ removed. (removes key ≡ true) × (removed.now ≡ drop 1 key))
 removal_done [] None h = refl

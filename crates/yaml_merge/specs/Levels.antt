@@ -1,5 +1,7 @@
--- A list of nodes as the code holds it while it grows: the keys in order, and beside each key what else its node has.
-use Rattle.std.specs.Prelude.{◌≡◌, ℕ, zero, suc, true, false, List, [], ◌∷◌, if◌then◌else◌, String, string_bytes}
+-- A list of nodes as the code holds it while it grows: the keys in order, and beside each key what
+-- else its node has.
+use Rattle.std.specs.Prelude.{◌≡◌, ℕ, zero, suc, true, false, List, [], ◌∷◌, if◌then◌else◌, String}
+use Rattle.std.specs.Prelude.{string_bytes}
 use Rattle.std.proofs.Common.{Global}
 use Rattle.std.specs.Str.{bytes_eq}
 use Rattle.yaml_lines.specs.declared.place.Place.{Place}
@@ -35,7 +37,8 @@ children_from at none = none
 children_from zero (more key value place children rest) = children
 children_from (suc at) (more key value place children rest) = children_from at rest
 
--- The list without the children of the node at a place, and the list without the children under a key.
+-- The list without the children of the node at a place, and the list without the children under a
+-- key.
 abbrev pub emptied_at : ℕ → Trees → Trees
 emptied_at at none = none
 emptied_at zero (more key value place children rest) = more key value place none rest

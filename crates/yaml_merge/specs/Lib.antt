@@ -1,3 +1,4 @@
+pub mod Fault
 pub mod Merging
 pub mod Resolving
 pub mod Settled
@@ -5,3 +6,4 @@ pub mod Nodes
 pub mod Codes
 pub mod Levels
 pub mod LevelFalls
+pub mod Kept

@@ -1,5 +1,6 @@
 -- Merging on plain trees.
-use Rattle.std.specs.Prelude.{◌≡◌, ℕ, suc, ◌+◌, false, List, [], ◌∷◌, if◌then◌else◌, max, Option, Some, None}
+use Rattle.std.specs.Prelude.{◌≡◌, ℕ, suc, ◌+◌, false, List, [], ◌∷◌, if◌then◌else◌, max, Option}
+use Rattle.std.specs.Prelude.{Some, None}
 use Rattle.std.specs.Str.{bytes_eq}
 use Rattle.yaml_lines.specs.declared.place.Place.{Place}
 use Rattle.yaml_lines.specs.Trees.{Trees, none, more}
@@ -9,8 +10,8 @@ abbrev pub newer_value : (old new : List ℕ) → List ℕ
 newer_value old [] = old
 newer_value old (byte ∷ rest) = byte ∷ rest
 
--- A node joins the list: where its key stands in it, it joins the node there, at its position; else it is added last.
--- `below` says what becomes of the children that the list had under this key.
+-- A node joins the list: where its key stands in it, it joins the node there, at its position; else
+-- it is added last. `below` says what becomes of the children that the list had under this key.
 abbrev pub joined : (key value : List ℕ) → Place → (Trees → Trees) → Trees → Trees
 joined key value place below none = more key value place (below none) none
 joined key value place below (more first old at children rest) =

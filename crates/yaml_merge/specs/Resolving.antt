@@ -1,14 +1,18 @@
 -- Resolving: each parent is resolved anew each time it is inherited.
-use Rattle.std.specs.Prelude.{ℕ, zero, suc, ◌-◌, Bool, false, ◌||◌, List, [], ◌∷◌, ◌++◌, if◌then◌else◌, ◌==◌, nat_lt, take, drop, codes, Option, Some, None, Result, Ok, Err}
+use Rattle.std.specs.Prelude.{ℕ, zero, suc, ◌-◌, Bool, false, ◌||◌, List, [], ◌∷◌, ◌++◌}
+use Rattle.std.specs.Prelude.{if◌then◌else◌, ◌==◌, nat_lt, take, drop, codes, Option, Some, None}
+use Rattle.std.specs.Prelude.{Result, Ok, Err}
 use Rattle.std.specs.Str.{bytes_eq}
 use Rattle.base.specs.Steps.{◌>>=◌}
 use Rattle.yaml_lines.specs.declared.place.Place.{Place}
 use Rattle.yaml_lines.specs.declared.TheConstants.{MAX_LEVELS}
 use Rattle.yaml_lines.specs.Trees.{Trees, none, more}
 use Rattle.yaml_merge.specs.declared.fault.MergeFault.{MergeFault}
-use Rattle.yaml_merge.specs.declared.fault.MergeFault.TheVariants.{NoParent, Cycle, NothingToRemove, TooLarge, TooDeep}
+use Rattle.yaml_merge.specs.declared.fault.MergeFault.TheVariants.{NoParent, Cycle, NothingToRemove}
+use Rattle.yaml_merge.specs.declared.fault.MergeFault.TheVariants.{TooLarge, TooDeep}
 use Rattle.yaml_merge.specs.declared.TheConstants.{MAX_PATH, MAX_LIST_NODES, MAX_FOREST_NODES}
-use Rattle.yaml_merge.specs.Merging.{joined, children_at, merged_into, merged_files, without, count, levels}
+use Rattle.yaml_merge.specs.Merging.{joined, children_at, merged_into, merged_files, without, count}
+use Rattle.yaml_merge.specs.Merging.{levels}
 
 -- The key is `Inherits`, or begins with `Inherits@`.
 unfoldable pub inherits : List ℕ → Bool
@@ -45,7 +49,8 @@ abbrev pub removed : Place → Option Trees → Outcome
 removed place None = Err (NothingToRemove place)
 removed place (Some list) = Ok list
 
--- One `Inherits` node, for the children of the parent that it names, if there is one. The path may get `free` more names.
+-- One `Inherits` node, for the children of the parent that it names, if there is one. The path may
+-- get `free` more names.
 abbrev pub inherit_step : (free room : ℕ) → Place → List ℕ → List (List ℕ) → (parents : Trees → Outcome) → Trees → Option Trees → Outcome
 inherit_step free room place name path parents list None = Err (NoParent place)
 inherit_step free room place name path parents list (Some children) =
@@ -57,16 +62,16 @@ abbrev pub join_step : (key value : List ℕ) → Place → (below : Trees → O
 join_step key value place below list =
     below (children_at key list) >>= λ children. Ok (joined key value place (λ _. children) list)
 
--- One node of a list that is being resolved: what it inherits or removes, or the node with its children, of which
--- `below` says how they are resolved.
+-- One node of a list that is being resolved: what it inherits or removes, or the node with its
+-- children, of which `below` says how they are resolved.
 unfoldable pub node_step : (free room : ℕ) → (tops : Trees) → List (List ℕ) → (key value : List ℕ) → Place → (parents below : Trees → Outcome) → Trees → Outcome
 node_step free room tops path key value place parents below list =
     if inherits key then inherit_step free room place value path parents list (parent_of value tops)
     else (if removes key then removed place (without (drop 1 key) list)
     else join_step key value place below list)
 
--- The nodes of a list taken in order into a list that is there: for the resolving of the top-level nodes `tops`, where
--- the path may get `free` more names and the nodes may take up `room` levels.
+-- The nodes of a list taken in order into a list that is there: for the resolving of the top-level
+-- nodes `tops`, where the path may get `free` more names and the nodes may take up `room` levels.
 unfoldable pub resolved_list : (free : ℕ) → (list : Trees) → (room : ℕ) → (tops : Trees) → (path : List (List ℕ)) → Trees → Outcome
 resolved_list free none room tops path start = Ok start
 resolved_list zero (more key value place children rest) room tops path start =

@@ -1,77 +1,133 @@
-ghost use Rattle.std.specs.Prelude.{◌≡◌, ◌-◌, [], ◌∷◌, map, All, IfOk, IfErr, Ok};
+ghost use Rattle.std.specs.Prelude.{◌≡◌, ◌<◌, map, length, set, All, IfOk, IfErr, IsSome, OnOk};
+ghost use Rattle.std.specs.Prelude.{None, Some, Ok};
 ghost use Rattle.base.specs.Steps.{IsFault};
 ghost use Rattle.yaml_lines.specs.Readable.{IsReadableForest};
 ghost use Rattle.yaml_lines.specs.Trees.{none, more, trees_of, before};
 ghost use Rattle.yaml_lines.specs.declared.forest.Forest.TheViews.{out-Node};
 ghost use Rattle.yaml_merge.specs.declared.fault.MergeFault.TheVariants.{NoMemory};
 ghost use Rattle.yaml_merge.specs.Merging.{merged_files};
-ghost use Rattle.yaml_merge.specs.Resolving.{resolved_list, resolved_tops, removed_tops, resolved_files};
-ghost use Rattle.yaml_merge.specs.Settled.{IsSettledForest};
+ghost use Rattle.yaml_merge.specs.Resolving.{resolved_tops, removed_tops, resolved_files};
+ghost use Rattle.yaml_merge.specs.Kept.{AreKept, AreKeptBefore, slot};
+ghost use Rattle.yaml_merge.specs.Levels.{width};
+ghost use Rattle.yaml_merge.specs.Settled.{IsOnce, IsSettledForest};
 
+use crate::MAX_FOREST_NODES;
 use crate::fault::MergeFault;
+use crate::keeping::{keep, keep_parents, node_at, total_at};
 use crate::level::Level;
 use crate::merging::merge;
 use crate::removing::remove_node;
-use crate::resolving::resolve_list;
+use crate::resolved::Resolved;
 use crate::steps::removes;
 use crate::tops::Tops;
-use crate::{MAX_FOREST_NODES, MAX_PATH};
+use crate::walked::Walked;
 use base::NoMemory;
 use std::alloc::Global;
-use yaml_lines::{Forest, MAX_LEVELS, Node};
-
-/// The resolved children of a top-level node.
-fn resolve_top(alloc: Global, tops: &Tops, node: &Node) -> Result<Level, MergeFault>
-    ensures done { IfOk result (λ level. resolved_list (MAX_PATH - 1) (trees_of (out-Node node.now).children) (MAX_LEVELS - 1) (trees_of tops.now.forest) ((out-Node node.now).key ∷ []) none ≡ Ok level) }
-    ensures fault { IfErr result (λ fault. IsFault NoMemory fault (resolved_list (MAX_PATH - 1) (trees_of (out-Node node.now).children) (MAX_LEVELS - 1) (trees_of tops.now.forest) ((out-Node node.now).key ∷ []) none)) }
-{
-    let mut path = Vec::new(alloc);
-    path.push(node.key.copy(alloc)?)?;
-    let start = Level::new(alloc);
-    let room = MAX_LEVELS - 1;
-    resolve_list(
-        alloc,
-        tops,
-        &node.children,
-        MAX_PATH - 1,
-        room,
-        &mut path,
-        start,
-    )
-}
+use std::mem;
+use yaml_lines::{Forest, Node};
 
 /// A top-level node with its resolved children.
-fn top_node(alloc: Global, node: &Node, children: Level) -> Result<Node, NoMemory>
-    ensures { IfOk result (λ made. before made ≡ (λ rest. more (out-Node node.now).key (out-Node node.now).value (out-Node node.now).place children rest)) }
+fn top_node(node: &Node, children: Forest) -> Result<Node, NoMemory>
+    ensures { IfOk result (λ made. before made ≡ (λ rest. more (out-Node node.now).key (out-Node node.now).value (out-Node node.now).place (trees_of children) rest)) }
 {
-    let Tops { forest, names: _ } = Tops::of(alloc, children)?;
     Ok(Node {
-        key: node.key.copy(alloc)?,
-        value: node.value.copy(alloc)?,
+        key: node.key.copy()?,
+        value: node.value.copy()?,
         place: node.place,
-        children: forest,
+        children,
     })
 }
 
-/// Resolves the top-level nodes that are no removals, in order.
-fn resolve_tops(alloc: Global, tops: &Tops) -> Result<Forest, MergeFault>
+/// Keeps all top-level nodes that are no removals, or finds the first fault of their resolving.
+fn keep_tops(alloc: Global, tops: &Tops, kept: &mut Vec<Option<Resolved>>) -> Result<(), MergeFault>
+    requires once { IsOnce (trees_of tops.now.forest) }
+    requires are_kept { AreKept (trees_of tops.now.forest) kept.old.items }
+    requires long { length kept.old.items ≡ width (trees_of tops.now.forest) }
+    ensures are_kept { AreKept (trees_of tops.now.forest) kept.new.items }
+    ensures long { length kept.new.items ≡ width (trees_of tops.now.forest) }
+    ensures all { OnOk result (AreKeptBefore (width (trees_of tops.now.forest)) (trees_of tops.now.forest) kept.new.items) }
+    ensures fault { IfErr result (λ fault. IsFault NoMemory fault (resolved_tops (trees_of tops.now.forest) (trees_of tops.now.forest) none)) }
+{
+    let mut walked = Walked::none(alloc, tops.forest.nodes.len())?;
+    let mut total = 0usize;
+    for at in 0..tops.forest.nodes.len() {
+        let node = node_at(&tops.forest, at);
+        if removes(node.key.as_str().as_bytes()) {
+            continue;
+        }
+        let order = walked.parents_first(alloc, tops, at)?;
+        keep_parents(alloc, tops, kept, order);
+        keep(alloc, tops, kept, at)?;
+        total = total
+            .saturating_add(total_at(kept.as_slice(), at))
+            .saturating_add(1);
+        if total > MAX_FOREST_NODES {
+            return Err(MergeFault::TooLarge { place: node.place });
+        }
+    }
+    Ok(())
+}
+
+/// The top-level nodes that are no removals, each with what is kept of it, in order.
+fn take_tops(
+    alloc: Global,
+    tops: &Tops,
+    kept: &mut Vec<Option<Resolved>>,
+) -> Result<Forest, MergeFault>
+    requires are_kept { AreKept (trees_of tops.now.forest) kept.old.items }
+    requires long { length kept.old.items ≡ width (trees_of tops.now.forest) }
+    requires all { AreKeptBefore (width (trees_of tops.now.forest)) (trees_of tops.now.forest) kept.old.items }
     ensures done { IfOk result (λ forest. resolved_tops (trees_of tops.now.forest) (trees_of tops.now.forest) none ≡ Ok (trees_of forest)) }
     ensures fault { IfErr result (λ fault. IsFault NoMemory fault (resolved_tops (trees_of tops.now.forest) (trees_of tops.now.forest) none)) }
 {
     let mut nodes = Vec::new(alloc);
     let mut total = 0usize;
-    for node in &tops.forest.nodes {
+    for at in 0..tops.forest.nodes.len() {
+        let node = node_at(&tops.forest, at);
         if removes(node.key.as_str().as_bytes()) {
             continue;
         }
-        let children = resolve_top(alloc, tops, node)?;
-        total = total.saturating_add(children.total()).saturating_add(1);
+        let held = take_at(kept, at);
+        total = total.saturating_add(held.total).saturating_add(1);
         if total > MAX_FOREST_NODES {
             return Err(MergeFault::TooLarge { place: node.place });
         }
-        nodes.push(top_node(alloc, node, children)?)?;
+        nodes.push(top_node(node, held.children)?)?;
     }
     Ok(Forest { nodes })
+}
+
+/// Takes what is kept of the node at a place.
+fn take_at(kept: &mut Vec<Option<Resolved>>, at: usize) -> Resolved
+    requires place { at < length kept.old.items }
+    requires kept { IsSome (slot kept.old.items at) }
+    ensures taken { slot kept.old.items at ≡ Some result }
+    ensures left { kept.new.items ≡ set kept.old.items at None }
+{
+    mem::replace(&mut kept[at], None).unwrap()
+}
+
+/// Resolves the top-level nodes that are no removals, in order.
+fn resolve_tops(alloc: Global, tops: &Tops) -> Result<Forest, MergeFault>
+    requires once { IsOnce (trees_of tops.now.forest) }
+    ensures done { IfOk result (λ forest. resolved_tops (trees_of tops.now.forest) (trees_of tops.now.forest) none ≡ Ok (trees_of forest)) }
+    ensures fault { IfErr result (λ fault. IsFault NoMemory fault (resolved_tops (trees_of tops.now.forest) (trees_of tops.now.forest) none)) }
+{
+    let mut kept = vacant(alloc, tops)?;
+    keep_tops(alloc, tops, &mut kept)?;
+    take_tops(alloc, tops, &mut kept)
+}
+
+/// Nothing kept of any node.
+fn vacant(alloc: Global, tops: &Tops) -> Result<Vec<Option<Resolved>>, NoMemory>
+    ensures are_kept { IfOk result (λ kept. AreKept (trees_of tops.now.forest) kept.items) }
+    ensures long { IfOk result (λ kept. length kept.items ≡ width (trees_of tops.now.forest)) }
+{
+    let mut kept = Vec::with_capacity(alloc, tops.forest.nodes.len())?;
+    for _node in &tops.forest.nodes {
+        kept.push(None)?;
+    }
+    Ok(kept)
 }
 
 /// Removes what the top-level removals name, in order.
@@ -104,16 +160,18 @@ fn merge_files(alloc: Global, files: &[Forest]) -> Result<Level, NoMemory>
 
 /// Merges the files in order, and resolves what their nodes inherit and remove.
 ///
-/// In each list of the answer a key stands once, and nothing is left to resolve: no node is a removal, and none below
-/// the top level is an `Inherits`. Where lines can give the nodes of all files, they can give those of the answer.
+/// In each list of the answer a key stands once, and nothing is left to resolve: no node is a
+/// removal, and none below the top level is an `Inherits`. Where lines can give the nodes of all
+/// files, they can give those of the answer.
 ///
-/// The fault is the first in the order of resolving: the top-level nodes that are no removals, in order, each with the nodes
-/// below it in order, and then the removals at the top level. At an `Inherits` the order is: `NoParent`, `Cycle`, `TooDeep`
-/// where the path has `MAX_PATH` names already, the faults inside the parent, `TooDeep` where a node of the parent would
-/// stand at level `MAX_LEVELS`, `TooLarge`. At a removal `NothingToRemove` comes where the list so far has no such node.
-/// `TooLarge` comes after a node below the top level where its list has more than `MAX_LIST_NODES` nodes then, and after a
-/// top-level node where the forest has more than `MAX_FOREST_NODES` then. `NoMemory` is want of memory, and may come in
-/// place of any answer.
+/// The fault is the first in the order of resolving: the top-level nodes that are no removals, in
+/// order, each with the nodes below it in order, and then the removals at the top level. At an
+/// `Inherits` the order is: `NoParent`, `Cycle`, `TooDeep` where the path has `MAX_PATH` names
+/// already, the faults inside the parent, `TooDeep` where a node of the parent would stand at level
+/// `MAX_LEVELS`, `TooLarge`. At a removal `NothingToRemove` comes where the list so far has no such
+/// node. `TooLarge` comes after a node below the top level where its list has more than
+/// `MAX_LIST_NODES` nodes then, and after a top-level node where the forest has more than
+/// `MAX_FOREST_NODES` then. `NoMemory` means out of memory, and may come in place of any answer.
 #[tactic(auto, unfolding(crate::specs::Resolving::resolved_files))]
 pub fn resolve(alloc: Global, files: &[Forest]) -> Result<Forest, MergeFault>
     ensures done { IfOk result (λ forest. resolved_files (map trees_of files.now) ≡ Ok (trees_of forest)) }

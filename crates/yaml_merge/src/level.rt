@@ -1,6 +1,7 @@
 ghost use Rattle.std.specs.Prelude.{◌≡◌, ◌<◌, OnOk, MatchOption, if◌then◌else◌};
 ghost use Rattle.yaml_lines.specs.Trees.{none};
-ghost use Rattle.yaml_merge.specs.Levels.{width, Stands, children_from, emptied, emptied_at, put_at, removed_from};
+ghost use Rattle.yaml_merge.specs.Levels.{width, Stands, children_from, emptied, emptied_at};
+ghost use Rattle.yaml_merge.specs.Levels.{put_at, removed_from};
 ghost use Rattle.yaml_merge.specs.Merging.{Lacks, count, children_at, joined, newer_value, without};
 ghost use Rattle.yaml_merge.specs.Resolving.{added};
 
@@ -11,7 +12,8 @@ use std::marker::Model;
 use std::mem;
 use yaml_lines::{Place, Text};
 
-/// A list of nodes that grows, seen as plain trees: the keys in order, and beside each key what else its node has.
+/// A list of nodes that grows, seen as plain trees: the keys in order, and beside each key what
+/// else its node has.
 #[derive(Drop)]
 #[cycle(level)]
 pub struct Level {
@@ -122,9 +124,9 @@ impl Level {
         let Some(total) = others.checked_add(children.total()) else {
             return Err(AllocError);
         };
-        let value = value.copy(alloc)?;
+        let value = value.copy()?;
         self.bodies.reserve(1)?;
-        self.keys.insert(key.copy(alloc)?.into_string())?;
+        self.keys.insert(String::from_str(alloc, key.as_str())?)?;
         self.bodies.push_reserved(Body {
             value,
             place,
@@ -137,7 +139,6 @@ impl Level {
     /// Gives the node at a place the value, unless that is empty, and the place and the children.
     fn fill(
         &mut self,
-        alloc: Global,
         at: usize,
         value: &Text,
         place: Place,
@@ -151,15 +152,15 @@ impl Level {
         let Some(total) = others.checked_add(children.total()) else {
             return Err(AllocError);
         };
-        renew(alloc, &mut body.value, value)?;
+        renew(&mut body.value, value)?;
         body.place = place;
         body.children = children;
         self.total = total;
         Ok(())
     }
 
-    /// Joins a node to the list: the node with its key gets the value, unless that is empty, and the place and the
-    /// children. Where no node has the key, it comes last.
+    /// Joins a node to the list: the node with its key gets the value, unless that is empty, and
+    /// the place and the children. Where no node has the key, it comes last.
     pub fn join(
         &mut self,
         alloc: Global,
@@ -171,7 +172,7 @@ impl Level {
         ensures { OnOk result (self.new ≡ joined key.now value.now place (λ _. children) self.old) }
     {
         match self.find(key.as_str()) {
-            Some(at) => self.fill(alloc, at, value, place, children),
+            Some(at) => self.fill(at, value, place, children),
             None => self.add(alloc, key, value, place, children),
         }
     }
@@ -205,11 +206,11 @@ impl Level {
 }
 
 /// Gives a value that isn't empty in place of the old one.
-fn renew(alloc: Global, old: &mut Text, new: &Text) -> Result<(), NoMemory>
+fn renew(old: &mut Text, new: &Text) -> Result<(), NoMemory>
     ensures { OnOk result (old.new ≡ newer_value old.old new.now) }
 {
     if !new.as_str().is_empty() {
-        *old = new.copy(alloc)?;
+        *old = new.copy()?;
     }
     Ok(())
 }

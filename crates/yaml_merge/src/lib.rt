@@ -1,18 +1,25 @@
-//! Merging the forests of several MiniYaml files, and resolving what their nodes inherit and remove.
+//! Merging the forests of several MiniYaml files, and resolving what their nodes inherit and
+//! remove.
 //!
-//! `resolve` gives the resolved forest, or the first fault in the order of resolving, with its place. Its
-//! definition is a recursion on ordered trees that resolves a parent anew each time it is inherited.
+//! `resolve` gives the resolved forest, or the first fault in the order of resolving, with its
+//! place. Its definition is a recursion on ordered trees that resolves a parent anew each time it
+//! is inherited.
 #![tactic(auto)]
 
 mod fault;
 mod files;
+mod keeping;
 mod level;
 mod merging;
 mod removing;
+mod resolved;
 mod resolving;
+mod scene;
 mod sizes;
 mod steps;
+mod stop;
 mod tops;
+mod walked;
 
 pub use fault::MergeFault;
 pub use files::resolve;

@@ -1,123 +1,153 @@
-ghost use Rattle.std.specs.Prelude.{◌≡◌, ◌-◌, IfOk, IfErr, OnOk, Ok};
-ghost use Rattle.base.specs.Steps.{IsFault};
+ghost use Rattle.std.specs.Prelude.{◌≡◌, ◌≤◌, ◌+◌, ◌-◌, IfOk, IfErr, MatchOption, Some};
 ghost use Rattle.yaml_lines.specs.Trees.{trees_of};
 ghost use Rattle.yaml_lines.specs.declared.forest.Forest.TheViews.{out-Node};
-ghost use Rattle.yaml_merge.specs.declared.fault.MergeFault.TheVariants.{NoMemory};
-ghost use Rattle.yaml_merge.specs.Resolving.{parent_of, inherit_step, join_step, parents, taken_in, resolved_list};
+ghost use Rattle.yaml_merge.specs.Kept.{AreKept, Gives, Stops, slot};
+ghost use Rattle.yaml_merge.specs.Resolving.{parent_of, inherit_step, join_step, parents, taken_in};
+ghost use Rattle.yaml_merge.specs.Resolving.{resolved_list};
+ghost use Rattle.yaml_merge.specs.declared.resolved.Resolved.{Resolved};
 
 use crate::MAX_LIST_NODES;
 use crate::fault::MergeFault;
+use crate::keeping::held_at;
 use crate::level::Level;
+use crate::resolved::Resolved;
+use crate::scene::Scene;
 use crate::steps::{in_path, inherit, inherits, removal, remove, within};
-use crate::tops::Tops;
+use crate::stop::Stop;
 use std::alloc::Global;
-use yaml_lines::{Forest, MAX_LEVELS, Node, Text};
+use yaml_lines::{Forest, Node};
+
+/// What is kept of the node at a place, where the path may get as many names as it adds.
+fn served<'a>(scene: &Scene<'a>, at: usize) -> Option<&'a Resolved>
+    ensures { MatchOption result ((held : Resolved) → slot scene.now.kept.now at ≡ Some held → scene.now.free ≤ held.height)
+        (λ parent. (slot scene.now.kept.now at ≡ Some parent.now) × (parent.now.height + 1 ≤ scene.now.free)) }
+{
+    match held_at(scene.kept, at) {
+        Some(parent) => {
+            if parent.height < scene.free {
+                Some(parent)
+            } else {
+                None
+            }
+        }
+        None => None,
+    }
+}
 
 /// Takes an `Inherits` node into a list that is being resolved.
-#[cycle(resolving)]
-#[tactic(auto, using(crate::proofs::ListSteps::falls))]
 fn inherit_node(
     alloc: Global,
-    tops: &Tops,
+    scene: &Scene<'_>,
     node: &Node,
-    free: usize,
     room: usize,
-    path: &mut Vec<Text>,
     list: Level,
-) -> Result<Level, MergeFault>
-    ensures taken { IfOk result (λ level. inherit_step free room (out-Node node.now).place (out-Node node.now).value path.old.items (parents free (trees_of tops.now.forest) path.old.items (out-Node node.now).value) list (parent_of (out-Node node.now).value (trees_of tops.now.forest)) ≡ Ok level) }
-    ensures path { OnOk result (path.new.items ≡ path.old.items) }
-    ensures fault { IfErr result (λ fault. IsFault NoMemory fault (inherit_step free room (out-Node node.now).place (out-Node node.now).value path.old.items (parents free (trees_of tops.now.forest) path.old.items (out-Node node.now).value) list (parent_of (out-Node node.now).value (trees_of tops.now.forest)))) }
+    high: &mut usize,
+) -> Result<Level, Stop>
+    requires are_kept { AreKept (trees_of scene.now.tops.now.forest) scene.now.kept.now }
+    ensures taken { IfOk result (Gives (trees_of scene.now.tops.now.forest) scene.now.kept.now high.new (λ free path. inherit_step free room (out-Node node.now).place (out-Node node.now).value path (parents free (trees_of scene.now.tops.now.forest) path (out-Node node.now).value) list (parent_of (out-Node node.now).value (trees_of scene.now.tops.now.forest)))) }
+    ensures rises { high.old ≤ high.new }
+    ensures bound { high.old ≤ scene.now.free → high.new ≤ scene.now.free }
+    ensures stop { IfErr result (λ stop. Stops (trees_of scene.now.tops.now.forest) scene.now.kept.now scene.now.free scene.now.path.now stop (inherit_step scene.now.free room (out-Node node.now).place (out-Node node.now).value scene.now.path.now (parents scene.now.free (trees_of scene.now.tops.now.forest) scene.now.path.now (out-Node node.now).value) list (parent_of (out-Node node.now).value (trees_of scene.now.tops.now.forest)))) }
 {
     let place = node.place;
     let name = node.value.as_str();
-    let Some(children) = tops.parent_of(name) else {
-        return Err(MergeFault::NoParent { place });
+    let Some(at) = scene.tops.place_of(name) else {
+        return Err(Stop::Fault(MergeFault::NoParent { place }));
     };
-    if in_path(name.as_bytes(), path.as_slice()) {
-        return Err(MergeFault::Cycle { place });
+    if in_path(name.as_bytes(), scene.path) {
+        return Err(Stop::Fault(MergeFault::Cycle { place }));
     }
-    if free == 0 {
-        return Err(MergeFault::TooDeep { place });
+    if scene.free == 0 {
+        return Err(Stop::Fault(MergeFault::TooDeep { place }));
     }
-    path.push(node.value.copy(alloc)?)?;
-    let start = Level::new(alloc);
-    let parent = resolve_list(alloc, tops, children, free - 1, MAX_LEVELS - 1, path, start)?;
-    path.pop();
-    inherit(alloc, room, place, list, parent)
+    match served(scene, at) {
+        Some(parent) => match inherit(alloc, room, place, list, parent) {
+            Ok(level) => {
+                *high = (*high).max(parent.height + 1);
+                Ok(level)
+            }
+            Err(fault) => Err(Stop::Fault(fault)),
+        },
+        None => Err(Stop::Parent(at)),
+    }
 }
 
 /// Takes a node that is no `Inherits` and no removal into a list that is being resolved.
 #[cycle(resolving)]
 fn join_node(
     alloc: Global,
-    tops: &Tops,
+    scene: &Scene<'_>,
     node: &Node,
-    free: usize,
     room: usize,
-    path: &mut Vec<Text>,
     list: Level,
-) -> Result<Level, MergeFault>
-    ensures taken { IfOk result (λ level. join_step (out-Node node.now).key (out-Node node.now).value (out-Node node.now).place (λ old. resolved_list free (trees_of (out-Node node.now).children) (room - 1) (trees_of tops.now.forest) path.old.items old) list ≡ Ok level) }
-    ensures path { OnOk result (path.new.items ≡ path.old.items) }
-    ensures fault { IfErr result (λ fault. IsFault NoMemory fault (join_step (out-Node node.now).key (out-Node node.now).value (out-Node node.now).place (λ old. resolved_list free (trees_of (out-Node node.now).children) (room - 1) (trees_of tops.now.forest) path.old.items old) list)) }
+    high: &mut usize,
+) -> Result<Level, Stop>
+    requires are_kept { AreKept (trees_of scene.now.tops.now.forest) scene.now.kept.now }
+    ensures taken { IfOk result (Gives (trees_of scene.now.tops.now.forest) scene.now.kept.now high.new (λ free path. join_step (out-Node node.now).key (out-Node node.now).value (out-Node node.now).place (λ old. resolved_list free (trees_of (out-Node node.now).children) (room - 1) (trees_of scene.now.tops.now.forest) path old) list)) }
+    ensures rises { high.old ≤ high.new }
+    ensures bound { high.old ≤ scene.now.free → high.new ≤ scene.now.free }
+    ensures stop { high.old ≤ scene.now.free → IfErr result (λ stop. Stops (trees_of scene.now.tops.now.forest) scene.now.kept.now scene.now.free scene.now.path.now stop (join_step (out-Node node.now).key (out-Node node.now).value (out-Node node.now).place (λ old. resolved_list scene.now.free (trees_of (out-Node node.now).children) (room - 1) (trees_of scene.now.tops.now.forest) scene.now.path.now old) list)) }
 {
     let mut list = list;
     let children = list.take(alloc, &node.key);
     let room = room.saturating_sub(1);
-    let children = resolve_list(alloc, tops, &node.children, free, room, path, children)?;
+    let children = resolve_list(alloc, scene, &node.children, room, children, high)?;
     list.join(alloc, &node.key, &node.value, node.place, children)?;
     Ok(list)
 }
 
 /// Takes one node into a list that is being resolved.
 #[cycle(resolving)]
-#[tactic(auto, unfolding(crate::specs::Resolving::taken_in, crate::specs::Resolving::node_step))]
 fn take_in(
     alloc: Global,
-    tops: &Tops,
+    scene: &Scene<'_>,
     node: &Node,
-    free: usize,
     room: usize,
-    path: &mut Vec<Text>,
     list: Level,
-) -> Result<Level, MergeFault>
-    ensures taken { IfOk result (λ level. taken_in free room (trees_of tops.now.forest) path.old.items (out-Node node.now).key (out-Node node.now).value (out-Node node.now).place (trees_of (out-Node node.now).children) list ≡ Ok level) }
-    ensures path { OnOk result (path.new.items ≡ path.old.items) }
-    ensures fault { IfErr result (λ fault. IsFault NoMemory fault (taken_in free room (trees_of tops.now.forest) path.old.items (out-Node node.now).key (out-Node node.now).value (out-Node node.now).place (trees_of (out-Node node.now).children) list)) }
+    high: &mut usize,
+) -> Result<Level, Stop>
+    requires are_kept { AreKept (trees_of scene.now.tops.now.forest) scene.now.kept.now }
+    ensures taken { IfOk result (Gives (trees_of scene.now.tops.now.forest) scene.now.kept.now high.new (λ free path. taken_in free room (trees_of scene.now.tops.now.forest) path (out-Node node.now).key (out-Node node.now).value (out-Node node.now).place (trees_of (out-Node node.now).children) list)) }
+    ensures rises { high.old ≤ high.new }
+    ensures bound { high.old ≤ scene.now.free → high.new ≤ scene.now.free }
+    ensures stop { high.old ≤ scene.now.free → IfErr result (λ stop. Stops (trees_of scene.now.tops.now.forest) scene.now.kept.now scene.now.free scene.now.path.now stop (taken_in scene.now.free room (trees_of scene.now.tops.now.forest) scene.now.path.now (out-Node node.now).key (out-Node node.now).value (out-Node node.now).place (trees_of (out-Node node.now).children) list)) }
 {
     let key = node.key.as_str();
     if inherits(key.as_bytes()) {
-        return inherit_node(alloc, tops, node, free, room, path, list);
+        return inherit_node(alloc, scene, node, room, list, high);
     }
     match removal(key) {
-        Some(removed) => remove(removed, node.place, list),
-        None => join_node(alloc, tops, node, free, room, path, list),
+        Some(removed) => match remove(removed, node.place, list) {
+            Ok(level) => Ok(level),
+            Err(fault) => Err(Stop::Fault(fault)),
+        },
+        None => join_node(alloc, scene, node, room, list, high),
     }
 }
 
-/// Takes the nodes of a list, in order, into a list that is there. The path may get `free` more names, and the nodes
-/// may take up `room` levels.
+/// Takes the nodes of a list, in order, into a list that is there. The nodes may take up `room`
+/// levels. `high` rises to the greatest number of names that this adds to the path.
 #[cycle(resolving)]
 pub fn resolve_list(
     alloc: Global,
-    tops: &Tops,
+    scene: &Scene<'_>,
     list: &Forest,
-    free: usize,
     room: usize,
-    path: &mut Vec<Text>,
     start: Level,
-) -> Result<Level, MergeFault>
-    ensures done { IfOk result (λ level. resolved_list free (trees_of list.now) room (trees_of tops.now.forest) path.old.items start ≡ Ok level) }
-    ensures path { OnOk result (path.new.items ≡ path.old.items) }
-    ensures fault { IfErr result (λ fault. IsFault NoMemory fault (resolved_list free (trees_of list.now) room (trees_of tops.now.forest) path.old.items start)) }
+    high: &mut usize,
+) -> Result<Level, Stop>
+    requires are_kept { AreKept (trees_of scene.now.tops.now.forest) scene.now.kept.now }
+    ensures done { IfOk result (Gives (trees_of scene.now.tops.now.forest) scene.now.kept.now high.new (λ free path. resolved_list free (trees_of list.now) room (trees_of scene.now.tops.now.forest) path start)) }
+    ensures rises { high.old ≤ high.new }
+    ensures bound { high.old ≤ scene.now.free → high.new ≤ scene.now.free }
+    ensures stop { high.old ≤ scene.now.free → IfErr result (λ stop. Stops (trees_of scene.now.tops.now.forest) scene.now.kept.now scene.now.free scene.now.path.now stop (resolved_list scene.now.free (trees_of list.now) room (trees_of scene.now.tops.now.forest) scene.now.path.now start)) }
 {
     let mut done = start;
     for node in &list.nodes {
-        let next = take_in(alloc, tops, node, free, room, path, done)?;
+        let next = take_in(alloc, scene, node, room, done, high)?;
         match within(MAX_LIST_NODES, node.place, next) {
             Ok(kept) => done = kept,
-            Err(fault) => return Err(fault),
+            Err(fault) => return Err(Stop::Fault(fault)),
         }
     }
     Ok(done)

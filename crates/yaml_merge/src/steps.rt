@@ -4,13 +4,14 @@ ghost use Rattle.base.specs.Steps.{IsFault};
 ghost use Rattle.yaml_lines.specs.Trees.{trees_of};
 ghost use Rattle.yaml_merge.specs.declared.fault.MergeFault.TheVariants.{NoMemory};
 ghost use Rattle.yaml_merge.specs.Merging.{without};
-ghost use Rattle.yaml_merge.specs.Resolving.{inherits, removes, in_path, within, inherited, removed};
+ghost use Rattle.yaml_merge.specs.Resolving.{inherits, removes, in_path, within, inherited};
+ghost use Rattle.yaml_merge.specs.Resolving.{removed};
 
 use crate::fault::MergeFault;
 use crate::level::Level;
 use crate::merging::merge;
+use crate::resolved::Resolved;
 use crate::sizes::has_levels;
-use crate::tops::Tops;
 use std::alloc::Global;
 use yaml_lines::{Place, Text};
 
@@ -90,14 +91,13 @@ pub fn inherit(
     room: usize,
     place: Place,
     list: Level,
-    parent: Level,
+    parent: &Resolved,
 ) -> Result<Level, MergeFault>
-    ensures taken { IfOk result (λ level. inherited room place list parent ≡ Ok level) }
-    ensures fault { IfErr result (λ fault. IsFault NoMemory fault (inherited room place list parent)) }
+    ensures taken { IfOk result (λ level. inherited room place list (trees_of parent.now.children) ≡ Ok level) }
+    ensures fault { IfErr result (λ fault. IsFault NoMemory fault (inherited room place list (trees_of parent.now.children))) }
 {
-    let Tops { forest, names: _ } = Tops::of(alloc, parent)?;
-    if !has_levels(&forest, room) {
+    if !has_levels(&parent.children, room) {
         return Err(MergeFault::TooDeep { place });
     }
-    Ok(merge(alloc, &forest, list)?)
+    Ok(merge(alloc, &parent.children, list)?)
 }

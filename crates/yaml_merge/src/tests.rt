@@ -6,7 +6,7 @@ use std::str;
 use std::test::Fail;
 use yaml_lines::{Forest, parse, print};
 
-/// What is printed of some files, resolved, or the fault's name and its place behind `! `.
+/// What is printed of some files, resolved, or the fault's name and its place after `! `.
 fn outcome(alloc: Global, files: &[&str]) -> Result<Vec<u8>, AllocError> {
     let mut forests: Vec<Forest> = Vec::new(alloc);
     let mut number = 0u16;
@@ -33,7 +33,7 @@ fn outcome(alloc: Global, files: &[&str]) -> Result<Vec<u8>, AllocError> {
     Vec::from_slice(alloc, text.as_bytes())
 }
 
-static ROWS: [(&[&str], &str); 64] = [
+static ROWS: [(&[&str], &str); 67] = [
     (&[""], ""),
     (&[], ""),
     // Merging: equal keys, values, positions.
@@ -204,10 +204,22 @@ static ROWS: [(&[&str], &str); 64] = [
         "! Cycle 0 6",
     ),
     (&["A:\n\tB:\n\t\tInherits: A\n"], "! Cycle 0 3"),
+    (
+        &["A:\n\tInherits: B\n\tInherits@2: B\n\t-Y:\nB:\n\tX: 1\n"],
+        "! NothingToRemove 0 4",
+    ),
+    (
+        &["A:\n\tX: 1\n\tInherits: B\n\tX: 2\n\tInherits@2: B\nB:\n\tX: 3\n"],
+        "A:\n\tX: 3\nB:\n\tX: 3\n",
+    ),
+    (
+        &["B:\n\tX: 1\nA:\n\tInherits: B\n\tC:\n\t\tInherits: D\nD:\n\tInherits: A\n"],
+        "! Cycle 0 8",
+    ),
 ];
 
-/// What is printed of a resolved forest has nothing left to inherit, remove or merge: read and resolved again, it is
-/// printed the same.
+/// What is printed of a resolved forest has nothing left to inherit, remove or merge: read and
+/// resolved again, it is printed the same.
 fn outcome_again(alloc: Global, printed: &str) -> Result<Vec<u8>, AllocError> {
     outcome(alloc, &[printed])
 }
@@ -233,6 +245,70 @@ fn chain_of(alloc: Global, parents: u32) -> Result<String, AllocError> {
         write!(text, "^T{k}:\n\tInherits@a: ^T{before}\n")?;
     }
     Ok(text)
+}
+
+/// A chain of parents, each of which inherits the one before it twice.
+fn doubled_of(alloc: Global, parents: u32) -> Result<String, AllocError> {
+    let mut text = String::from_str(alloc, "^T0:\n\tHealth:\n")?;
+    for k in 1..=parents {
+        let before = k - 1;
+        write!(
+            text,
+            "^T{k}:\n\tInherits@a: ^T{before}\n\tInherits@b: ^T{before}\n"
+        )?;
+    }
+    Ok(text)
+}
+
+/// How many parents are doubled, and the fault.
+static DOUBLED_ROWS: [(u8, &str); 3] = [(60, ""), (63, ""), (64, "! TooDeep 0 4")];
+
+#[test]
+fn doubled_parents(rt: HostRuntime) -> Result<(), Fail> {
+    let alloc = rt.alloc();
+    for (parents, fault) in DOUBLED_ROWS.iter() {
+        let text = doubled_of(alloc, u32::from(*parents))?;
+        let printed = outcome(alloc, &[text.as_str()])?;
+        let mut expected = String::from_str(alloc, *fault)?;
+        if fault.is_empty() {
+            for k in 0..=*parents {
+                write!(expected, "^T{k}:\n\tHealth:\n")?;
+            }
+        }
+        assert_eq!(rt; str::from_utf8(printed.as_slice())?, expected.as_str());
+    }
+    Ok(())
+}
+
+/// Parents that each inherit the one before them at level 31, the first of them last, and that
+/// remove what they built where `removed` says so.
+fn nested_of(alloc: Global, parents: u32, removed: &str) -> Result<String, AllocError> {
+    let mut text = String::new(alloc);
+    for k in 0..parents {
+        let below = parents - k;
+        let before = below - 1;
+        write!(text, "T{below}:\n")?;
+        go_down(&mut text, "X:", 1, 31)?;
+        for _ in 0..31 {
+            text.push('\t')?;
+        }
+        write!(text, "Inherits: T{before}\n{removed}")?;
+    }
+    text.push_str("T0:\n\tX:\n")?;
+    text.push_str(removed)?;
+    Ok(text)
+}
+
+#[test]
+fn nested_parents(rt: HostRuntime) -> Result<(), Fail> {
+    let alloc = rt.alloc();
+    let text = nested_of(alloc, 63, "\t-X:\n")?;
+    let printed = outcome(alloc, &[text.as_str()])?;
+    assert!(rt; printed.as_slice().first() == Some(&b'T'));
+    let text = nested_of(alloc, 63, "")?;
+    let printed = outcome(alloc, &[text.as_str()])?;
+    assert_eq!(rt; str::from_utf8(printed.as_slice())?, "! TooDeep 0 1984");
+    Ok(())
 }
 
 #[test]
@@ -297,8 +373,8 @@ fn deep_parents(rt: HostRuntime) -> Result<(), Fail> {
 const LARGE: &str =
     "A:\n\tA:\n\t\tInherits: 0\n\tB:\n\t\tInherits: 0\n\tC:\n\t\tInherits: 0\n\tD:\n\t\tInherits: 0\n\tE:\n\t\tInherits: 0\n\tF:\n\t\tInherits: 0\n\tG:\n\t\tInherits: 0\n\tH:\n\t\tInherits: 0\n\tI:\n";
 
-/// A parent with 32,767 nodes below it: each number stands at the level of its ones in binary. With `H` the list of those
-/// that inherit it has 262,144 nodes.
+/// A parent with 32,767 nodes below it: each number stands at the level of its ones in binary. With
+/// `H` the list of those that inherit it has 262,144 nodes.
 fn large_list(alloc: Global) -> Result<String, AllocError> {
     let mut text = String::from_str(alloc, LARGE)?;
     for number in 0u32..32_768 {

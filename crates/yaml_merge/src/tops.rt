@@ -1,8 +1,6 @@
-ghost use Rattle.std.specs.Prelude.{◌≡◌, ◌<◌, length, IfOk, IfSome, MatchOption, map, string_bytes, None, Some};
+ghost use Rattle.std.specs.Prelude.{◌≡◌, IfOk, IfSome, MatchOption, map, string_bytes, None, Some};
 ghost use Rattle.yaml_lines.specs.Trees.{trees_of};
-ghost use Rattle.yaml_lines.specs.declared.forest.Forest.{size-Forest};
-ghost use Rattle.yaml_lines.specs.declared.forest.Forest.TheViews.{out-Forest};
-ghost use Rattle.yaml_merge.specs.Levels.{keys_of, width, children_from};
+ghost use Rattle.yaml_merge.specs.Levels.{keys_of, Stands, children_from};
 ghost use Rattle.yaml_merge.specs.Resolving.{parent_of};
 
 use crate::level::{Body, Level};
@@ -40,7 +38,7 @@ impl Tops {
             } = body;
             let Tops { forest, names: _ } = Tops::of(alloc, children)?;
             nodes.push(Node {
-                key: Text::from_string(String::from_str(alloc, key.as_str())?),
+                key: Text::from_string(String::from_str(alloc, key.as_str())?)?,
                 value,
                 place,
                 children: forest,
@@ -52,26 +50,14 @@ impl Tops {
         })
     }
 
-    /// The children of the node that a name names.
-    pub fn parent_of(&self, name: &str) -> Option<&Forest>
-        ensures parent { MatchOption result (parent_of name.now (trees_of self.now.forest) ≡ None) (λ children. parent_of name.now (trees_of self.now.forest) ≡ Some (trees_of children.now)) }
-        ensures smaller { IfSome result (λ children. size-Forest children.now < size-Forest self.now.forest) }
+    /// The place of the node that a name names.
+    pub fn place_of(&self, name: &str) -> Option<usize>
+        ensures parent { MatchOption result (parent_of name.now (trees_of self.now.forest) ≡ None) (λ at. parent_of name.now (trees_of self.now.forest) ≡ Some (children_from at (trees_of self.now.forest))) }
+        ensures stands { IfSome result (λ at. Stands name.now at (trees_of self.now.forest)) }
     {
         if removes(name.as_bytes()) {
             return None;
         }
-        match self.names.get_index_of(name) {
-            Some(at) => Some(children_at(&self.forest, at)),
-            None => None,
-        }
+        self.names.get_index_of(name)
     }
-}
-
-/// The children of the node at a place.
-fn children_at(forest: &Forest, at: usize) -> &Forest
-    requires { at < length (out-Forest forest.now).nodes.items }
-    ensures children { trees_of result.now ≡ children_from at (trees_of forest.now) }
-    ensures smaller { size-Forest result.now < size-Forest forest.now }
-{
-    &forest.nodes[at].children
 }

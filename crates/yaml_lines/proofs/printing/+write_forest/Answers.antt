@@ -1,4 +1,5 @@
-use Rattle.std.proofs.Common.{◌≡◌, ◌+◌, ◌-◌, ◌++◌, ◌∷◌, [], length, ap, sym, refl, ◌∙◌, arith, drop, take, vec_len}
+use Rattle.std.proofs.Common.{◌≡◌, ◌+◌, ◌-◌, ◌++◌, ◌∷◌, [], length, ap, sym, refl, ◌∙◌, arith, drop}
+use Rattle.std.proofs.Common.{take, vec_len}
 use Rattle.std.proofs.lemmas.List.{drop_more, length_push, take_at}
 use Rattle.yaml_lines.specs.declared.forest.Forest.TheViews.{out-Node}
 use Rattle.yaml_lines.specs.Printed.{printed, printed_text}

@@ -1,7 +1,9 @@
-use Rattle.std.proofs.Common.{rules}
+use Rattle.std.proofs.Common.{rules, map, sym, ◌∙◌, subst}
+use Rattle.yaml_lines.specs.Trees.{none, trees_of}
+use Rattle.yaml_merge.specs.Settled.{IsOnce}
 use Rattle.yaml_merge.specs.Resolving.{resolved_files}
 use Rattle.yaml_merge.proofs.ReadableSteps.{resolve_readable}
-use Rattle.yaml_merge.proofs.SettledSteps.{resolve_settled}
+use Rattle.yaml_merge.proofs.SettledSteps.{resolve_settled, merged_files_once}
 use Rattle.yaml_merge.proofs.files.resolve.Goals as goal
 
 pub returns-clause-done : goal.returns-clause-done
@@ -13,3 +15,7 @@ returns-clause-settled c = resolve_settled c.args.files.now _ (returns-clause-do
 
 pub returns-clause-readable : goal.returns-clause-readable
 returns-clause-readable c = resolve_readable c.args.files.now _ (returns-clause-done c)
+
+pub resolve_tops-requires : goal.resolve_tops-requires
+resolve_tops-requires c =
+    record { once = subst IsOnce (c.in_ok-list.ensures {u = tt} ∙ sym (c.in_ok-tops.ensures {u = tt})) (merged_files_once (map trees_of c.args.files.now) none tt) }

@@ -1,7 +1,8 @@
 use Rattle.std.proofs.Common.{◌≤◌, ◌∙◌, ap, arith}
 use Rattle.yaml_merge.specs.Levels.{children_from, emptied_at}
 use Rattle.yaml_merge.specs.Merging.{count}
-use Rattle.yaml_merge.proofs.LevelSteps.{at_body, below_total, children_zipped, emptied_zipped, whole_set}
+use Rattle.yaml_merge.proofs.LevelSteps.{at_body, below_total, children_zipped, emptied_zipped}
+use Rattle.yaml_merge.proofs.LevelSteps.{whole_set}
 use Rattle.yaml_merge.proofs.level.Level.empty_at.Goals as goal
 
 pub index_mut-body-requires : goal.index_mut-body-requires

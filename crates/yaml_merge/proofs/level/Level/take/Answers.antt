@@ -1,7 +1,8 @@
 use Rattle.std.proofs.Common.{◌∙◌, subst}
 use Rattle.yaml_merge.specs.Levels.{Stands}
 use Rattle.yaml_merge.specs.Merging.{Lacks}
-use Rattle.yaml_merge.proofs.LevelLaws.{stands_within, stands_children, lacks_children, emptied_stands, emptied_lacks}
+use Rattle.yaml_merge.proofs.LevelLaws.{stands_within, stands_children, lacks_children}
+use Rattle.yaml_merge.proofs.LevelLaws.{emptied_stands, emptied_lacks}
 use Rattle.yaml_merge.proofs.level.Level.take.Goals as goal
 
 pub empty_at-requires : goal.empty_at-requires

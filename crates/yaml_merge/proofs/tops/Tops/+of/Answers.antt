@@ -22,7 +22,7 @@ loop-key-preserved t c =
     let below = c.in_ok-forest.ensures {u = tt} in
     ap trees_of_nodes pushed.items
     ∙ added_last c.loop-key.nodes.items pair.0.bytes.items body.value body.place body.children _
-    (node_made _ _ _ _ _ _ _ (c.from_string.ensures ∙ made.ok ∙ c.as_str.ensures.value) refl below)
+    (node_made _ _ _ _ _ _ _ (c.in_ok-from_string.ensures {u = tt} ∙ made.ok ∙ c.as_str.ensures.value) refl below)
     ∙ ap (added pair.0.bytes.items body.value body.place body.children) c.loop-key.invariant
     ∙ sym (paired_more (map (λ p. (p.0.now, p.1)) c.loop-key.yielded) pair)
     ∙ ap paired (sym (map-append (λ p. (p.0.now, p.1)) c.loop-key.yielded ((c.in-Some.key, body) ∷ [])))
