@@ -1,3 +1,9 @@
-pub mod EachSteps
-pub mod KindSteps
-pub mod KindLaws
+pub mod BuildTableLemmas
+pub mod DescribedLemmas
+pub mod EachLemmas
+pub mod FieldLemmas
+pub mod KindKeysLemmas
+pub mod KindsLemmas
+pub mod OutcomeLemmas
+pub mod TypedLemmas
+pub mod ValidRulesLemmas

@@ -1,9 +1,10 @@
 -- A map from the names of kinds to their numbers.
 use Rattle.std.specs.Prelude.{ℕ, List, Option}
-use Rattle.std.specs.HashMap.{HashMap, get_by}
-use Rattle.std.specs.Str.{bytes_eq}
+use Rattle.std.specs.BTreeMap.{BTreeMap, get_by}
+use Rattle.std.specs.Cmp.Lexicographic.{slice_cmp}
+use Rattle.std.specs.Ordering.{nat_cmp}
 use denote.Ref.{Bor}
 
 -- The number that the map has for a name.
-abbrev pub number_in : {S : Type 0} → HashMap (Bor (List ℕ)) ℕ S → List ℕ → Option ℕ
-number_in numbers name = get_by (λ key. bytes_eq name key.now) numbers
+abbrev pub number_in : BTreeMap (Bor (List ℕ)) ℕ → List ℕ → Option ℕ
+number_in numbers name = get_by (λ key. slice_cmp nat_cmp name key.now) numbers

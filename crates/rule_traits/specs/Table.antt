@@ -1,13 +1,16 @@
--- The fields that hold numbers: for each its form, its least and greatest value, and the value of a trait without it.
+-- The fields that hold numbers: for each its form, its least and greatest value, and the value of a
+-- trait without it.
 use Rattle.std.specs.Prelude.{ℕ}
 use Rattle.rule_traits.specs.declared.field.Field.{Field}
 use Rattle.rule_traits.specs.declared.field.Form.TheVariants.{Number, Distance}
 
 abbrev pub number : (least greatest default : ℕ) → Field
-number least greatest default = record { form = Number; least = least; greatest = greatest; default = default }
+number least greatest default =
+    record { form = Number; least = least; greatest = greatest; default = default }
 
 abbrev pub distance : (least greatest default : ℕ) → Field
-distance least greatest default = record { form = Distance; least = least; greatest = greatest; default = default }
+distance least greatest default =
+    record { form = Distance; least = least; greatest = greatest; default = default }
 
 -- Health.
 abbrev pub hp : Field

@@ -4,11 +4,15 @@ use Rattle.std.specs.List.{before_first, find}
 use Rattle.std.specs.Str.{bytes_eq}
 use Rattle.rule_traits.specs.declared.kind.Kind.{Kind}
 use Rattle.rule_traits.specs.declared.traits.Trait.{Trait}
-use Rattle.rule_traits.specs.declared.traits.Trait.TheVariants.{Health, Mobile, Building, Harvester, Refinery, Production, Buildable, Valued, Armament}
+use Rattle.rule_traits.specs.declared.traits.Trait.TheVariants.{Health, Mobile, Building, Harvester}
+use Rattle.rule_traits.specs.declared.traits.Trait.TheVariants.{Refinery, Production, Buildable}
+use Rattle.rule_traits.specs.declared.traits.Trait.TheVariants.{Valued, Armament}
 
 -- All traits, in the order of the table.
 abbrev pub all_traits : List Trait
-all_traits = Health ∷ Mobile ∷ Building ∷ Harvester ∷ Refinery ∷ Production ∷ Buildable ∷ Valued ∷ Armament ∷ []
+all_traits =
+    Health ∷ Mobile ∷ Building ∷ Harvester ∷ Refinery
+    ∷ Production ∷ Buildable ∷ Valued ∷ Armament ∷ []
 
 abbrev pub name_of : Trait → List ℕ
 name_of Health = codes "Health"
@@ -35,4 +39,5 @@ has_trait kind Armament = is_some kind.armament
 
 -- The trait of a key: the one whose name stands before the first `@` (64), or is the whole key.
 unfoldable pub trait_of : List ℕ → Option Trait
-trait_of key = find (λ trait. bytes_eq (name_of trait) (before_first (λ byte. byte == 64) key)) all_traits
+trait_of key =
+    find (λ trait. bytes_eq (name_of trait) (before_first (λ byte. byte == 64) key)) all_traits

@@ -5,8 +5,8 @@ use std::alloc::AllocFailed;
 use thiserror::Error;
 use yaml_lines::Place;
 
-/// Why a forest has no typed rules: the first fault in preorder. Each place is that at which the node at fault was read
-/// last.
+/// Why a forest has no typed rules: the first fault in preorder. Each place is that at which the
+/// node at fault was read last.
 #[derive(Debug, Drop, Error)]
 pub enum RuleFault {
     /// Comes at a field whose value is not of its form.
@@ -39,9 +39,41 @@ pub enum RuleFault {
         /// The place of the kind's node.
         place: Place,
     },
-    /// Want of memory. It may come in place of any other answer.
+    /// Out of memory. It may come in place of any other answer.
     #[error("out of memory")]
     NoMemory,
+}
+
+impl RuleFault {
+    ghost use Rattle.rule_traits.specs.Fault.{cause_of, place_of};
+
+    /// The cause: the name of its variant.
+    pub fn cause(&self) -> &'static str
+        ensures { result.now ≡ cause_of self.now }
+    {
+        match self {
+            RuleFault::BadValue { .. } => "BadValue",
+            RuleFault::OutOfRange { .. } => "OutOfRange",
+            RuleFault::MissingField { .. } => "MissingField",
+            RuleFault::UnknownKindName { .. } => "UnknownKindName",
+            RuleFault::TooManyKinds { .. } => "TooManyKinds",
+            RuleFault::NoMemory => "NoMemory",
+        }
+    }
+
+    /// The place of the node at fault. `None` comes exactly where it is out of memory.
+    pub fn place(&self) -> Option<Place>
+        ensures { result ≡ place_of self.now }
+    {
+        match self {
+            RuleFault::BadValue { place }
+            | RuleFault::OutOfRange { place }
+            | RuleFault::MissingField { place }
+            | RuleFault::UnknownKindName { place }
+            | RuleFault::TooManyKinds { place } => Some(*place),
+            RuleFault::NoMemory => None,
+        }
+    }
 }
 
 impl From<NoMemory> for RuleFault {

@@ -1,9 +1,19 @@
+ghost use Rattle.std.specs.Prelude.{◌≡◌};
+ghost use Rattle.rule_traits.specs.Rules.{is_listed};
+
 use crate::trait_fields::{
     Armament, Buildable, Harvester, Health, Mobile, Production, Refinery, Valued,
 };
 use crate::trait_value::TraitValue;
 use crate::traits::Trait;
 use yaml_lines::Text;
+
+/// Whether the name stands in the list.
+fn is_listed(names: &[Text], name: &str) -> bool
+    ensures { result ≡ is_listed names.now name.now }
+{
+    names.iter().any(|other| other.as_str() == name)
+}
 
 /// A kind of actor: its name, and the traits that it has.
 #[derive(Drop)]
@@ -32,6 +42,8 @@ pub struct Kind {
 
 impl Kind {
     ghost use Rattle.std.specs.Prelude.{◌≡◌};
+    ghost use Rattle.rule_traits.specs.Rules.{can_build, cost_of, hp_of, moves, produces_of};
+    ghost use Rattle.rule_traits.specs.Rules.{queue_of};
     ghost use Rattle.rule_traits.specs.Traits.{has_trait};
     ghost use Rattle.rule_traits.specs.Typed.{plain_kind, with_trait};
 
@@ -50,6 +62,65 @@ impl Kind {
             Trait::Valued => self.valued.is_some(),
             Trait::Armament => self.armament.is_some(),
         }
+    }
+
+    /// Whether it moves: it has `Mobile` and not `Building`.
+    pub fn moves(&self) -> bool
+        ensures { result ≡ moves self.now }
+    {
+        self.mobile.is_some() && !self.building
+    }
+
+    /// Its hit points at full health: 1 without `Health`.
+    pub fn hp(&self) -> u32
+        ensures { result ≡ hp_of self.now }
+    {
+        match &self.health {
+            Some(health) => health.hp,
+            None => 1,
+        }
+    }
+
+    /// Its price in cash: 0 without `Valued`.
+    pub fn cost(&self) -> u32
+        ensures { result ≡ cost_of self.now }
+    {
+        match &self.valued {
+            Some(valued) => valued.cost,
+            None => 0,
+        }
+    }
+
+    /// The names of the queues that it produces: none without `Production`.
+    pub(crate) fn produces(&self) -> &[Text]
+        ensures { result.now ≡ produces_of self.now }
+    {
+        match &self.production {
+            Some(production) => production.produces.as_slice(),
+            None => &[],
+        }
+    }
+
+    /// The names of the queues in which it is built: none without `Buildable`.
+    pub(crate) fn queue(&self) -> &[Text]
+        ensures { result.now ≡ queue_of self.now }
+    {
+        match &self.buildable {
+            Some(buildable) => buildable.queue.as_slice(),
+            None => &[],
+        }
+    }
+
+    /// Whether a name of the product's queues is one that this kind produces.
+    #[tactic(auto, unfolding(crate::specs::Rules::can_build))]
+    pub fn can_build(&self, product: &Kind) -> bool
+        ensures { result ≡ can_build self.now product.now }
+    {
+        let produces = self.produces();
+        product
+            .queue()
+            .iter()
+            .any(|name| is_listed(produces, name.as_str()))
     }
 
     /// A kind without traits.

@@ -9,7 +9,7 @@ ghost use Rattle.rule_traits.specs.Numbered.{number_in};
 use crate::MAX_KINDS;
 use base::NoMemory;
 use std::alloc::Global;
-use std::collections::HashMap;
+use std::collections::BTreeMap;
 use std::marker::Model;
 use yaml_lines::Forest;
 
@@ -17,7 +17,7 @@ use yaml_lines::Forest;
 #[derive(Drop)]
 pub struct KindNames<'a> {
     top: &'a Forest,
-    numbers: HashMap<&'a str, u16>,
+    numbers: BTreeMap<&'a str, u16>,
 }
 
 impl<'a> Model for KindNames<'a> {
@@ -35,7 +35,8 @@ impl<'a> Model for KindNames<'a> {
 
     ghost view = { λ kinds. kinds.top.now };
 
-    ghost invariant = { λ kinds. (name : List ℕ) → number_in kinds.numbers name ≡ number_of_kind (trees_of kinds.top.now) name };
+    ghost invariant = { λ kinds. (name : List ℕ) → number_in kinds.numbers name ≡ number_of_kind
+        (trees_of kinds.top.now) name };
 }
 
 /// Whether a top-level node is a kind: its key doesn't begin with `^`.
@@ -77,13 +78,14 @@ fn next_number(number: u16) -> u16
 }
 
 /// Notes a kind's number under its name, unless an earlier kind has the name.
-#[tactic(auto, using(crate::proofs::KindSteps::note_steps))]
+#[tactic(auto, using(crate::proofs::KindsLemmas::note_steps))]
 fn note_kind<'a>(
-    numbers: &mut HashMap<&'a str, u16>,
+    numbers: &mut BTreeMap<&'a str, u16>,
     name: &'a str,
     number: u16,
 ) -> Result<(), NoMemory>
-    ensures { OnOk result ((q : List ℕ) → number_in numbers.new q ≡ option_or (number_in numbers.old q) (if bytes_eq q name.now then Some number else None)) }
+    ensures { OnOk result ((q : List ℕ) → number_in numbers.new q ≡ option_or (number_in numbers.old
+        q) (if bytes_eq q name.now then Some number else None)) }
 {
     if !numbers.contains_key(name) {
         numbers.insert(name, number)?;
@@ -92,11 +94,12 @@ fn note_kind<'a>(
 }
 
 /// The number of the first kind of each name, from 0.
-#[tactic(auto, using(crate::proofs::KindSteps::kind_steps), unfolding(crate::specs::Kinds::number_of_kind))]
-fn number_kinds<'a>(alloc: Global, top: &'a Forest) -> Result<HashMap<&'a str, u16>, NoMemory>
-    ensures { IfOk result (λ numbers. (name : List ℕ) → number_in numbers name ≡ number_of_kind (trees_of top.now) name) }
+#[tactic(auto, using(crate::proofs::KindsLemmas::kind_steps), unfolding(crate::specs::Kinds::number_of_kind))]
+fn number_kinds<'a>(alloc: Global, top: &'a Forest) -> Result<BTreeMap<&'a str, u16>, NoMemory>
+    ensures { IfOk result (λ numbers. (name : List ℕ) → number_in numbers name ≡ number_of_kind
+        (trees_of top.now) name) }
 {
-    let mut numbers = HashMap::new(alloc);
+    let mut numbers = BTreeMap::new(alloc);
     let mut number = 0;
     for node in &top.nodes {
         let name = node.key.as_str();

@@ -1,20 +1,21 @@
 //! Typed rules: the kinds that a resolved rule forest describes, with the values of their traits.
 //!
-//! Stands on `yaml_lines` for forests and on `rule_values` for the forms of values. `type_rules` gives exactly the
-//! kinds of the table of traits and the list of what it passed over, or the first fault in preorder with its place.
+//! Stands on `yaml_lines` for forests and on `rule_values` for the forms of values. `type_rules`
+//! gives exactly the kinds of the table of traits and the list of what it passed over, or the first
+//! fault in preorder with its place.
 #![tactic(auto)]
 
+mod build_table;
 mod fault;
 mod field;
 mod kind;
 mod kind_names;
-mod kind_numbers;
-mod name_list;
+mod lists;
 mod reading;
 mod rules;
+mod sample;
 mod setting;
 mod skipped;
-mod skipped_list;
 mod table;
 mod trait_fields;
 mod trait_value;
@@ -23,11 +24,10 @@ mod typing;
 
 pub use fault::RuleFault;
 pub use kind::Kind;
-pub use kind_numbers::KindNumbers;
-pub use name_list::NameList;
+pub use lists::{KindNumbers, NameList, SkippedList};
 pub use rules::Rules;
+pub use sample::SAMPLE_RULES;
 pub use skipped::Skipped;
-pub use skipped_list::SkippedList;
 pub use trait_fields::{
     Armament, Buildable, Costs, Harvester, Health, Mobile, Production, Refinery, Valued,
 };

@@ -9,8 +9,7 @@ ghost use Rattle.rule_traits.specs.declared.fault.RuleFault.TheVariants.{NoMemor
 use crate::fault::RuleFault;
 use crate::field::{Field, Form};
 use crate::kind_names::KindNames;
-use crate::kind_numbers::KindNumbers;
-use crate::name_list::NameList;
+use crate::lists::{KindNumbers, NameList};
 use base::NoMemory;
 use rule_values::{names, read_dist, read_number};
 use std::alloc::Global;
@@ -37,15 +36,26 @@ pub fn read_field(field: Field, text: &str, place: Place) -> Result<u32, RuleFau
     Ok(number as u32)
 }
 
+/// A name of a list as a text. Where the name is the whole list, its bytes are not copied.
+#[tactic(auto, using(crate::proofs::EachLemmas::same_text))]
+fn name_text(alloc: Global, list: &Text, name: &str) -> Result<Text, NoMemory>
+    ensures { IfOk result (λ text. text ≡ name.now) }
+{
+    if list.as_str() == name {
+        return list.copy();
+    }
+    Text::from_string(String::from_str(alloc, name)?)
+}
+
 /// The names of a list.
-pub fn read_names(alloc: Global, text: &str) -> Result<NameList, NoMemory>
+pub fn read_names(alloc: Global, text: &Text) -> Result<NameList, NoMemory>
     ensures { IfOk result (λ list. list ≡ names_of text.now) }
 {
-    let mut held = Vec::new(alloc);
-    for name in names(text) {
-        held.push(Text::from_string(String::from_str(alloc, name)?))?;
+    let mut list = NameList::new(alloc);
+    for name in names(text.as_str()) {
+        list.push(name_text(alloc, text, name)?)?;
     }
-    Ok(NameList::from_vec(held))
+    Ok(list)
 }
 
 /// The numbers of the kinds that a list names.
@@ -55,15 +65,17 @@ pub fn read_kinds(
     text: &str,
     place: Place,
 ) -> Result<KindNumbers, RuleFault>
-    ensures numbers { IfOk result (λ list. numbers_after (trees_of kinds.now) place (names_of text.now) [] ≡ Ok list) }
-    ensures fault { IfErr result (λ fault. IsFault NoMemory fault (numbers_after (trees_of kinds.now) place (names_of text.now) [])) }
+    ensures numbers { IfOk result (λ list. numbers_after (trees_of kinds.now) place (names_of
+        text.now) [] ≡ Ok list) }
+    ensures fault { IfErr result (λ fault. IsFault NoMemory fault (numbers_after (trees_of
+        kinds.now) place (names_of text.now) [])) }
 {
-    let mut held = Vec::new(alloc);
+    let mut list = KindNumbers::new(alloc);
     for name in names(text) {
         let Some(number) = kinds.number(name) else {
             return Err(RuleFault::UnknownKindName { place });
         };
-        held.push(number)?;
+        list.push(number)?;
     }
-    Ok(KindNumbers::from_vec(held))
+    Ok(list)
 }

@@ -1,6 +1,8 @@
 //! Each trait's fields: one function a trait, which reads one field into it.
 
-ghost use Rattle.rule_traits.specs.Values.{health_with, mobile_with, harvester_with, refinery_with, production_with, buildable_with, valued_with, armament_with};
+ghost use Rattle.rule_traits.specs.Values.{health_with, mobile_with, harvester_with, refinery_with};
+ghost use Rattle.rule_traits.specs.Values.{production_with, buildable_with, valued_with};
+ghost use Rattle.rule_traits.specs.Values.{armament_with};
 ghost use Rattle.yaml_lines.specs.Trees.{trees_of};
 ghost use Rattle.yaml_lines.specs.declared.forest.Forest.TheViews.{out-Node};
 ghost use Rattle.rule_traits.specs.Sets.{Sets, of_node};
@@ -79,10 +81,11 @@ pub fn set_refinery(t: &mut Refinery, node: &Node) -> Result<bool, RuleFault>
 /// Reads a field of `Production`.
 #[tactic(auto, unfolding(crate::specs::Values::production_with))]
 pub fn set_production(alloc: Global, t: &mut Production, node: &Node) -> Result<bool, RuleFault>
-    ensures { Sets t.new (production_with t.old (out-Node node.now).key (out-Node node.now).value) result }
+    ensures { Sets t.new (production_with t.old (out-Node node.now).key (out-Node node.now).value)
+        result }
 {
     match node.key.as_str() {
-        "Produces" => t.produces = read_names(alloc, node.value.as_str())?,
+        "Produces" => t.produces = read_names(alloc, &node.value)?,
         _ => return Ok(false),
     }
     Ok(true)
@@ -101,7 +104,7 @@ pub fn set_buildable(
     let value = node.value.as_str();
     let place = node.place;
     match node.key.as_str() {
-        "Queue" => t.queue = read_names(alloc, value)?,
+        "Queue" => t.queue = read_names(alloc, &node.value)?,
         "BuildDuration" => t.duration = read_field(BUILD_DURATION, value, place)? as u16,
         "Needs" => t.needs = read_kinds(alloc, kinds, value, place)?,
         _ => return Ok(false),

@@ -1,6 +1,6 @@
-//! Rule texts with the kinds and the skipped nodes that come out of them, or with the fault and its line.
+//! Rule texts with the kinds and the skipped nodes that they give, or with the fault and its line.
 
-use crate::{Kind, RuleFault, Rules, SkippedList, Trait, type_rules};
+use crate::{Kind, Rules, SAMPLE_RULES, SkippedList, Trait, type_rules};
 use std::alloc::{AllocError, Global};
 use std::test::Fail;
 use yaml_lines::{Text, parse};
@@ -108,7 +108,7 @@ fn written(alloc: Global, rules: &Rules, skipped: &SkippedList) -> Result<String
     Ok(out)
 }
 
-/// What comes of a rule text: what is written of it, or the fault's name and its line behind `! `.
+/// The kinds and skipped nodes of a rule text, or after `! ` the fault's cause and its line.
 fn outcome(alloc: Global, text: &str) -> Result<String, AllocError> {
     let Ok(forest) = parse(alloc, 0, text.as_bytes()) else {
         return String::from_str(alloc, "?");
@@ -117,19 +117,14 @@ fn outcome(alloc: Global, text: &str) -> Result<String, AllocError> {
         Ok((rules, skipped)) => return written(alloc, &rules, &skipped),
         Err(fault) => fault,
     };
-    let (name, place) = match fault {
-        RuleFault::BadValue { place } => ("BadValue", place),
-        RuleFault::OutOfRange { place } => ("OutOfRange", place),
-        RuleFault::MissingField { place } => ("MissingField", place),
-        RuleFault::UnknownKindName { place } => ("UnknownKindName", place),
-        RuleFault::TooManyKinds { place } => ("TooManyKinds", place),
-        RuleFault::NoMemory => return Err(AllocError),
+    let Some(place) = fault.place() else {
+        return Err(AllocError);
     };
-    let line = place.line;
-    format!(in alloc; "! {name} {line}")
+    let (cause, line) = (fault.cause(), place.line);
+    format!(in alloc; "! {cause} {line}")
 }
 
-/// What comes of a kind A whose trait has one field with this value.
+/// The outcome of a kind A whose trait has one field with this value.
 fn outcome_of(alloc: Global, known: &str, field: &str, value: &str) -> Result<String, AllocError> {
     let text = format!(in alloc; "A:\n\t{known}:\n\t\t{field}: {value}\n")?;
     outcome(alloc, text.as_str())
@@ -429,8 +424,8 @@ fn texts(rt: HostRuntime) -> Result<(), Fail> {
     Ok(())
 }
 
-/// A text in which `first` stands before so many kinds, each behind a node that is no kind.
-fn kinds_behind(alloc: Global, first: &str, kinds: u32) -> Result<String, AllocError> {
+/// A text in which `first` stands before so many kinds, each after a node that is no kind.
+fn kinds_after(alloc: Global, first: &str, kinds: u32) -> Result<String, AllocError> {
     let mut text = String::from_str(alloc, first)?;
     for k in 0..kinds {
         write!(text, "^{k}:\nK{k}:\n")?;
@@ -458,7 +453,7 @@ fn limits(rt: HostRuntime) -> Result<(), Fail> {
         ),
     ];
     for (first, kinds, expected) in rows {
-        let text = kinds_behind(alloc, first, kinds)?;
+        let text = kinds_after(alloc, first, kinds)?;
         let found = outcome(alloc, text.as_str())?;
         assert!(rt; found.as_str().starts_with(expected), "at {kinds}");
     }
@@ -480,5 +475,99 @@ fn trait_names(rt: HostRuntime) -> Result<(), Fail> {
         }
     }
     assert_eq!(rt; found.as_str(), "Mobile Building Armament ");
+    Ok(())
+}
+
+/// Two factories, a jeep of two queues, and a kind that has nothing.
+const WORLD: &str = "fact:\n\tBuilding:\n\tMobile:\n\tProduction:\n\t\tProduces: Boat, Vehicle\n\
+    tent:\n\tProduction:\n\t\tProduces: Infantry\n\
+    jeep:\n\tHealth:\n\t\tHP: 100\n\tMobile:\n\tValued:\n\t\tCost: 300\n\tBuildable:\n\t\tQueue: Air,Vehicle\n\
+    rock:\njeep:\n";
+
+#[test]
+fn what_a_world_asks(rt: HostRuntime) -> Result<(), Fail> {
+    let alloc = rt.alloc();
+    let forest = parse(alloc, 0, WORLD.as_bytes())?;
+    let (rules, _) = type_rules(alloc, &forest)?;
+    assert_eq!(rt; rules.number("jeep"), Some(2));
+    assert_eq!(rt; rules.number("tent"), Some(1));
+    assert_eq!(rt; rules.number("Jeep"), None);
+    assert!(rt; rules.get(4).is_some() && rules.get(5).is_none());
+    assert!(rt;
+        rules
+            .get(0)
+            .is_some_and(|kind| !kind.moves() && kind.hp() == 1 && kind.cost() == 0)
+    );
+    assert!(rt;
+        rules.get(2).is_some_and(|kind| kind.moves() && kind.hp() == 100 && kind.cost() == 300)
+    );
+    let mut found = String::new(alloc);
+    for builder in 0..6 {
+        for product in 0..6 {
+            if rules.builds(builder, product) {
+                write!(found, "{builder} builds {product}, ")?;
+            }
+        }
+    }
+    assert_eq!(rt; found.as_str(), "0 builds 2, ");
+    Ok(())
+}
+
+/// The sample rules with their parents in place, as they are resolved.
+const RESOLVED_SAMPLE: &str = "\
+    jeep:\n\
+    \tHealth:\n\
+    \t\tHP: 100\n\
+    \tMobile:\n\
+    \t\tSpeed: 128\n\
+    \t\tTurnSpeed: 64\n\
+    \tBuildable:\n\
+    \t\tQueue: Vehicle\n\
+    \t\tBuildDuration: 20\n\
+    \tValued:\n\
+    \t\tCost: 300\n\
+    \tArmament:\n\
+    \t\tRange: 4c0\n\
+    \t\tDamage: 10\n\
+    \t\tSpread: 4\n\
+    \t\tReload: 10\n\
+    harv:\n\
+    \tHealth:\n\
+    \t\tHP: 100\n\
+    \tMobile:\n\
+    \t\tSpeed: 128\n\
+    \t\tTurnSpeed: 64\n\
+    \tBuildable:\n\
+    \t\tQueue: Vehicle\n\
+    \t\tBuildDuration: 20\n\
+    \tValued:\n\
+    \t\tCost: 800\n\
+    \tHarvester:\n\
+    \t\tCapacity: 10\n\
+    fact:\n\
+    \tHealth:\n\
+    \t\tHP: 100\n\
+    \tBuilding:\n\
+    \tProduction:\n\
+    \t\tProduces: Vehicle\n\
+    proc:\n\
+    \tHealth:\n\
+    \t\tHP: 100\n\
+    \tBuilding:\n\
+    \tRefinery:\n\
+    ";
+
+#[test]
+fn sample(rt: HostRuntime) -> Result<(), Fail> {
+    let alloc = rt.alloc();
+    let found = outcome(alloc, RESOLVED_SAMPLE)?;
+    let kinds = "\
+        jeep Health 100 Mobile 128 64 2,1,4,0 Armament 4096 10 4 10 Buildable 20 [Vehicle] [] Valued 300\n\
+        harv Health 100 Mobile 128 64 2,1,4,0 Harvester 10 4 4 Buildable 20 [Vehicle] [] Valued 800\n\
+        fact Health 100 Building Production [Vehicle]\n\
+        proc Health 100 Building Refinery 25\n";
+    assert_eq!(rt; found.as_str(), kinds);
+    let written = parse(alloc, 0, SAMPLE_RULES.as_bytes())?;
+    assert_eq!(rt; written.nodes.len(), 6);
     Ok(())
 }

@@ -1,5 +1,4 @@
-use crate::kind_numbers::KindNumbers;
-use crate::name_list::NameList;
+use crate::lists::{KindNumbers, NameList};
 
 /// It has hit points.
 #[derive(Clone, Copy, Debug, Drop, PartialEq, Eq)]
@@ -8,7 +7,8 @@ pub struct Health {
     pub hp: u32,
 }
 
-/// What it costs to enter a cell, each 0 to 10. A cell of cost 0 can't be entered, and neither can one of rock.
+/// What it costs to enter a cell, each 0 to 10. A cell of cost 0 can't be entered, and neither can
+/// one of rock.
 #[derive(Clone, Copy, Debug, Drop, PartialEq, Eq)]
 pub struct Costs {
     /// The cost of a clear cell, 0 to 10.
@@ -64,7 +64,8 @@ pub struct Buildable {
     pub queue: NameList,
     /// Ticks that it takes to build it, 0 to 65,535.
     pub duration: u16,
-    /// The numbers of the kinds that its owner needs to have, each that of a kind of the same rules.
+    /// The numbers of the kinds that its owner needs to have, each that of a kind of the same
+    /// rules.
     pub needs: KindNumbers,
 }
 

@@ -1,7 +1,6 @@
 use crate::fault::RuleFault;
 use crate::kind_names::KindNames;
-use crate::kind_numbers::KindNumbers;
-use crate::name_list::NameList;
+use crate::lists::{KindNumbers, NameList};
 use crate::setting::{
     set_armament, set_buildable, set_harvester, set_health, set_mobile, set_production,
     set_refinery, set_valued,
@@ -69,12 +68,12 @@ impl TraitValue {
                 value: BALE_VALUE.default,
             }),
             Trait::Production => TraitValue::Production(Production {
-                produces: NameList::from_vec(Vec::new(alloc)),
+                produces: NameList::new(alloc),
             }),
             Trait::Buildable => TraitValue::Buildable(Buildable {
-                queue: NameList::from_vec(Vec::new(alloc)),
+                queue: NameList::new(alloc),
                 duration: BUILD_DURATION.default as u16,
-                needs: KindNumbers::from_vec(Vec::new(alloc)),
+                needs: KindNumbers::new(alloc),
             }),
             Trait::Valued => TraitValue::Valued(Valued { cost: COST.default }),
             Trait::Armament => TraitValue::Armament(Armament {

@@ -1,2 +1,2 @@
-pub mod Cuts
-pub mod NameLists
+pub mod PartsLemmas
+pub mod NameListLemmas

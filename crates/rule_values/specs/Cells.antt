@@ -21,6 +21,6 @@ abbrev pub cell_by : Option (List ℕ × List ℕ) → Option (ℕ × ℕ)
 cell_by None = None
 cell_by (Some parts) = pair_of (coordinate_of parts.0) (coordinate_of parts.1)
 
--- The coordinates before and behind the first comma (44).
+-- The coordinates before and after the first comma (44).
 unfoldable pub cell_of : List ℕ → Option (ℕ × ℕ)
 cell_of text = cell_by (parts_at 44 text)

@@ -5,8 +5,9 @@ use crate::number::read_number;
 use crate::parts::cut;
 use yaml_lines::trim;
 
-/// The column and the row that a text like `12,7` writes: two numbers up to 255 with a comma between them, and
-/// blanks round each allowed. `None` comes exactly where the text is not of this form.
+/// The column and the row that a text like `12,7` writes: two numbers up to 255 with a comma
+/// between them, and blanks round each allowed. `None` comes exactly where the text is not of this
+/// form.
 #[tactic(auto, unfolding(crate::specs::Cells::cell_of))]
 pub fn read_cell(text: &str) -> Option<(u8, u8)>
     ensures { result ≡ cell_of text.now }

@@ -1,7 +1,7 @@
 //! The value forms of rule files: numbers, distances, cells and lists of names.
 //!
-//! Stands on `base` for numbers and on `yaml_lines` for blanks. Each reader answers a value exactly where the text
-//! has its form, and the value is that of the form. No call takes memory.
+//! Stands on `base` for numbers and on `yaml_lines` for blanks. Each reader answers a value exactly
+//! where the text has its form, and the value is that of the form. No call takes memory.
 #![tactic(auto)]
 
 mod cell;

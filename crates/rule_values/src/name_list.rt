@@ -21,7 +21,7 @@ impl<'a> Iterator for Names<'a> {
 
     ghost remaining = { item_count names_left };
 
-    #[tactic(auto, using(crate::proofs::NameLists::none_left, crate::proofs::NameLists::some_bytes, crate::proofs::NameLists::no_bytes))]
+    #[tactic(auto, using(crate::proofs::NameListLemmas::name_steps))]
     fn next(&mut self) -> Option<&'a str> {
         while !self.rest.is_empty() {
             let (part, rest) = first_part(self.rest);
@@ -35,8 +35,9 @@ impl<'a> Iterator for Names<'a> {
     }
 }
 
-/// The text before the first comma and the text behind it, or all of the text and nothing where there is none.
-#[tactic(auto, using(crate::proofs::NameLists::names_at_comma, crate::proofs::NameLists::names_without_comma, crate::proofs::NameLists::after_shorter))]
+/// The text before the first comma and the text after it, or all of the text and nothing where
+/// there is none.
+#[tactic(auto, using(crate::proofs::NameListLemmas::comma_steps))]
 fn first_part(text: &str) -> (&str, &str)
     requires { 0 < length text.now }
     ensures names { names_of text.now ≡ with_name (trim result.0.now) (names_of result.1.now) }

@@ -7,8 +7,8 @@ use crate::parts::cut;
 /// How many units a cell is wide.
 const CELL: u64 = 1024;
 
-/// The number that a text of one to ten decimal digits writes, which is below 10^10. `None` comes exactly where the
-/// text is not of this form.
+/// The number that a text of one to ten decimal digits writes, which is below 10^10. `None` comes
+/// exactly where the text is not of this form.
 pub fn read_number(text: &str) -> Option<u64>
     ensures value { result ≡ number_of text.now }
     ensures small { IfSome result (λ n. n < 10 ^ 10) }
@@ -16,8 +16,8 @@ pub fn read_number(text: &str) -> Option<u64>
     base::read_number(text.as_bytes())
 }
 
-/// The distance in units that a text writes: a number of units, or `4c768`, which is 4 cells of 1024 units and
-/// 768 units. `None` comes exactly where the text is not of one of these two forms.
+/// The distance in units that a text writes: a number of units, or `4c768`, which is 4 cells of
+/// 1024 units and 768 units. `None` comes exactly where the text is not of one of these two forms.
 #[tactic(auto, unfolding(crate::specs::Distances::dist_of))]
 pub fn read_dist(text: &str) -> Option<u64>
     ensures { result ≡ dist_of text.now }

@@ -6,4 +6,4 @@ use Rattle.rule_traits.proofs.reading.read_kinds.Given as goal
 
 abbrev pub invariant-loop-name : goal.invariant-loop-name
 invariant-loop-name l =
-    numbers_after (trees_of l.kinds) l.place (names_left l.name-iterator) l.held.items ≡ numbers_after (trees_of l.kinds) l.place (names_of l.text) []
+    numbers_after (trees_of l.kinds) l.place (names_left l.name-iterator) l.list ≡ numbers_after (trees_of l.kinds) l.place (names_of l.text) []

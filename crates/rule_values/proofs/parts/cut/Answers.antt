@@ -1,4 +1,4 @@
-use Rattle.rule_values.proofs.Cuts.{cut_parts}
+use Rattle.rule_values.proofs.PartsLemmas.{cut_parts}
 use Rattle.rule_values.proofs.parts.cut.Goals as goal
 
 pub returns : goal.returns

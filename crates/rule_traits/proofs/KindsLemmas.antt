@@ -1,5 +1,6 @@
 -- The numbers of kinds by their names, node by node.
-use Rattle.std.proofs.Common.{arith, ◌≡◌, ℕ, ◌+◌, ◌<◌, Bool, true, false, cond, List, length, drop, get_or, refl, sym, ap, ◌∙◌, Option, Some, None, is_some}
+use Rattle.std.proofs.Common.{arith, ◌≡◌, ℕ, ◌+◌, ◌<◌, Bool, true, false, cond, List, length, drop}
+use Rattle.std.proofs.Common.{get_or, refl, sym, ap, ◌∙◌, Option, Some, None, is_some}
 use Rattle.std.proofs.lemmas.Bool.{cond-true, cond-false}
 use Rattle.std.proofs.lemmas.List.{drop_more}
 use Rattle.std.proofs.lemmas.Slice.Eq.{bytes_eq-Decides}
@@ -30,7 +31,7 @@ pub kind_past : (number : ℕ) (q : List ℕ) (nodes : List Node) (at : ℕ) (no
 kind_past number q nodes at node held all h n k e =
     ap (option_or held) (sym (from_at number q nodes at node h n ∙ cond-false _ _ _ k)) ∙ e
 
--- A number noted under a name, and the numbers behind it.
+-- A number noted under a name, and the numbers after it.
 noted : (held : Option ℕ) (same : Bool) (number : ℕ) (later : Option ℕ) →
     option_or (option_or held (cond same (Some number) None)) later ≡ option_or held (cond same (Some number) later)
 noted (Some n) same number later = refl

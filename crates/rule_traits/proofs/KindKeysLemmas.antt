@@ -1,5 +1,7 @@
 -- The kinds of typed rules are the top-level nodes that are kinds, in order.
-use Rattle.std.proofs.Common.{◌≡◌, ℕ, Bool, true, false, cond, leb, List, [], ◌∷◌, ◌++◌, length, refl, sym, ap, ◌∙◌, append-nil, append_assoc, Option, Some, None, Result, Ok, Err, subst}
+use Rattle.std.proofs.Common.{◌≡◌, ℕ, Bool, true, false, cond, leb, List, [], ◌∷◌, ◌++◌, length}
+use Rattle.std.proofs.Common.{refl, sym, ap, ◌∙◌, append-nil, append_assoc, Option, Some, None}
+use Rattle.std.proofs.Common.{Result, Ok, Err, subst}
 use Rattle.std.proofs.lemmas.List.{map-append}
 use Rattle.std.proofs.lemmas.Result.{IfOk-weaker}
 use Rattle.std.specs.Result.{IfOk}
@@ -12,26 +14,17 @@ use Rattle.rule_traits.specs.declared.kind.Kind.{Kind}
 use Rattle.rule_traits.specs.declared.skipped.Skipped.{Skipped}
 use Rattle.rule_traits.specs.declared.traits.Trait.{Trait}
 use Rattle.rule_traits.specs.declared.trait_value.TraitValue.{TraitValue}
-use Rattle.rule_traits.specs.declared.trait_value.TraitValue.TheVariants.{Health, Mobile, Building, Harvester, Refinery, Production, Buildable, Valued, Armament}
+use Rattle.rule_traits.specs.declared.trait_value.TraitValue.TheVariants.{Health, Mobile, Building}
+use Rattle.rule_traits.specs.declared.trait_value.TraitValue.TheVariants.{Harvester, Refinery}
+use Rattle.rule_traits.specs.declared.trait_value.TraitValue.TheVariants.{Production, Buildable}
+use Rattle.rule_traits.specs.declared.trait_value.TraitValue.TheVariants.{Valued, Armament}
 use Rattle.rule_traits.specs.declared.TheConstants.{MAX_KINDS}
 use Rattle.rule_traits.specs.Kinds.{is_kind, kind_keys}
 use Rattle.rule_traits.specs.Traits.{has_trait, trait_of}
-use Rattle.rule_traits.specs.Typed.{each, passed, plain, field_taken, lacks_field, with_trait, trait_joined, trait_step, trait_taken, plain_kind, kind_taken, typed, names_of_kinds}
-
--- What holds of both sides of a choice holds of the choice.
-either : {A : Type 0} (P : A → Type 0) (test : Bool) (x y : Result A RuleFault) → IfOk x P → IfOk y P → IfOk (cond test x y) P
-either P true x y f g = f
-either P false x y f g = g
-
--- What holds after a step and what follows it.
-followed : {A B : Type 0} (P : A → Type 0) (Q : B → Type 0) (outcome : Result A RuleFault) (next : A → Result B RuleFault) → IfOk outcome P →
-    ((value : A) → P value → IfOk (next value) Q) → IfOk (outcome >>= next) Q
-followed P Q (Ok value) next h n = n value h
-followed P Q (Err fault) next h n = tt
-
-any_outcome : {A : Type 0} (outcome : Result A RuleFault) → IfOk outcome (λ _. Unit {0})
-any_outcome (Ok value) = tt
-any_outcome (Err fault) = tt
+use Rattle.rule_traits.proofs.OutcomeLemmas.{either, followed, any_outcome}
+use Rattle.rule_traits.specs.Typed.{each, passed, plain, field_taken, lacks_field, with_trait}
+use Rattle.rule_traits.specs.Typed.{trait_joined, trait_step, trait_taken, plain_kind, kind_taken}
+use Rattle.rule_traits.specs.Typed.{kinds_read, typed, names_of_kinds}
 
 -- A kind keeps its name while its traits are read.
 abbrev IsNamed : List ℕ → Kind × List Skipped → Type 0
@@ -125,9 +118,12 @@ pub typed_named : (top : Trees) → IfOk (typed top) (λ (made : List Kind × Li
 unfolding typed
 typed_named top = kinds_named top ([], []) top
 
--- The answer of typing a forest.
-pub kinds_told : (top : Trees) (answer : Result (List Kind × List Skipped) RuleFault) → IfOk answer (λ made. typed top ≡ Ok made) →
-    IfOk answer (λ (made : List Kind × List Skipped). names_of_kinds made.0 ≡ kind_keys top)
-kinds_told top answer e =
-    IfOk-weaker answer (λ made. typed top ≡ Ok made) (λ (made : List Kind × List Skipped). names_of_kinds made.0 ≡ kind_keys top)
-    (λ made h. subst (λ (x : Result (List Kind × List Skipped) RuleFault). IfOk x (λ (all : List Kind × List Skipped). names_of_kinds all.0 ≡ kind_keys top)) h (typed_named top)) e
+-- The names of the kinds are the keys of their nodes.
+pub keyed_kinds :
+    (top : Trees) (kinds : List Kind) (skipped : List Skipped) → kinds_read top top ≡ Ok (kinds, skipped) →
+    names_of_kinds kinds ≡ kind_keys top
+unfolding typed
+keyed_kinds top kinds skipped e =
+    subst
+    (λ (x : Result (List Kind × List Skipped) RuleFault).
+    IfOk x (λ (all : List Kind × List Skipped). names_of_kinds all.0 ≡ kind_keys top)) e (typed_named top)

@@ -1,8 +1,11 @@
 -- Lists of names, part by part.
-use Rattle.std.proofs.Common.{◌≡◌, ℕ, ◌<◌, ◌≤◌, List, [], ◌∷◌, length, map, Bool, true, false, cond, ltb, ◌==◌, Option, Some, None, refl, sym, ap, ◌∙◌, arith, length-drop, ◌+◌, ◌-◌}
+use Rattle.std.proofs.Common.{◌≡◌, ℕ, ◌<◌, ◌≤◌, List, [], ◌∷◌, length, map, Bool, true, false, cond}
+use Rattle.std.proofs.Common.{ltb, ◌==◌, Option, Some, None, refl, sym, ap, ◌∙◌, arith, length-drop}
+use Rattle.std.proofs.Common.{◌+◌, ◌-◌}
 use Rattle.std.proofs.lemmas.Bool.Decides.{nat_tests}
 use Rattle.std.proofs.lemmas.List.Splits.{slice_split_first, slice_split-cons_no}
-use Rattle.std.specs.List.{filter, slice_split, onto_first, position_or_len, before_first, after_first}
+use Rattle.std.specs.List.{filter, slice_split, onto_first, position_or_len, before_first}
+use Rattle.std.specs.List.{after_first}
 use Rattle.base.specs.Lines.{has_bytes}
 use Rattle.yaml_lines.specs.Blanks.{trim}
 use Rattle.rule_values.specs.NameList.{names_of, with_name}
@@ -66,7 +69,7 @@ is-parts c text before after cut =
     let found : ltb (position_or_len (λ b. b == c) text) (length text) ≡ true = is.0 in
     (grind (arith, nat_tests), ap (λ q. q.0) is.1, ap (λ q. q.1) is.1)
 
--- Where a comma stands, the names are the one before it and those behind it.
+-- Where a comma stands, the names are the one before it and those after it.
 pub names_at_comma :
     (text before after : List ℕ) → parts_at 44 text ≡ Some (before, after) →
     names_of text ≡ with_name (trim before) (names_of after)
@@ -85,9 +88,13 @@ names_without_comma text none =
     ap (λ parts. filter has_bytes (map trim parts)) (one-part is_comma text (grind (arith, nat_tests)))
     ∙ ap (with_name (trim text)) (sym no_names)
 
--- The part behind a separator is shorter than the text.
+-- The part after a separator is shorter than the text.
 pub after_shorter : (c : ℕ) (text before after : List ℕ) → parts_at c text ≡ Some (before, after) → length after < length text
 after_shorter c text before after cut =
     let is = is-parts c text before after cut in
-    let behind : length after ≡ length text - (position_or_len (λ b. b == c) text + 1) = ap length is.2 ∙ length-drop _ text in
+    let left : length after ≡ length text - (position_or_len (λ b. b == c) text + 1) = ap length is.2 ∙ length-drop _ text in
     omega arith
+
+pub ruleset name_steps = (none_left, some_bytes, no_bytes)
+
+pub ruleset comma_steps = (names_at_comma, names_without_comma, after_shorter)

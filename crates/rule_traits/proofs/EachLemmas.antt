@@ -1,7 +1,9 @@
 -- One node of a list whose nodes are taken in order.
-use Rattle.std.proofs.Common.{◌≡◌, ℕ, ◌+◌, ◌<◌, true, false, List, length, drop, get_or, sym, ap, ◌∙◌, Result, Ok, Err}
+use Rattle.std.proofs.Common.{◌≡◌, ℕ, ◌+◌, ◌<◌, true, false, List, length, drop, get_or, sym, ap}
+use Rattle.std.proofs.Common.{◌∙◌, Result, Ok, Err}
 use Rattle.std.proofs.lemmas.Bool.{cond-true, cond-false}
 use Rattle.std.proofs.lemmas.List.{drop_more}
+use Rattle.std.proofs.lemmas.Slice.Eq.{bytes_eq-Decides}
 use Rattle.std.specs.Str.{bytes_eq}
 use Rattle.base.specs.Steps.{◌>>=◌}
 use Rattle.yaml_lines.specs.declared.forest.Node.{Node}
@@ -67,3 +69,7 @@ pub field_out : (name : List ℕ) (f : Forest) → has_field name (trees_of f) �
 field_out name f = ap (has_field name) (trees_out f)
 
 pub ruleset field_steps = (field_here, field_next, field_out)
+
+-- Texts that the test takes for the same are the same.
+pub same_text : (xs ys : List ℕ) → bytes_eq xs ys ≡ true → xs ≡ ys
+same_text xs ys e = (bytes_eq-Decides xs ys).0 e
