@@ -1,5 +1,5 @@
-pub mod WrittenOut
-pub mod ValuesFound
-pub mod PlainNames
-pub mod NamesAsked
-pub mod AcceptedAsks
+pub mod LiteralLemmas
+pub mod FoundValuesLemmas
+pub mod PlainWordsLemmas
+pub mod NamesLemmas
+pub mod AcceptedLemmas

@@ -1,4 +1,4 @@
 pub mod Follows
 pub mod Commands
-pub mod Asked
-pub mod Words
+pub mod RequestPlain
+pub mod Reading

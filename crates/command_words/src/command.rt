@@ -1,5 +1,6 @@
 ghost use Rattle.std.specs.Prelude.{◌≡◌, IfOk, false};
-ghost use Rattle.command_words.specs.Commands.{bare_app, drill_app, yaml_app, check_app, lockstep_app, script_option, file_names};
+ghost use Rattle.command_words.specs.Commands.{bare_app, drill_app, yaml_app, check_app};
+ghost use Rattle.command_words.specs.Commands.{lockstep_app, script_option, file_names};
 ghost use Rattle.command_words.specs.Follows.{Follows};
 ghost use Rattle.clap.specs.Simple.{app_of};
 ghost use Rattle.clap.specs.Walk.{rule_of};
@@ -22,7 +23,7 @@ pub(crate) fn lockstep_command<'a>(alloc: Global) -> Result<Command<'a>, NoMemor
         .subcommand(check)
 }
 
-/// A command that has to be followed by one of its subcommands, without words for help or the version.
+/// A command that one of its subcommands must follow, without words for help or the version.
 #[tactic(auto, unfolding(crate::specs::Commands::bare_app))]
 fn bare_command<'a>(alloc: Global) -> Command<'a>
     ensures { app_of result ≡ bare_app }
@@ -65,7 +66,7 @@ fn script_option<'a>(alloc: Global) -> Arg<'a>
     Arg::new(alloc, "script").long("script").required(true)
 }
 
-/// The names that stand alone: any number of them, each a use of its own.
+/// The positional arguments: any number of them, each a use of its own.
 fn file_names<'a>(alloc: Global) -> Arg<'a>
     ensures rule { rule_of result ≡ file_names }
     ensures local { result.global ≡ false }

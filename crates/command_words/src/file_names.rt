@@ -1,6 +1,7 @@
 use std::marker::Model;
 
-/// Names of files, as the words have them, in their order. In a `Request` they are 1 to `MAX_FILES`.
+/// Names of files, as the words have them, in their order. In a `Request` they are 1 to
+/// `MAX_FILES`.
 #[derive(Debug, Drop)]
 pub struct FileNames<'a> {
     held: Vec<&'a str>,

@@ -1,46 +1,58 @@
-ghost use Rattle.std.specs.Prelude.{◌≡◌, ◌∷◌, ◌++◌, [], ℕ, List, Some, None, true, codes, option_map, is_some, ◌⊎◌};
+ghost use Rattle.std.specs.Prelude.{◌≡◌, ◌∷◌, ◌++◌, [], ℕ, List, Some, None, true, codes};
+ghost use Rattle.std.specs.Prelude.{option_map, is_some, ◌⊎◌};
 ghost use Rattle.std.specs.List.{All};
 ghost use Rattle.clap.specs.Simple.{subcommand_of};
 ghost use Rattle.command_words.specs.Commands.{lockstep_app};
-ghost use Rattle.command_words.specs.Asked.{Drill, Yaml, Check};
-ghost use Rattle.command_words.specs.Words.{request_of, is_accepted, is_plain, allowed, NamesRefused};
+ghost use Rattle.command_words.specs.RequestPlain.{Drill, Yaml, Check};
+ghost use Rattle.command_words.specs.Reading.{request_of, is_accepted, is_plain, allowed};
+ghost use Rattle.command_words.specs.Reading.{NamesRefused};
 
 /// A law of the definition: no words, and the program's name alone, are refused.
-#[tactic(auto, using(crate::proofs::WrittenOut::nothing_asked, crate::proofs::WrittenOut::name_alone))]
+#[tactic(auto, using(crate::proofs::LiteralLemmas::no_words, crate::proofs::LiteralLemmas::alone))]
 pub fn no_command()
     ensures none { request_of [] ≡ None }
     ensures alone { (program : List ℕ) → request_of (program ∷ []) ≡ None }
 {}
 
 /// A law of the definition: `--script=FILE` names FILE, whatever it is.
-#[tactic(auto, using(crate::proofs::WrittenOut::script_behind_equals))]
-pub fn script_behind_equals()
-    ensures { (program script : List ℕ) → request_of (program ∷ codes "drill" ∷ (codes "--script=" ++ script) ∷ []) ≡ Some (Drill script) }
+#[tactic(auto, using(crate::proofs::LiteralLemmas::script_after_equals))]
+pub fn script_after_equals()
+    ensures { (program script : List ℕ) →
+        request_of (program ∷ codes "drill" ∷ (codes "--script=" ++ script) ∷ [])
+        ≡ Some (Drill script) }
 {}
 
-/// A law of the definition: `--script FILE` names FILE, if that does not begin with `-` or is `-` alone.
-#[tactic(auto, using(crate::proofs::WrittenOut::script_in_a_word))]
+/// A law of the definition: `--script FILE` names FILE, if that does not begin with `-` or is `-`
+/// alone.
+#[tactic(auto, using(crate::proofs::LiteralLemmas::script_in_a_word))]
 pub fn script_in_a_word()
-    ensures { (program script : List ℕ) → is_plain script ≡ true → request_of (program ∷ codes "drill" ∷ codes "--script" ∷ script ∷ []) ≡ Some (Drill script) }
+    ensures { (program script : List ℕ) → is_plain script ≡ true →
+        request_of (program ∷ codes "drill" ∷ codes "--script" ∷ script ∷ [])
+        ≡ Some (Drill script) }
 {}
 
-/// A law of the definition: `yaml FILES` names exactly these words in their order, if none of them begins with `-`
-/// unless it is `-` alone, and if their number is allowed; else it is refused.
-#[tactic(auto, using(crate::proofs::NamesAsked::yaml_names))]
+/// A law of the definition: `yaml FILES` names exactly these words in their order, if none of them
+/// begins with `-` unless it is `-` alone, and if their number is allowed; else it is refused.
+#[tactic(auto, using(crate::proofs::NamesLemmas::yaml_names))]
 pub fn yaml_names()
-    ensures { (program : List ℕ) (names : List (List ℕ)) → All (λ name. is_plain name ≡ true) names → request_of (program ∷ codes "yaml" ∷ names) ≡ option_map Yaml (allowed names) }
+    ensures { (program : List ℕ) (names : List (List ℕ)) →
+        All (λ name. is_plain name ≡ true) names →
+        request_of (program ∷ codes "yaml" ∷ names) ≡ option_map Yaml (allowed names) }
 {}
 
-/// A law of the definition: `check RULES` names exactly these words in their order, if none of them begins with `-`
-/// unless it is `-` alone, and if their number is allowed; else it is refused.
-#[tactic(auto, using(crate::proofs::NamesAsked::check_names))]
+/// A law of the definition: `check RULES` names exactly these words in their order, if none of them
+/// begins with `-` unless it is `-` alone, and if their number is allowed; else it is refused.
+#[tactic(auto, using(crate::proofs::NamesLemmas::check_names))]
 pub fn check_names()
-    ensures { (program : List ℕ) (names : List (List ℕ)) → All (λ name. is_plain name ≡ true) names → request_of (program ∷ codes "check" ∷ names) ≡ option_map Check (allowed names) }
+    ensures { (program : List ℕ) (names : List (List ℕ)) →
+        All (λ name. is_plain name ≡ true) names →
+        request_of (program ∷ codes "check" ∷ names) ≡ option_map Check (allowed names) }
 {}
 
-/// A law of the definition: words that `clap` accepts ask for something, unless they name too many files behind
-/// `yaml` or `check`, or none.
-#[tactic(auto, using(crate::proofs::AcceptedAsks::accepted_asks))]
-pub fn accepted_words_ask()
-    ensures { (words : List (List ℕ)) → is_accepted words ≡ true → (is_some (request_of words) ≡ true) ⊎ NamesRefused (subcommand_of lockstep_app words) }
+/// A law of the definition: words that `clap` accepts name a request, unless they have too many
+/// positional arguments after `yaml` or `check`, or none.
+#[tactic(auto, using(crate::proofs::AcceptedLemmas::accepted_request))]
+pub fn accepted_words_name_a_request()
+    ensures { (words : List (List ℕ)) → is_accepted words ≡ true →
+        (is_some (request_of words) ≡ true) ⊎ NamesRefused (subcommand_of lockstep_app words) }
 {}

@@ -1,9 +1,9 @@
 //! The words of the command line, read by `clap`.
 //!
-//! `read_words` makes of them the request that they name. A list of words is accepted exactly where `clap`'s
-//! own definition of such a command line accepts it and the number of files that it names is allowed; the
-//! definition stands in `specs/Commands.antt`, one entry a command. It is a crate of its own so that only
-//! this one is proved together with `clap`.
+//! `read_words` returns the request that they name. A list of words is accepted exactly where
+//! `clap`'s own definition of such a command line accepts it and the number of files that it names
+//! is allowed; the definition stands in `specs/Commands.antt`, one entry a command. It is a crate
+//! of its own so that only this one is proved together with `clap`.
 #![tactic(auto)]
 
 mod command;
@@ -15,13 +15,14 @@ mod words_fault;
 
 pub use file_names::FileNames;
 pub use laws::{
-    accepted_words_ask, check_names, no_command, script_behind_equals, script_in_a_word, yaml_names,
+    accepted_words_name_a_request, check_names, no_command, script_after_equals, script_in_a_word,
+    yaml_names,
 };
 pub use reading::read_words;
 pub use request::Request;
 pub use words_fault::WordsFault;
 
-/// The most names that may stand behind `yaml` and `check`.
+/// The most positional arguments of `yaml` and `check`.
 pub const MAX_FILES: usize = 64;
 
 #[cfg(test)]

@@ -1,11 +1,13 @@
-ghost use Rattle.std.specs.Prelude.{◌≡◌, ◌≢◌, ◌≤◌, length, IfOk, OnOk, Some, None, Err, map, string_bytes, true, false};
+ghost use Rattle.std.specs.Prelude.{◌≡◌, ◌≢◌, ◌≤◌, length, IfOk, OnOk, Some, None, Err, map};
+ghost use Rattle.std.specs.Prelude.{string_bytes, true, false};
 ghost use Rattle.std.specs.Prelude.{codes, option_map};
 ghost use Rattle.clap.specs.Walk.{rows_of, first_of, all_of};
 ghost use Rattle.clap.specs.Matches.{found_of};
 ghost use Rattle.clap.specs.Simple.{subcommand_of, subcommand_rows_of};
 ghost use Rattle.command_words.specs.Commands.{lockstep_app};
-ghost use Rattle.command_words.specs.Asked.{asked, IsWithin};
-ghost use Rattle.command_words.specs.Words.{is_accepted, is_allowed, asked_of, names_in, named_by, request_of};
+ghost use Rattle.command_words.specs.RequestPlain.{plain_of, HasFewFiles};
+ghost use Rattle.command_words.specs.Reading.{is_accepted, is_allowed, command_request, names_in};
+ghost use Rattle.command_words.specs.Reading.{found_request, request_of};
 
 use crate::command::lockstep_command;
 use crate::{FileNames, MAX_FILES, Request, WordsFault};
@@ -15,13 +17,15 @@ use std::alloc::Global;
 
 /// The request that the words name; the first of them is the program's name.
 ///
-/// The words are `Refused` exactly where they name none, and `NoMemory` is want of memory. The request borrows
-/// its names from the words.
-#[tactic(auto, unfolding(crate::specs::Words::request_of))]
+/// The words are `Refused` exactly where they name none; `NoMemory` is the other refusal. The
+/// request borrows its names from the words.
+#[tactic(auto, unfolding(crate::specs::Reading::request_of))]
 pub fn read_words<'a>(alloc: Global, words: &'a [String]) -> Result<Request<'a>, WordsFault>
-    ensures asked { IfOk result (λ request. request_of (map string_bytes words.now) ≡ Some (asked request)) }
-    ensures within { IfOk result IsWithin }
-    ensures refused { result ≡ Err WordsFault.Refused → request_of (map string_bytes words.now) ≡ None }
+    ensures request { IfOk result
+        (λ request. request_of (map string_bytes words.now) ≡ Some (plain_of request)) }
+    ensures few { IfOk result HasFewFiles }
+    ensures refused { result ≡ Err WordsFault.Refused →
+        request_of (map string_bytes words.now) ≡ None }
 {
     let matches = matches_of(alloc, words)?;
     named_request(alloc, &matches)
@@ -30,8 +34,10 @@ pub fn read_words<'a>(alloc: Global, words: &'a [String]) -> Result<Request<'a>,
 /// What `clap` finds in the words, where its definition of the command line accepts them.
 fn matches_of<'a>(alloc: Global, words: &'a [String]) -> Result<ArgMatches<'a>, WordsFault>
     ensures accepted { OnOk result (is_accepted (map string_bytes words.now) ≡ true) }
-    ensures found { IfOk result (λ matches. subcommand_rows_of matches ≡ subcommand_of lockstep_app (map string_bytes words.now)) }
-    ensures refused { result ≡ Err WordsFault.Refused → is_accepted (map string_bytes words.now) ≡ false }
+    ensures found { IfOk result (λ matches.
+        subcommand_rows_of matches ≡ subcommand_of lockstep_app (map string_bytes words.now)) }
+    ensures refused { result ≡ Err WordsFault.Refused →
+        is_accepted (map string_bytes words.now) ≡ false }
 {
     let command = lockstep_command(alloc)?;
     match command.try_get_matches_from(words) {
@@ -40,7 +46,8 @@ fn matches_of<'a>(alloc: Global, words: &'a [String]) -> Result<ArgMatches<'a>, 
     }
 }
 
-/// What `clap`'s kind of error comes to: want of memory, or words that its definition does not accept.
+/// The fault of `clap`'s kind of error: out of memory, or words that its definition does not
+/// accept.
 fn fault_by(kind: ErrorKind) -> WordsFault
     ensures { result ≡ WordsFault.Refused → kind ≢ ErrorKind.OutOfMemory }
 {
@@ -52,9 +59,11 @@ fn fault_by(kind: ErrorKind) -> WordsFault
 
 /// The request that the matches name.
 fn named_request<'a>(alloc: Global, matches: &ArgMatches<'a>) -> Result<Request<'a>, WordsFault>
-    ensures asked { IfOk result (λ request. named_by (subcommand_rows_of matches.now) ≡ Some (asked request)) }
-    ensures within { IfOk result IsWithin }
-    ensures refused { result ≡ Err WordsFault.Refused → named_by (subcommand_rows_of matches.now) ≡ None }
+    ensures request { IfOk result
+        (λ request. found_request (subcommand_rows_of matches.now) ≡ Some (plain_of request)) }
+    ensures few { IfOk result HasFewFiles }
+    ensures refused { result ≡ Err WordsFault.Refused →
+        found_request (subcommand_rows_of matches.now) ≡ None }
 {
     match matches.subcommand() {
         Some((command, found)) => request_for(alloc, command, found),
@@ -62,16 +71,18 @@ fn named_request<'a>(alloc: Global, matches: &ArgMatches<'a>) -> Result<Request<
     }
 }
 
-/// The request of this command, with what was found behind it.
-#[tactic(auto, unfolding(crate::specs::Words::asked_of))]
+/// The request of this command, with what was found after it.
+#[tactic(auto, unfolding(crate::specs::Reading::command_request))]
 fn request_for<'a>(
     alloc: Global,
     command: &str,
     found: &ArgMatches<'a>,
 ) -> Result<Request<'a>, WordsFault>
-    ensures asked { IfOk result (λ request. asked_of command.now (rows_of (found_of found.now)) ≡ Some (asked request)) }
-    ensures within { IfOk result IsWithin }
-    ensures refused { result ≡ Err WordsFault.Refused → asked_of command.now (rows_of (found_of found.now)) ≡ None }
+    ensures request { IfOk result (λ request.
+        command_request command.now (rows_of (found_of found.now)) ≡ Some (plain_of request)) }
+    ensures few { IfOk result HasFewFiles }
+    ensures refused { result ≡ Err WordsFault.Refused →
+        command_request command.now (rows_of (found_of found.now)) ≡ None }
 {
     match command {
         "drill" => Ok(Request::Drill {
@@ -89,17 +100,19 @@ fn request_for<'a>(
 
 /// The value of `--script`.
 fn script_in<'a>(found: &ArgMatches<'a>) -> Option<&'a str>
-    ensures { option_map (λ script. script.now) result ≡ first_of (codes "script") (rows_of (found_of found.now)) }
+    ensures { option_map (λ script. script.now) result
+        ≡ first_of (codes "script") (rows_of (found_of found.now)) }
 {
     found.get_str("script")
 }
 
-/// The names that stand alone, where their number is allowed.
-#[tactic(auto, unfolding(crate::specs::Words::names_in))]
+/// The positional arguments, where their number is allowed.
+#[tactic(auto, unfolding(crate::specs::Reading::names_in))]
 fn names_in<'a>(alloc: Global, found: &ArgMatches<'a>) -> Result<FileNames<'a>, WordsFault>
     ensures few { IfOk result (λ names. length names ≤ MAX_FILES) }
     ensures names { IfOk result (λ names. names_in (rows_of (found_of found.now)) ≡ Some names) }
-    ensures refused { result ≡ Err WordsFault.Refused → names_in (rows_of (found_of found.now)) ≡ None }
+    ensures refused { result ≡ Err WordsFault.Refused →
+        names_in (rows_of (found_of found.now)) ≡ None }
 {
     match all_names(found) {
         Some(names) if is_allowed(names.len()) => Ok(FileNames::from_vec(names.to_vec(alloc)?)),
@@ -107,14 +120,15 @@ fn names_in<'a>(alloc: Global, found: &ArgMatches<'a>) -> Result<FileNames<'a>, 
     }
 }
 
-/// All names that stand alone; there are none where no use of them was found.
+/// All positional arguments; there are none where no use of them was found.
 fn all_names<'b, 'a>(found: &'b ArgMatches<'a>) -> Option<&'b [&'a str]>
-    ensures { option_map (λ names. map (λ name. name.now) names.now) result ≡ all_of (codes "names") (rows_of (found_of found.now)) }
+    ensures { option_map (λ names. map (λ name. name.now) names.now) result
+        ≡ all_of (codes "names") (rows_of (found_of found.now)) }
 {
     found.get_strs("names")
 }
 
-/// Whether so many names may stand alone.
+/// Whether so many positional arguments are allowed.
 fn is_allowed(count: usize) -> bool
     ensures { result ≡ is_allowed count }
 {

@@ -1,6 +1,7 @@
 use crate::file_names::FileNames;
 
-/// What an accepted command line asks for. Each name is a word, or the part of one behind `=`, as it was given.
+/// The request of an accepted command line. Each name is a word, or the part of one after `=`, as
+/// it was given.
 #[derive(Debug, Drop)]
 pub enum Request<'a> {
     /// `drill --script FILE`: run the drill that the file holds.
@@ -9,7 +10,7 @@ pub enum Request<'a> {
         script: &'a str,
     },
 
-    /// `yaml FILES`: print what the files come to, taken together in this order.
+    /// `yaml FILES`: print the resolved forest of the files, taken together in this order.
     Yaml {
         /// The names of the files, 1 to `MAX_FILES`.
         files: FileNames<'a>,

@@ -6,7 +6,7 @@ use std::alloc::{AllocError, Global};
 use std::fmt::Write;
 use std::test::Fail;
 
-/// The program's name, and behind it these words, which `|` separates.
+/// The program's name, and after it these words, which `|` separates.
 fn command_line(alloc: Global, words: &str) -> Result<Vec<String>, NoMemory> {
     let mut line = Vec::new(alloc);
     line.push(String::from_str(alloc, "lockstep")?)?;
@@ -27,8 +27,8 @@ fn written(alloc: Global, command: &str, names: &[&str]) -> Result<String, NoMem
     Ok(text)
 }
 
-/// What is asked for by a list of words, of which the first is the program's name.
-fn asked_by(alloc: Global, words: &[String]) -> Result<String, NoMemory> {
+/// The request that a list of words names, of which the first is the program's name.
+fn request_text(alloc: Global, words: &[String]) -> Result<String, NoMemory> {
     match read_words(alloc, words) {
         Ok(Request::Drill { script }) => written(alloc, "drill", &[script]),
         Ok(Request::Yaml { files }) => written(alloc, "yaml", files.as_slice()),
@@ -40,7 +40,7 @@ fn asked_by(alloc: Global, words: &[String]) -> Result<String, NoMemory> {
 
 const REFUSED: &str = "refused";
 
-/// Words that name no command, or ask for help or a version.
+/// Words that name no command, or help or a version.
 const WITHOUT_A_COMMAND: [&str; 31] = [
     // The command.
     "",
@@ -78,8 +78,8 @@ const WITHOUT_A_COMMAND: [&str; 31] = [
     "check|-V|a",
 ];
 
-/// Words behind a command that are refused.
-const REFUSED_BEHIND: [&str; 37] = [
+/// Words after a command that are refused.
+const REFUSED_AFTER: [&str; 37] = [
     // `drill`: its option once, with one value.
     "drill",
     "drill|--script",
@@ -123,7 +123,7 @@ const REFUSED_BEHIND: [&str; 37] = [
     "check|--script|d",
 ];
 
-/// Words with what they ask for.
+/// Words with the request that they name.
 const ACCEPTED_LINES: [(&str, &str); 28] = [
     // There is no help and no version.
     ("yaml|help", "yaml <help>"),
@@ -165,18 +165,18 @@ fn lines_without_a_command(rt: HostRuntime) -> Result<(), Fail> {
     let alloc = rt.alloc();
     for words in WITHOUT_A_COMMAND {
         let line = command_line(alloc, words)?;
-        let got = asked_by(alloc, &line)?;
+        let got = request_text(alloc, &line)?;
         assert_eq!(rt; got.as_str(), REFUSED, "of {words}");
     }
     Ok(())
 }
 
 #[test]
-fn refused_behind_a_command(rt: HostRuntime) -> Result<(), Fail> {
+fn refused_after_a_command(rt: HostRuntime) -> Result<(), Fail> {
     let alloc = rt.alloc();
-    for words in REFUSED_BEHIND {
+    for words in REFUSED_AFTER {
         let line = command_line(alloc, words)?;
-        let got = asked_by(alloc, &line)?;
+        let got = request_text(alloc, &line)?;
         assert_eq!(rt; got.as_str(), REFUSED, "of {words}");
     }
     Ok(())
@@ -187,7 +187,7 @@ fn accepted_lines(rt: HostRuntime) -> Result<(), Fail> {
     let alloc = rt.alloc();
     for (words, want) in ACCEPTED_LINES {
         let line = command_line(alloc, words)?;
-        let got = asked_by(alloc, &line)?;
+        let got = request_text(alloc, &line)?;
         assert_eq!(rt; got.as_str(), want, "of {words}");
     }
     Ok(())
@@ -196,16 +196,16 @@ fn accepted_lines(rt: HostRuntime) -> Result<(), Fail> {
 #[test]
 fn lines_of_a_word_or_none(rt: HostRuntime) -> Result<(), Fail> {
     let alloc = rt.alloc();
-    let nothing = asked_by(alloc, &[])?;
+    let nothing = request_text(alloc, &[])?;
     assert_eq!(rt; nothing.as_str(), REFUSED);
     let program = String::from_str(alloc, "lockstep")?;
-    let alone = asked_by(alloc, &[program])?;
+    let alone = request_text(alloc, &[program])?;
     assert_eq!(rt; alone.as_str(), REFUSED);
     Ok(())
 }
 
-/// The answer to a command with so many names, half of them behind `--`.
-fn asked_by_many(alloc: Global, command: &str, count: usize) -> Result<String, NoMemory> {
+/// The request of a command with so many names, half of them after `--`.
+fn request_of_many(alloc: Global, command: &str, count: usize) -> Result<String, NoMemory> {
     let mut line = command_line(alloc, command)?;
     for i in 0..count {
         if i == count / 2 {
@@ -213,7 +213,7 @@ fn asked_by_many(alloc: Global, command: &str, count: usize) -> Result<String, N
         }
         line.push(format!(in alloc; "{i}")?)?;
     }
-    asked_by(alloc, &line)
+    request_text(alloc, &line)
 }
 
 #[test]
@@ -224,10 +224,10 @@ fn numbers_of_names(rt: HostRuntime) -> Result<(), Fail> {
         for i in 0..MAX_FILES {
             write!(most, " <{i}>")?;
         }
-        let got = asked_by_many(alloc, command, 64)?;
+        let got = request_of_many(alloc, command, 64)?;
         assert_eq!(rt; got.as_str(), most.as_str());
         for count in [65, 66, 128] {
-            let got = asked_by_many(alloc, command, count)?;
+            let got = request_of_many(alloc, command, count)?;
             assert_eq!(rt; got.as_str(), REFUSED, "of {count}");
         }
     }

@@ -7,12 +7,12 @@ use thiserror::Error;
 /// Why words name no request.
 #[derive(Clone, Copy, Debug, PartialEq, Eq, Error)]
 pub enum WordsFault {
-    /// They are no command line of this program: an unknown command, option or word, an option that is
-    /// missing, repeated or without its value, no name where one is wanted, or too many names.
+    /// They are no command line of this program: an unknown command, option or word, an option that
+    /// is missing, repeated or without its value, no name where one is wanted, or too many names.
     #[error("refused words")]
     Refused,
 
-    /// Memory was wanting.
+    /// Out of memory.
     #[error("out of memory")]
     NoMemory,
 }

@@ -1,4 +1,7 @@
-pub mod CauseSteps
-pub mod RunSteps
-pub mod ReadSteps
-pub mod FaultSteps
+pub mod CausesLemmas
+pub mod ContentsLemmas
+pub mod StopLemmas
+pub mod OutcomeLemmas
+pub mod RequestLemmas
+pub mod DrillLemmas
+pub mod RunLemmas

@@ -1,44 +1,38 @@
--- What the command `check` answers.
+-- The answer to the command `check`.
 use Rattle.std.specs.Prelude.{ℕ, ◌+◌, List, [], ◌∷◌, ◌++◌, if◌then◌else◌, Result, Ok, Err, codes}
 use Rattle.std.specs.Fmt.{decimal}
 use Rattle.base.specs.Steps.{◌>>=◌}
 use Rattle.rule_traits.specs.declared.fault.RuleFault.{RuleFault}
-use Rattle.rule_traits.specs.declared.fault.RuleFault.TheVariants.{BadValue, OutOfRange, MissingField, UnknownKindName, TooManyKinds, NoMemory}
+use Rattle.rule_traits.specs.Fault.{cause_of, place_of}
 use Rattle.rule_traits.specs.declared.kind.Kind.{Kind}
 use Rattle.rule_traits.specs.declared.skipped.Skipped.{Skipped}
 use Rattle.rule_traits.specs.declared.traits.Trait.{Trait}
 use Rattle.rule_traits.specs.Traits.{all_traits, name_of, has_trait}
 use Rattle.rule_traits.specs.Typed.{typed}
-use Rattle.match_cli.specs.Reply.{Reply, done, refusal}
-use Rattle.match_cli.specs.Contents.{Step, ended}
-use Rattle.match_cli.specs.RuleFiles.{name_at, refused_at, resolved_rules}
-
--- The rules are at fault: the place and the cause. The definition of rules wants no memory, so the last case never comes.
-abbrev pub rule_refusal : List (List ℕ) → RuleFault → Reply
-rule_refusal names (BadValue place) = refused_at names place (codes "BadValue")
-rule_refusal names (OutOfRange place) = refused_at names place (codes "OutOfRange")
-rule_refusal names (MissingField place) = refused_at names place (codes "MissingField")
-rule_refusal names (UnknownKindName place) = refused_at names place (codes "UnknownKindName")
-rule_refusal names (TooManyKinds place) = refused_at names place (codes "TooManyKinds")
-rule_refusal names NoMemory = refusal [] 0 (codes "NoMemory")
+use Rattle.match_cli.specs.Step.{Step}
+use Rattle.match_cli.specs.RuleFiles.{name_at, fault_reply, resolved_rules}
 
 -- A node that was passed over: its file, its line and its key.
 unfoldable pub skipped_line : List (List ℕ) → Skipped → List ℕ
 skipped_line names node =
-    codes "skipped " ++ name_at node.place.file names ++ codes " " ++ decimal node.place.line ++ codes " " ++ node.key ++ codes "\n"
+    codes "skipped " ++ name_at node.place.file names ++ codes " " ++ decimal node.place.line
+    ++ codes " " ++ node.key ++ codes "\n"
 
 abbrev pub skipped_lines : List (List ℕ) → List Skipped → List ℕ
 skipped_lines names [] = []
 skipped_lines names (node ∷ rest) = skipped_line names node ++ skipped_lines names rest
 
--- The names of those of these traits that a kind has, each behind a blank.
+-- The names of those of these traits that a kind has, each after a blank.
 abbrev pub trait_names : Kind → List Trait → List ℕ
 trait_names kind [] = []
-trait_names kind (trait ∷ rest) = (if has_trait kind trait then codes " " ++ name_of trait else []) ++ trait_names kind rest
+trait_names kind (trait ∷ rest) =
+    (if has_trait kind trait then codes " " ++ name_of trait else []) ++ trait_names kind rest
 
 -- A kind: its number, its name, and the names of its traits in the order of the table.
 unfoldable pub kind_line : ℕ → Kind → List ℕ
-kind_line number kind = codes "kind " ++ decimal number ++ codes " " ++ kind.name ++ trait_names kind all_traits ++ codes "\n"
+kind_line number kind =
+    codes "kind " ++ decimal number ++ codes " " ++ kind.name
+    ++ trait_names kind all_traits ++ codes "\n"
 
 abbrev pub kind_lines : ℕ → List Kind → List ℕ
 kind_lines number [] = []
@@ -46,17 +40,16 @@ kind_lines number (kind ∷ rest) = kind_line number kind ++ kind_lines (number 
 
 -- What was passed over, then the kinds.
 abbrev pub check_lines : List (List ℕ) → List Kind × List Skipped → List ℕ
-check_lines names made = skipped_lines names made.1 ++ kind_lines 0 made.0 ++ codes "end\n"
+check_lines names made =
+    skipped_lines names made.1 ++ kind_lines 0 made.0 ++ codes "end\n"
 
-abbrev pub typed_step : List (List ℕ) → Result (List Kind × List Skipped) RuleFault → Step (List ℕ)
+abbrev pub typed_step :
+    List (List ℕ) → Result (List Kind × List Skipped) RuleFault → Step (List ℕ)
 typed_step names (Ok made) = Ok (check_lines names made)
-typed_step names (Err fault) = Err (rule_refusal names fault)
+typed_step names (Err fault) = Err (fault_reply names (place_of fault) (cause_of fault))
 
--- What typed rules come to, or their first fault, behind those in lines and in merging.
+-- The lines of typed rules, or their first fault, after those in lines and in merging.
 abbrev pub check_step : (names contents : List (List ℕ)) → Step (List ℕ)
 check_step names contents = do
   forest ← resolved_rules names contents
   typed_step names (typed forest)
-
-abbrev pub check_reply : (names contents : List (List ℕ)) → Reply
-check_reply names contents = ended (check_step names contents) done

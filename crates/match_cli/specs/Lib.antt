@@ -1,9 +1,15 @@
+pub mod FileWrite
 pub mod Reply
-pub mod Answers
+pub mod Causes
+pub mod Outside
+pub mod Outcome
+pub mod Printing
+pub mod Step
+pub mod WantedFiles
 pub mod Contents
 pub mod Drills
 pub mod RuleFiles
 pub mod Checks
 pub mod Request
 pub mod Run
-pub mod Stops
+pub mod Stop

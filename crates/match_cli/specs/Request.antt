@@ -1,31 +1,55 @@
--- What the program answers to a request.
-use Rattle.std.specs.Prelude.{ℕ, List, [], ◌∷◌, map, Option, None, Some}
-use Rattle.game_io.specs.Disk.{Files}
-use Rattle.command_words.specs.Asked.{Asked, Drill, Yaml, Check}
+-- The answer to a request.
+use Rattle.std.specs.Prelude.{ℕ, List, [], map, Option, None, Some, IsOk, unwrap_or}
+use Rattle.base.specs.Steps.{◌>>=◌}
+use Rattle.game_io.specs.Files.{Files}
+use Rattle.command_words.specs.RequestPlain.{RequestPlain, Drill, Yaml, Check}
 use Rattle.drill_words.specs.declared.limits.TheConstants.{MAX_DRILL_BYTES}
 use Rattle.match_cli.specs.declared.files.TheConstants.{MAX_RULE_BYTES}
-use Rattle.match_cli.specs.Reply.{Reply, words_reply, refusal}
-use Rattle.match_cli.specs.Contents.{Wanted, ended, contents_of}
-use Rattle.match_cli.specs.Drills.{drill_reply}
-use Rattle.match_cli.specs.RuleFiles.{yaml_reply}
-use Rattle.match_cli.specs.Checks.{check_reply}
+use Rattle.match_cli.specs.Reply.{Reply, done}
+use Rattle.match_cli.specs.Step.{Step, ended}
+use Rattle.match_cli.specs.WantedFiles.{Wanted, WantedFiles, no_files}
+use Rattle.match_cli.specs.Contents.{Contents, contents_of}
+use Rattle.match_cli.specs.Drills.{drill_step}
+use Rattle.match_cli.specs.RuleFiles.{yaml_step}
+use Rattle.match_cli.specs.Checks.{check_step}
 
 abbrev pub rule_file : List ℕ → Wanted
 rule_file name = record { name = name; limit = MAX_RULE_BYTES }
 
--- The files that a request reads, in order.
-abbrev pub wanted : Asked → List Wanted
-wanted (Drill script) = record { name = script; limit = MAX_DRILL_BYTES } ∷ []
-wanted (Yaml names) = map rule_file names
-wanted (Check names) = map rule_file names
+abbrev pub script_file : List ℕ → Wanted
+script_file name = record { name = name; limit = MAX_DRILL_BYTES }
 
--- The answer to a request whose files have these contents. There is one for each file, so a drill always has its own.
-abbrev pub given_reply : Asked → List (List ℕ) → Reply
-given_reply (Drill script) [] = refusal script 0 []
-given_reply (Drill script) (bytes ∷ contents) = drill_reply script bytes
-given_reply (Yaml names) contents = yaml_reply names contents
-given_reply (Check names) contents = check_reply names contents
+-- The files that a request wants to be read.
+abbrev pub wanted : RequestPlain → WantedFiles
+wanted (Drill script) = record no_files { script = Some (script_file script) }
+wanted (Yaml names) = record no_files { rules = map rule_file names }
+wanted (Check names) = record no_files { rules = map rule_file names }
 
--- The answer to a request over some files, by their names: the first file that cannot be read decides, else what is in them.
-abbrev pub asked_reply : Asked → Files → Reply
-asked_reply asked files = ended (contents_of (wanted asked) files) (given_reply asked)
+-- The file that a request names to be written, if it names one.
+abbrev pub written_by : RequestPlain → Option (List ℕ)
+written_by (Drill script) = None
+written_by (Yaml names) = None
+written_by (Check names) = None
+
+-- The text of a command whose files have these contents, or its refusal. A script is there wherever
+-- one is wanted.
+abbrev pub text_of : RequestPlain → Contents → Step (List ℕ)
+text_of (Drill script) contents = drill_step script (unwrap_or contents.script [])
+text_of (Yaml names) contents = yaml_step names contents.rules
+text_of (Check names) contents = check_step names contents.rules
+
+-- The answer to a request whose files have these contents.
+abbrev pub given_reply : RequestPlain → Contents → Reply
+given_reply request contents = ended (text_of request contents) done
+
+-- The text of a command over some files, or its refusal: the first file that cannot be read
+-- decides, else what is in them.
+abbrev pub text_over : RequestPlain → Files → Step (List ℕ)
+text_over request files = contents_of (wanted request) files >>= text_of request
+
+abbrev pub reply_to : RequestPlain → Files → Reply
+reply_to request files = ended (text_over request files) done
+
+-- Each file that the request wants is there and no longer than it may be, and none has a fault.
+abbrev pub IsFaultless : RequestPlain → Files → Type 0
+IsFaultless request files = IsOk (text_over request files)

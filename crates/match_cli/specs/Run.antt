@@ -1,47 +1,82 @@
--- What the program's top call answers, prints and leaves.
-use Rattle.std.specs.Prelude.{◌≡◌, ◌≢◌, ℕ, ◌⊎◌, List, Option, None, IfSome, IfNone}
-use Rattle.command_words.specs.Asked.{Asked}
-use Rattle.game_io.specs.Disk.{Files}
-use Rattle.match_cli.specs.declared.statuses.TheConstants.{REFUSED_WORDS, FAULT_READ, FAULT_WRITE, OUT_OF_MEMORY}
+-- A run of the program: what it answers, prints and leaves, by its causes.
+use Rattle.std.specs.Prelude.{◌≡◌, ◌≢◌, ℕ, ◌⊎◌, Option, None, IfSome, IfNone, option_and_then}
+use Rattle.command_words.specs.RequestPlain.{RequestPlain}
+use Rattle.game_io.specs.Files.{Files}
+use Rattle.match_cli.specs.declared.statuses.TheConstants.{DONE, REFUSED_WORDS, FAULT_READ}
+use Rattle.match_cli.specs.declared.statuses.TheConstants.{FAULT_WRITE, OUT_OF_MEMORY}
 use Rattle.match_cli.specs.Reply.{Reply, words_reply, read_fault}
-use Rattle.match_cli.specs.Contents.{IsFirstThere, IsGiven, IsUnread}
-use Rattle.match_cli.specs.Request.{wanted, given_reply, asked_reply}
-use Rattle.match_cli.specs.Answers.{Ends, MayEnd, EndsAtOnce, Answers}
+use Rattle.match_cli.specs.FileWrite.{OnlyChanges}
+use Rattle.match_cli.specs.Causes.{Causes, IsQuiet}
+use Rattle.match_cli.specs.Outside.{Outside, IsUnchanged, IsLater}
+use Rattle.match_cli.specs.Outcome.{IsPrinted, IsAnswered}
+use Rattle.match_cli.specs.WantedFiles.{in_order}
+use Rattle.match_cli.specs.Contents.{Contents, IsFirstThere, AreContents, IsUnread}
+use Rattle.match_cli.specs.Request.{wanted, written_by, given_reply, reply_to, IsFaultless}
 
--- The answers to a request over the files that the disk tells: what they say; or the count of the disk's faults rose, and a
--- read failed, which it can where the first file is there.
-abbrev pub AnswersTold : Asked → Files → ℕ → (disk_rose sink_rose : Type 0) → (old new : Option (List ℕ)) → Type 0
-AnswersTold asked files status disk_rose sink_rose old new =
-    Answers (asked_reply asked files) status (IsFirstThere (wanted asked) files × disk_rose) sink_rose old new
+-- `refused words` is printed, or memory ran out before anything was.
+abbrev pub RefusesWords : ℕ → Causes → (old new : Outside) → Type 0
+RefusesWords status causes old new =
+    IsPrinted words_reply status causes old new
+    ⊎ ((status ≡ OUT_OF_MEMORY) × IsUnchanged old new)
 
--- The answers to a request over a disk that tells nothing: that to some contents of its files, which the disk gave; or the
--- count of the disk's faults rose, and a file is missing, too long, or could not be read; or memory was wanting before
--- anything was written.
-abbrev pub AnswersUntold : Asked → ℕ → (disk_rose sink_rose : Type 0) → (old new : Option (List ℕ)) → Type 0
-AnswersUntold asked status disk_rose sink_rose old new =
-    ((contents : List (List ℕ)) × (IsGiven (wanted asked) contents × MayEnd (given_reply asked contents) status sink_rose old new))
-    ⊎ ((disk_rose
-    × (((reply : Reply) × (IsUnread (wanted asked) reply × MayEnd reply status sink_rose old new))
-    ⊎ Ends read_fault status sink_rose old new))
-    ⊎ ((status ≡ OUT_OF_MEMORY) × (new ≡ old)))
+-- Over a disk that tells its files, the words and the files decide. Else a read failed, which it
+-- can where the first file is there.
+abbrev pub IsToldAnswer : RequestPlain → Files → ℕ → Causes → (old new : Outside) → Type 0
+IsToldAnswer request files status causes old new =
+    IsAnswered (reply_to request files) status causes old new
+    ⊎ (IsFirstThere (in_order (wanted request)) files
+    × causes.read
+    × IsPrinted read_fault status causes old new)
 
--- A request over the files that the disk tells, or over a disk that tells nothing. `disk_rose` and `sink_rose` say that the
--- count of faults rose in the call; `old` and `new` are the written bytes, where the sink tells them.
-pub record RunsAsked (asked : Asked) (files : Option Files) (status : ℕ) (disk_rose sink_rose : Type 0) (old new : Option (List ℕ)) : Type 0 where
-  pub told : IfSome files (λ files. AnswersTold asked files status disk_rose sink_rose old new)
-  pub untold : IfNone files (AnswersUntold asked status disk_rose sink_rose old new)
+-- Over a disk that tells nothing, the contents that it gave decide. Else its count of faults rose,
+-- and a file is missing, too long, or could not be read; or memory ran out before anything was
+-- printed.
+abbrev pub IsUntoldAnswer : RequestPlain → ℕ → Causes → (old new : Outside) → Type 0
+IsUntoldAnswer request status causes old new =
+    ((contents : Contents)
+    × (AreContents (wanted request) contents
+    × IsAnswered (given_reply request contents) status causes old new))
+    ⊎ ((causes.read
+    × (((reply : Reply)
+    × (IsUnread (in_order (wanted request)) reply × IsAnswered reply status causes old new))
+    ⊎ IsPrinted read_fault status causes old new))
+    ⊎ ((status ≡ OUT_OF_MEMORY) × IsUnchanged old new))
+
+-- A run of a request.
+pub record RunsRequest
+    (request : RequestPlain) (status : ℕ) (causes : Causes) (old new : Outside) : Type 0 where
+  pub told :
+      IfSome old.disk.files (λ files. IsToldAnswer request files status causes old new)
+  pub untold : IfNone old.disk.files (IsUntoldAnswer request status causes old new)
   pub accepted : status ≢ REFUSED_WORDS
-  pub read : status ≡ FAULT_READ → disk_rose
-  pub write : status ≡ FAULT_WRITE → sink_rose
+  pub read : status ≡ FAULT_READ → causes.read ⊎ causes.net
+  pub write : status ≡ FAULT_WRITE → causes.sink ⊎ causes.write
+  pub files : OnlyChanges (written_by request) old.disk.files new.disk.files
+  pub later : IsLater old new
 
--- What the program does, for a request or for words that ask for nothing.
-pub record Runs (request : Option Asked) (files : Option Files) (status : ℕ) (disk_rose sink_rose : Type 0) (old new : Option (List ℕ)) : Type 0 where
-  -- Where the disk tells its files, what is answered and written is what the words and the files say.
-  pub told : IfSome files (λ files. IfSome request (λ asked. AnswersTold asked files status disk_rose sink_rose old new))
-  -- Where it tells nothing, the bytes that it gave decide, or the count of its faults rose.
-  pub untold : IfNone files (IfSome request (λ asked. AnswersUntold asked status disk_rose sink_rose old new))
-  -- The causes, whether anything is told or not.
-  pub refused : IfNone request (EndsAtOnce words_reply status sink_rose old new)
+-- A run of the program, for the request that its words name, if they name one.
+pub record Runs
+    (request : Option RequestPlain) (status : ℕ) (causes : Causes) (old new : Outside)
+    : Type 0 where
+  -- Status 2: exactly where the words name no request.
+  pub refused : IfNone request (RefusesWords status causes old new)
   pub only_refused : status ≡ REFUSED_WORDS → request ≡ None
-  pub read : status ≡ FAULT_READ → disk_rose
-  pub write : status ≡ FAULT_WRITE → sink_rose
+  -- Every status, over a told disk: as the words and the files say.
+  pub told :
+      IfSome request (λ request.
+      IfSome old.disk.files (λ files. IsToldAnswer request files status causes old new))
+  pub untold :
+      IfSome request (λ request.
+      IfNone old.disk.files (IsUntoldAnswer request status causes old new))
+  -- Status 0, or 6: where the files are there and without a fault, and nothing failed in the run.
+  pub complete :
+      IsQuiet causes →
+      IfSome request (λ request.
+      IfSome old.disk.files
+      (λ files. IsFaultless request files → (status ≡ DONE) ⊎ (status ≡ OUT_OF_MEMORY)))
+  -- Status 4 and 5: only where a count of faults rose.
+  pub read : status ≡ FAULT_READ → causes.read ⊎ causes.net
+  pub write : status ≡ FAULT_WRITE → causes.sink ⊎ causes.write
+  -- No file changed but the one that the words name to be written.
+  pub files : OnlyChanges (option_and_then written_by request) old.disk.files new.disk.files
+  pub later : IsLater old new

@@ -1,7 +1,8 @@
 ghost use Rattle.std.specs.Prelude.{◌≡◌, ◌≤◌, ◌++◌, length, map, string_bytes, OnOk, IfOk};
 ghost use Rattle.rule_traits.specs.Traits.{all_traits};
-ghost use Rattle.match_cli.specs.Checks.{skipped_lines, trait_names, kind_lines, check_lines, check_step};
-ghost use Rattle.match_cli.specs.Stops.{IsStep};
+ghost use Rattle.match_cli.specs.Checks.{skipped_lines, trait_names, kind_lines, check_lines};
+ghost use Rattle.match_cli.specs.Checks.{check_step};
+ghost use Rattle.match_cli.specs.Stop.{ReturnsStep};
 
 use crate::refusals::{name_at, rule_stop};
 use crate::rules::resolve_rules;
@@ -14,7 +15,8 @@ use std::alloc::Global;
 /// A line for each node that was passed over.
 #[tactic(auto, unfolding(crate::specs::Checks::skipped_line))]
 fn write_skipped(text: &mut String, names: &[&str], nodes: &[Skipped]) -> Result<(), NoMemory>
-    ensures { OnOk result (string_bytes text.new ≡ string_bytes text.old ++ skipped_lines (map (λ name. name.now) names.now) nodes.now) }
+    ensures { OnOk result (string_bytes text.new
+        ≡ string_bytes text.old ++ skipped_lines (map (λ name. name.now) names.now) nodes.now) }
 {
     for node in nodes {
         let file = name_at(names, node.place.file);
@@ -27,7 +29,8 @@ fn write_skipped(text: &mut String, names: &[&str], nodes: &[Skipped]) -> Result
 
 /// The names of a kind's traits.
 fn write_traits(text: &mut String, kind: &Kind) -> Result<(), NoMemory>
-    ensures { OnOk result (string_bytes text.new ≡ string_bytes text.old ++ trait_names kind.now all_traits) }
+    ensures { OnOk result
+        (string_bytes text.new ≡ string_bytes text.old ++ trait_names kind.now all_traits) }
 {
     for known in Trait::ALL {
         if kind.has(known) {
@@ -41,7 +44,8 @@ fn write_traits(text: &mut String, kind: &Kind) -> Result<(), NoMemory>
 /// A line for each kind.
 #[tactic(auto, unfolding(crate::specs::Checks::kind_line))]
 fn write_kinds(text: &mut String, kinds: &[Kind]) -> Result<(), NoMemory>
-    ensures { OnOk result (string_bytes text.new ≡ string_bytes text.old ++ kind_lines 0 kinds.now) }
+    ensures { OnOk result
+        (string_bytes text.new ≡ string_bytes text.old ++ kind_lines 0 kinds.now) }
 {
     for (number, kind) in kinds.iter().enumerate() {
         let name = kind.name.as_str();
@@ -59,7 +63,8 @@ fn write_check(
     rules: &Rules,
     skipped: &SkippedList,
 ) -> Result<String, NoMemory>
-    ensures { IfOk result (λ text. string_bytes text ≡ check_lines (map (λ name. name.now) names.now) (rules.now, skipped.now)) }
+    ensures { IfOk result (λ text. string_bytes text
+        ≡ check_lines (map (λ name. name.now) names.now) (rules.now, skipped.now)) }
 {
     let mut text = String::new(alloc);
     write_skipped(&mut text, names, skipped.as_slice())?;
@@ -68,18 +73,19 @@ fn write_check(
     Ok(text)
 }
 
-/// What typed rules come to.
+/// The lines of typed rules.
 pub fn check_text<'a>(
     alloc: Global,
     names: &[&'a str],
     contents: &[Vec<u8>],
 ) -> Result<Vec<u8>, Stop<'a>>
     requires { length contents.now ≤ MAX_FILES }
-    ensures { IsStep result (λ text. text.items) (check_step (map (λ name. name.now) names.now) (map (λ bytes. bytes.items) contents.now)) }
+    ensures { ReturnsStep result (λ text. text.items)
+        (check_step (map (λ name. name.now) names.now) (map (λ bytes. bytes.items) contents.now)) }
 {
     let forest = resolve_rules(alloc, names, contents)?;
     match type_rules(alloc, &forest) {
         Ok((rules, skipped)) => Ok(write_check(alloc, names, &rules, &skipped)?.into_bytes()),
-        Err(fault) => Err(rule_stop(names, fault)),
+        Err(fault) => Err(rule_stop(names, &fault)),
     }
 }

@@ -1,14 +1,15 @@
 ghost use Rattle.std.specs.Prelude.{◌≡◌, ◌≤◌, length, map, string_bytes};
-ghost use Rattle.base.specs.Cause.{Rose};
-ghost use Rattle.command_words.specs.Asked.{Drill, Yaml, Check, asked, IsWithin};
-ghost use Rattle.command_words.specs.Words.{request_of};
-ghost use Rattle.match_cli.specs.Answers.{MayEnd};
+ghost use Rattle.command_words.specs.RequestPlain.{Drill, Yaml, Check, plain_of, HasFewFiles};
+ghost use Rattle.command_words.specs.Reading.{request_of};
+ghost use Rattle.match_cli.specs.Causes.{causes_of};
+ghost use Rattle.match_cli.specs.Outside.{outside};
+ghost use Rattle.match_cli.specs.Printing.{MayPrintReply};
 ghost use Rattle.match_cli.specs.Drills.{drill_reply};
-ghost use Rattle.match_cli.specs.Run.{Runs, RunsAsked};
+ghost use Rattle.match_cli.specs.Run.{Runs, RunsRequest};
 
 use crate::check::check_text;
 use crate::files::{read_one, read_rules};
-use crate::print::{finish, refuse_words, tell_stop};
+use crate::print::{print_stop, print_text, refuse_words};
 use crate::refusals::drill_stop;
 use crate::rules::yaml_text;
 use crate::statuses::{DONE, FAULT_WRITE, OUT_OF_MEMORY};
@@ -19,20 +20,19 @@ use game_io::{Disk, Sink};
 use std::alloc::Global;
 use tick_core::GameMaker;
 
-/// Runs the command that the words name; the first word is the program's name. It changes no file, and answers:
+/// Runs the command that the words name; the first word is the program's name. It changes no file
+/// that the words don't name to be written, and returns:
 ///
 /// - 0, the command is done, and exactly its text was written;
 /// - 2, the words are refused;
 /// - 3, a file that they name is missing, too long, or has a fault;
 /// - 4, a read failed: the disk's count of faults rose;
-/// - 5, a write failed: the sink's count of faults rose, and a front of the text was written;
-/// - 6, memory was wanting, and a front of the text was written.
+/// - 5, a write failed: the sink's count of faults rose, and a prefix of the text was written;
+/// - 6, out of memory, and a prefix of the text was written.
 pub fn run<D: Disk, K: Sink>(alloc: Global, words: &[String], disk: &mut D, out: &mut K) -> u8
-    ensures runs { Runs (request_of (map string_bytes words.now)) (D.files disk.old) result
-        (Rose (D.faults disk.old) (D.faults disk.new)) (Rose (K.faults out.old) (K.faults out.new)) (K.written out.old) (K.written out.new) }
-    ensures files { D.files disk.new ≡ D.files disk.old }
-    ensures disk_later { D.faults disk.old ≤ D.faults disk.new }
-    ensures out_later { K.faults out.old ≤ K.faults out.new }
+    ensures { let old = outside (D.state disk.old) (K.state out.old) in
+        let new = outside (D.state disk.new) (K.state out.new) in
+        Runs (request_of (map string_bytes words.now)) result (causes_of old new) old new }
 {
     match read_words(alloc, words) {
         Ok(request) => run_request(alloc, &request, disk, out),
@@ -41,19 +41,17 @@ pub fn run<D: Disk, K: Sink>(alloc: Global, words: &[String], disk: &mut D, out:
     }
 }
 
-/// Runs the command that is asked for.
+/// Runs the command of a request.
 fn run_request<D: Disk, K: Sink>(
     alloc: Global,
     request: &Request<'_>,
     disk: &mut D,
     out: &mut K,
 ) -> u8
-    requires { IsWithin request.now }
-    ensures runs { RunsAsked (asked request.now) (D.files disk.old) result
-        (Rose (D.faults disk.old) (D.faults disk.new)) (Rose (K.faults out.old) (K.faults out.new)) (K.written out.old) (K.written out.new) }
-    ensures files { D.files disk.new ≡ D.files disk.old }
-    ensures disk_later { D.faults disk.old ≤ D.faults disk.new }
-    ensures out_later { K.faults out.old ≤ K.faults out.new }
+    requires { HasFewFiles request.now }
+    ensures { let old = outside (D.state disk.old) (K.state out.old) in
+        let new = outside (D.state disk.new) (K.state out.new) in
+        RunsRequest (plain_of request.now) result (causes_of old new) old new }
 {
     match request {
         Request::Drill { script } => run_script(alloc, script, disk, out),
@@ -64,23 +62,22 @@ fn run_request<D: Disk, K: Sink>(
 
 /// The command `drill`: reads the script and runs it.
 fn run_script<D: Disk, K: Sink>(alloc: Global, script: &str, disk: &mut D, out: &mut K) -> u8
-    ensures runs { RunsAsked (Drill script.now) (D.files disk.old) result
-        (Rose (D.faults disk.old) (D.faults disk.new)) (Rose (K.faults out.old) (K.faults out.new)) (K.written out.old) (K.written out.new) }
-    ensures files { D.files disk.new ≡ D.files disk.old }
-    ensures disk_later { D.faults disk.old ≤ D.faults disk.new }
-    ensures out_later { K.faults out.old ≤ K.faults out.new }
+    ensures { let old = outside (D.state disk.old) (K.state out.old) in
+        let new = outside (D.state disk.new) (K.state out.new) in
+        RunsRequest (Drill script.now) result (causes_of old new) old new }
 {
     match read_one(alloc, disk, script, MAX_DRILL_BYTES) {
         Ok(bytes) => run_bytes(alloc, script, &bytes, out),
-        Err(stop) => tell_stop(alloc, stop, out),
+        Err(stop) => print_stop(alloc, stop, out),
     }
 }
 
 /// Runs the drill of these bytes, or refuses the file.
 fn run_bytes<K: Sink>(alloc: Global, script: &str, bytes: &[u8], out: &mut K) -> u8
     requires { length bytes.now ≤ MAX_DRILL_BYTES }
-    ensures ends { MayEnd (drill_reply script.now bytes.now) result (Rose (K.faults out.old) (K.faults out.new)) (K.written out.old) (K.written out.new) }
-    ensures later { K.faults out.old ≤ K.faults out.new }
+    ensures prints { MayPrintReply (drill_reply script.now bytes.now) result
+        (K.state out.old) (K.state out.new) }
+    ensures later { (K.state out.old).faults ≤ (K.state out.new).faults }
 {
     match read_drill(alloc, bytes) {
         Ok(drill) => match run_drill(alloc, &drill, &GameMaker, out) {
@@ -88,27 +85,25 @@ fn run_bytes<K: Sink>(alloc: Global, script: &str, bytes: &[u8], out: &mut K) ->
             Err(RunFault::Write) => FAULT_WRITE,
             Err(RunFault::NoMemory) => OUT_OF_MEMORY,
         },
-        Err(fault) => tell_stop(alloc, drill_stop(script, fault), out),
+        Err(fault) => print_stop(alloc, drill_stop(script, &fault), out),
     }
 }
 
 /// The command `yaml`: reads rule files and prints their resolved forest.
 fn run_yaml<D: Disk, K: Sink>(alloc: Global, names: &FileNames<'_>, disk: &mut D, out: &mut K) -> u8
     requires { length names.now ≤ MAX_FILES }
-    ensures runs { RunsAsked (Yaml names.now) (D.files disk.old) result
-        (Rose (D.faults disk.old) (D.faults disk.new)) (Rose (K.faults out.old) (K.faults out.new)) (K.written out.old) (K.written out.new) }
-    ensures files { D.files disk.new ≡ D.files disk.old }
-    ensures disk_later { D.faults disk.old ≤ D.faults disk.new }
-    ensures out_later { K.faults out.old ≤ K.faults out.new }
+    ensures { let old = outside (D.state disk.old) (K.state out.old) in
+        let new = outside (D.state disk.new) (K.state out.new) in
+        RunsRequest (Yaml names.now) result (causes_of old new) old new }
 {
     let names = names.as_slice();
     match read_rules(alloc, disk, names) {
-        Ok(contents) => finish(alloc, yaml_text(alloc, names, &contents), out),
-        Err(stop) => tell_stop(alloc, stop, out),
+        Ok(contents) => print_text(alloc, yaml_text(alloc, names, &contents), out),
+        Err(stop) => print_stop(alloc, stop, out),
     }
 }
 
-/// The command `check`: reads rule files and prints what they mean.
+/// The command `check`: reads rule files and prints their kinds.
 fn run_check<D: Disk, K: Sink>(
     alloc: Global,
     names: &FileNames<'_>,
@@ -116,15 +111,13 @@ fn run_check<D: Disk, K: Sink>(
     out: &mut K,
 ) -> u8
     requires { length names.now ≤ MAX_FILES }
-    ensures runs { RunsAsked (Check names.now) (D.files disk.old) result
-        (Rose (D.faults disk.old) (D.faults disk.new)) (Rose (K.faults out.old) (K.faults out.new)) (K.written out.old) (K.written out.new) }
-    ensures files { D.files disk.new ≡ D.files disk.old }
-    ensures disk_later { D.faults disk.old ≤ D.faults disk.new }
-    ensures out_later { K.faults out.old ≤ K.faults out.new }
+    ensures { let old = outside (D.state disk.old) (K.state out.old) in
+        let new = outside (D.state disk.new) (K.state out.new) in
+        RunsRequest (Check names.now) result (causes_of old new) old new }
 {
     let names = names.as_slice();
     match read_rules(alloc, disk, names) {
-        Ok(contents) => finish(alloc, check_text(alloc, names, &contents), out),
-        Err(stop) => tell_stop(alloc, stop, out),
+        Ok(contents) => print_text(alloc, check_text(alloc, names, &contents), out),
+        Err(stop) => print_stop(alloc, stop, out),
     }
 }

@@ -1,9 +1,9 @@
 ghost use Rattle.std.specs.Prelude.{◌≡◌, ◌≤◌, ◌∷◌, [], map, length, IfOk, IfSome, IfNone, IsSome};
 ghost use Rattle.base.specs.Cause.{Rose};
-ghost use Rattle.match_cli.specs.Contents.{content_of, contents_of, IsFirstThere, IsGiven};
+ghost use Rattle.match_cli.specs.Contents.{content_of, read_after, IsFirstThere, AreWithinLimits};
 ghost use Rattle.match_cli.specs.Reply.{refusal};
 ghost use Rattle.match_cli.specs.Request.{rule_file};
-ghost use Rattle.match_cli.specs.Stops.{Stops, IsReadStep, IsUntoldRead};
+ghost use Rattle.match_cli.specs.Stop.{IsRefusal, ReturnsOrStops, ReturnsUntold};
 
 use crate::stop::Stop;
 use game_io::{Disk, DiskError};
@@ -14,11 +14,11 @@ pub const MAX_RULE_BYTES: u32 = 4_194_304;
 
 /// Refuses a whole file.
 fn unread<'a>(name: &'a str, cause: &'static str) -> Stop<'a>
-    ensures { Stops result (refusal name.now 0 cause.now) }
+    ensures { IsRefusal result (refusal name.now 0 cause.now) }
 {
     Stop::Refused {
         name,
-        line: 0,
+        place: 0,
         cause,
     }
 }
@@ -30,10 +30,16 @@ pub fn read_one<'a, D: Disk>(
     name: &'a str,
     limit: u32,
 ) -> Result<Vec<u8>, Stop<'a>>
-    ensures told { IfSome (D.files disk.old) (λ files. IsReadStep result (λ bytes. bytes.items) (content_of (record { name = name.now; limit = limit }) (files name.now)) (IsSome (files name.now) × Rose (D.faults disk.old) (D.faults disk.new))) }
-    ensures untold { IfNone (D.files disk.old) (IsUntoldRead result (λ bytes. length bytes.items ≤ limit) (record { name = name.now; limit = limit } ∷ []) (Rose (D.faults disk.old) (D.faults disk.new))) }
-    ensures files { D.files disk.new ≡ D.files disk.old }
-    ensures later { D.faults disk.old ≤ D.faults disk.new }
+    ensures told { IfSome (D.state disk.old).files
+        (λ files. ReturnsOrStops result (λ bytes. bytes.items)
+        (content_of (record { name = name.now; limit = limit }) (files name.now))
+        (IsSome (files name.now) × Rose (D.state disk.old).faults (D.state disk.new).faults)) }
+    ensures untold { IfNone (D.state disk.old).files
+        (ReturnsUntold result (λ bytes. length bytes.items ≤ limit)
+        (record { name = name.now; limit = limit } ∷ [])
+        (Rose (D.state disk.old).faults (D.state disk.new).faults)) }
+    ensures files { (D.state disk.new).files ≡ (D.state disk.old).files }
+    ensures later { (D.state disk.old).faults ≤ (D.state disk.new).faults }
 {
     match disk.read_file(alloc, name, limit) {
         Ok(bytes) => Ok(bytes),
@@ -50,11 +56,20 @@ pub fn read_rules<'a, D: Disk>(
     disk: &mut D,
     names: &[&'a str],
 ) -> Result<Vec<Vec<u8>>, Stop<'a>>
-    ensures told { IfSome (D.files disk.old) (λ files. IsReadStep result (λ contents. map (λ bytes. bytes.items) contents.items) (contents_of (map rule_file (map (λ name. name.now) names.now)) files) (IsFirstThere (map rule_file (map (λ name. name.now) names.now)) files × Rose (D.faults disk.old) (D.faults disk.new))) }
-    ensures untold { IfNone (D.files disk.old) (IsUntoldRead result (λ contents. IsGiven (map rule_file (map (λ name. name.now) names.now)) (map (λ bytes. bytes.items) contents.items)) (map rule_file (map (λ name. name.now) names.now)) (Rose (D.faults disk.old) (D.faults disk.new))) }
+    ensures told { IfSome (D.state disk.old).files
+        (λ files. ReturnsOrStops result (λ contents. map (λ bytes. bytes.items) contents.items)
+        (read_after [] (map rule_file (map (λ name. name.now) names.now)) files)
+        (IsFirstThere (map rule_file (map (λ name. name.now) names.now)) files
+        × Rose (D.state disk.old).faults (D.state disk.new).faults)) }
+    ensures untold { IfNone (D.state disk.old).files
+        (ReturnsUntold result
+        (λ contents. AreWithinLimits (map rule_file (map (λ name. name.now) names.now))
+        (map (λ bytes. bytes.items) contents.items))
+        (map rule_file (map (λ name. name.now) names.now))
+        (Rose (D.state disk.old).faults (D.state disk.new).faults)) }
     ensures one_each { IfOk result (λ contents. length contents.items ≡ length names.now) }
-    ensures files { D.files disk.new ≡ D.files disk.old }
-    ensures later { D.faults disk.old ≤ D.faults disk.new }
+    ensures files { (D.state disk.new).files ≡ (D.state disk.old).files }
+    ensures later { (D.state disk.old).faults ≤ (D.state disk.new).faults }
 {
     let mut contents = Vec::new(alloc);
     for name in names {

@@ -1,7 +1,9 @@
-//! The program `lockstep`: it reads its words, runs the command that they name over a disk, and prints the answer.
+//! The program `lockstep`: it reads its words, runs the command that they name over a disk, and
+//! prints the answer.
 //!
-//! `run` is the whole program over any disk and any sink. Its clause says what is printed and which status is
-//! answered, for every list of words and every content of the files. `main` hands it the real ones.
+//! `run` is the whole program over any disk and any sink. Its clause says what is printed and which
+//! status is answered, for every list of words and every content of the files. `main` hands it the
+//! real ones.
 #![tactic(auto)]
 
 mod check;
@@ -20,7 +22,8 @@ use std::io::ErrorKind;
 use std::process::ExitCode;
 use std::{env, io};
 
-/// The words of the command line. Words that are no text are an error, and are refused as no words are.
+/// The words of the command line. Words that are no text are an error, and are refused as no words
+/// are.
 fn words_of(rt: &HostRuntime) -> io::Result<Vec<String>> {
     let mut words = Vec::new(rt.alloc());
     for word in env::args(rt)? {

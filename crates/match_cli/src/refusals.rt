@@ -1,7 +1,10 @@
 ghost use Rattle.std.specs.Prelude.{◌≡◌, map};
-ghost use Rattle.match_cli.specs.Reply.{refusal};
+ghost use Rattle.drill_words.specs.DrillFault as drill;
+ghost use Rattle.yaml_lines.specs.Fault as line;
+ghost use Rattle.yaml_merge.specs.Fault as merge;
+ghost use Rattle.rule_traits.specs.Fault as rule;
 ghost use Rattle.match_cli.specs.RuleFiles.{name_at};
-ghost use Rattle.match_cli.specs.Stops.{Stops, TellsLine, TellsMerge, TellsRule, TellsDrill};
+ghost use Rattle.match_cli.specs.Stop.{IsFaultStop, IsDrillStop};
 
 use crate::stop::Stop;
 use drill_words::DrillFault;
@@ -19,70 +22,58 @@ pub fn name_at<'a>(names: &[&'a str], file: u16) -> &'a str
     }
 }
 
-/// Refuses a line of a file.
-fn refused_at<'a>(names: &[&'a str], place: Place, cause: &'static str) -> Stop<'a>
-    ensures { Stops result (refusal (name_at place.file (map (λ name. name.now) names.now)) place.line cause.now) }
+/// Refuses a fault at this place of the rule files. A fault without a place is out of memory.
+fn fault_stop<'a>(names: &[&'a str], place: Option<Place>, cause: &'static str) -> Stop<'a>
+    ensures { IsFaultStop (map (λ name. name.now) names.now) place cause.now result }
 {
-    Stop::Refused {
-        name: name_at(names, place.file),
-        line: place.line,
-        cause,
+    match place {
+        Some(place) => Stop::Refused {
+            name: name_at(names, place.file),
+            place: u64::from(place.line),
+            cause,
+        },
+        None => Stop::NoMemory,
     }
 }
 
 /// Refuses a fault of lines.
-pub fn line_stop<'a>(names: &[&'a str], fault: LineFault) -> Stop<'a>
-    ensures { TellsLine (map (λ name. name.now) names.now) fault result }
+pub fn line_stop<'a>(names: &[&'a str], fault: &LineFault) -> Stop<'a>
+    ensures { IsFaultStop (map (λ name. name.now) names.now)
+        (line.place_of fault.now) (line.cause_of fault.now) result }
 {
-    match fault {
-        LineFault::NotUtf8 { place } => refused_at(names, place, "NotUtf8"),
-        LineFault::BadIndent { place } => refused_at(names, place, "BadIndent"),
-        LineFault::TooDeep { place } => refused_at(names, place, "TooDeep"),
-        LineFault::LineTooLong { place } => refused_at(names, place, "LineTooLong"),
-        LineFault::TooManyLines { place } => refused_at(names, place, "TooManyLines"),
-        LineFault::NoMemory => Stop::NoMemory,
-    }
+    fault_stop(names, fault.place(), fault.cause())
 }
 
 /// Refuses a fault of merging.
-pub fn merge_stop<'a>(names: &[&'a str], fault: MergeFault) -> Stop<'a>
-    ensures { TellsMerge (map (λ name. name.now) names.now) fault result }
+pub fn merge_stop<'a>(names: &[&'a str], fault: &MergeFault) -> Stop<'a>
+    ensures { IsFaultStop (map (λ name. name.now) names.now)
+        (merge.place_of fault.now) (merge.cause_of fault.now) result }
 {
-    match fault {
-        MergeFault::NoParent { place } => refused_at(names, place, "NoParent"),
-        MergeFault::Cycle { place } => refused_at(names, place, "Cycle"),
-        MergeFault::NothingToRemove { place } => refused_at(names, place, "NothingToRemove"),
-        MergeFault::TooLarge { place } => refused_at(names, place, "TooLarge"),
-        MergeFault::TooDeep { place } => refused_at(names, place, "TooDeep"),
-        MergeFault::NoMemory => Stop::NoMemory,
-    }
+    fault_stop(names, fault.place(), fault.cause())
 }
 
 /// Refuses a fault of rules.
-pub fn rule_stop<'a>(names: &[&'a str], fault: RuleFault) -> Stop<'a>
-    ensures { TellsRule (map (λ name. name.now) names.now) fault result }
+pub fn rule_stop<'a>(names: &[&'a str], fault: &RuleFault) -> Stop<'a>
+    ensures { IsFaultStop (map (λ name. name.now) names.now)
+        (rule.place_of fault.now) (rule.cause_of fault.now) result }
 {
-    match fault {
-        RuleFault::BadValue { place } => refused_at(names, place, "BadValue"),
-        RuleFault::OutOfRange { place } => refused_at(names, place, "OutOfRange"),
-        RuleFault::MissingField { place } => refused_at(names, place, "MissingField"),
-        RuleFault::UnknownKindName { place } => refused_at(names, place, "UnknownKindName"),
-        RuleFault::TooManyKinds { place } => refused_at(names, place, "TooManyKinds"),
-        RuleFault::NoMemory => Stop::NoMemory,
-    }
+    fault_stop(names, fault.place(), fault.cause())
 }
 
 /// Refuses a faulty drill.
-pub fn drill_stop<'a>(name: &'a str, fault: DrillFault) -> Stop<'a>
-    ensures { TellsDrill name.now fault result }
+pub fn drill_stop<'a>(name: &'a str, fault: &DrillFault) -> Stop<'a>
+    ensures { IsDrillStop name.now fault.now result }
 {
-    let (line, cause) = match fault {
-        DrillFault::BadWord { line } => (line, "BadWord"),
-        DrillFault::BadNumber { line } => (line, "BadNumber"),
-        DrillFault::NoSuchClient { line } => (line, "NoSuchClient"),
-        DrillFault::TooManyOrders { line } => (line, "TooManyOrders"),
-        DrillFault::TooManyEvents { line } => (line, "TooManyEvents"),
-        DrillFault::NoMemory => return Stop::NoMemory,
-    };
-    Stop::Refused { name, line, cause }
+    match fault {
+        DrillFault::BadWord { .. }
+        | DrillFault::BadNumber { .. }
+        | DrillFault::NoSuchClient { .. }
+        | DrillFault::TooManyOrders { .. }
+        | DrillFault::TooManyEvents { .. } => Stop::Refused {
+            name,
+            place: u64::from(fault.line()),
+            cause: fault.cause(),
+        },
+        DrillFault::NoMemory => Stop::NoMemory,
+    }
 }

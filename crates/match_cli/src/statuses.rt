@@ -13,5 +13,5 @@ pub const FAULT_READ: u8 = 4;
 /// A write failed.
 pub const FAULT_WRITE: u8 = 5;
 
-/// Memory was wanting.
+/// Out of memory.
 pub const OUT_OF_MEMORY: u8 = 6;

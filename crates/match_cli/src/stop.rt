@@ -6,15 +6,15 @@ use std::alloc::AllocFailed;
 /// Why a command ends before it has its text.
 #[derive(Drop)]
 pub enum Stop<'a> {
-    /// A file is refused: its name, the line or 0, and the cause.
+    /// A file is refused: its name, the place in it or 0, and the cause.
     Refused {
         name: &'a str,
-        line: u32,
+        place: u64,
         cause: &'static str,
     },
     /// A read failed: the disk's count of faults rose.
     ReadFault,
-    /// Memory was wanting.
+    /// Out of memory.
     NoMemory,
 }
 

@@ -2,19 +2,29 @@
 mod checks;
 mod departures;
 mod donations;
+mod faults;
+mod faulty_drills;
+mod faulty_orders;
+mod long_drills;
+mod more_order_drills;
+mod order_drills;
+mod pages;
+mod parents;
 mod reports;
 mod schedules;
+mod short_drills;
 mod texts;
+mod wide_drills;
 
 use super::run;
 use game_io::{FailingCall, MemDisk, MemSink, Remains};
 use std::alloc::{AllocError, Global};
 use std::test::Fail;
 
-/// The words of a drill, behind the program's name.
+/// The words of a drill, after the program's name.
 const DRILL: [&str; 3] = ["drill", "--script", "d"];
 
-/// A run: what it shows, the words behind the program's name, the files, the status and the text.
+/// A run: what it shows, the words after the program's name, the files, the status and the text.
 #[derive(Drop)]
 struct Row {
     shows: &'static str,
@@ -24,7 +34,7 @@ struct Row {
     text: &'static str,
 }
 
-/// The program's name, and these words behind it.
+/// The program's name, and these words after it.
 fn command_line(alloc: Global, words: &[&str]) -> Result<Vec<String>, AllocError> {
     let mut line = Vec::new(alloc);
     line.push(String::from_str(alloc, "lockstep")?)?;
@@ -56,7 +66,8 @@ fn disk_of(
     Ok(disk)
 }
 
-/// Whether the program answers this status and writes this text, where the first put fails or none does.
+/// Whether the program returns this status and prints this text, where the first put fails or none
+/// does.
 fn is_answered(
     alloc: Global,
     words: &[&str],
@@ -75,8 +86,8 @@ fn is_answered(
 fn rule_files_are_printed(rt: HostRuntime) -> Result<(), Fail> {
     for row in texts::ROWS {
         let disk = disk_of(rt.alloc(), row.files, None)?;
-        let told = is_answered(rt.alloc(), row.words, disk, None, row.status, row.text)?;
-        assert!(rt; told, "{}", row.shows);
+        let right = is_answered(rt.alloc(), row.words, disk, None, row.status, row.text)?;
+        assert!(rt; right, "{}", row.shows);
         if row.status == 0 {
             let again = disk_of(rt.alloc(), &[("t", row.text)], None)?;
             let same = is_answered(rt.alloc(), &["yaml", "t"], again, None, 0, row.text)?;
@@ -90,48 +101,96 @@ fn rule_files_are_printed(rt: HostRuntime) -> Result<(), Fail> {
 fn rule_files_are_checked(rt: HostRuntime) -> Result<(), Fail> {
     for row in checks::ROWS {
         let disk = disk_of(rt.alloc(), row.files, None)?;
-        let told = is_answered(rt.alloc(), row.words, disk, None, row.status, row.text)?;
-        assert!(rt; told, "{}", row.shows);
+        let right = is_answered(rt.alloc(), row.words, disk, None, row.status, row.text)?;
+        assert!(rt; right, "{}", row.shows);
+    }
+    Ok(())
+}
+
+/// A drill: what it shows, its script, the status and the text.
+type DrillRow = (&'static str, &'static str, u8, &'static str);
+
+/// The first of these drills that isn't answered with its status and its text.
+fn first_wrong(alloc: Global, rows: &[DrillRow]) -> Result<Option<&'static str>, AllocError> {
+    for (shows, script, status, text) in rows {
+        let disk = disk_of(alloc, &[("d", *script)], None)?;
+        if !is_answered(alloc, &DRILL, disk, None, *status, text)? {
+            return Ok(Some(*shows));
+        }
+    }
+    Ok(None)
+}
+
+#[test]
+fn drills_are_reported(rt: HostRuntime) -> Result<(), Fail> {
+    let tables = [
+        schedules::ROWS.as_slice(),
+        departures::ROWS.as_slice(),
+        donations::ROWS.as_slice(),
+        reports::ROWS.as_slice(),
+    ];
+    for rows in tables {
+        let wrong = first_wrong(rt.alloc(), rows)?;
+        assert_eq!(rt; wrong, None);
     }
     Ok(())
 }
 
 #[test]
-fn schedules_are_reported(rt: HostRuntime) -> Result<(), Fail> {
-    for (name, script, report) in schedules::ROWS {
-        let disk = disk_of(rt.alloc(), &[("d", script)], None)?;
-        let done = is_answered(rt.alloc(), &DRILL, disk, None, 0, report)?;
-        assert!(rt; done, "{name}");
+fn random_drills_are_reported(rt: HostRuntime) -> Result<(), Fail> {
+    let tables = [
+        short_drills::ROWS.as_slice(),
+        long_drills::ROWS.as_slice(),
+        wide_drills::ROWS.as_slice(),
+        faulty_drills::ROWS.as_slice(),
+    ];
+    for rows in tables {
+        let wrong = first_wrong(rt.alloc(), rows)?;
+        assert_eq!(rt; wrong, None);
     }
     Ok(())
 }
 
 #[test]
-fn departures_are_reported(rt: HostRuntime) -> Result<(), Fail> {
-    for (name, script, report) in departures::ROWS {
-        let disk = disk_of(rt.alloc(), &[("d", script)], None)?;
-        let done = is_answered(rt.alloc(), &DRILL, disk, None, 0, report)?;
-        assert!(rt; done, "{name}");
+fn drills_with_every_order_are_reported(rt: HostRuntime) -> Result<(), Fail> {
+    let tables = [
+        order_drills::ROWS.as_slice(),
+        more_order_drills::ROWS.as_slice(),
+        faulty_orders::ROWS.as_slice(),
+    ];
+    for rows in tables {
+        let wrong = first_wrong(rt.alloc(), rows)?;
+        assert_eq!(rt; wrong, None);
     }
     Ok(())
 }
 
 #[test]
-fn donations_are_paid(rt: HostRuntime) -> Result<(), Fail> {
-    for (name, script, report) in donations::ROWS {
+fn faulty_lines_are_refused(rt: HostRuntime) -> Result<(), Fail> {
+    for (script, text) in faults::ROWS {
         let disk = disk_of(rt.alloc(), &[("d", script)], None)?;
-        let done = is_answered(rt.alloc(), &DRILL, disk, None, 0, report)?;
-        assert!(rt; done, "{name}");
+        let right = is_answered(rt.alloc(), &DRILL, disk, None, 3, text)?;
+        assert!(rt; right, "{script}");
     }
     Ok(())
 }
 
 #[test]
-fn reports_raise_alarms(rt: HostRuntime) -> Result<(), Fail> {
-    for (name, script, report) in reports::ROWS {
-        let disk = disk_of(rt.alloc(), &[("d", script)], None)?;
-        let done = is_answered(rt.alloc(), &DRILL, disk, None, 0, report)?;
-        assert!(rt; done, "{name}");
+fn pages_show_what_is_printed(rt: HostRuntime) -> Result<(), Fail> {
+    for row in pages::ROWS {
+        let disk = disk_of(rt.alloc(), row.files, None)?;
+        let right = is_answered(rt.alloc(), row.words, disk, None, row.status, row.text)?;
+        assert!(rt; right, "{}", row.shows);
+    }
+    Ok(())
+}
+
+#[test]
+fn doubled_parents_are_resolved(rt: HostRuntime) -> Result<(), Fail> {
+    for row in parents::ROWS {
+        let disk = disk_of(rt.alloc(), row.files, None)?;
+        let right = is_answered(rt.alloc(), row.words, disk, None, row.status, row.text)?;
+        assert!(rt; right, "{}", row.shows);
     }
     Ok(())
 }
@@ -214,7 +273,7 @@ const REFUSED: [Row; 14] = [
         text: "refused b 2 BadIndent\n",
     },
     Row {
-        shows: "a fault in merging is told with the file of its node",
+        shows: "a fault in merging is printed with the file of its node",
         words: &["yaml", "a", "b"],
         files: &[("a", "A:\n"), ("b", "\nA:\n\tInherits: C\n")],
         status: 3,
@@ -228,7 +287,7 @@ const REFUSED: [Row; 14] = [
         text: "refused b 1 NothingToRemove\n",
     },
     Row {
-        shows: "a fault in traits is told with the file of its node",
+        shows: "a fault in traits is printed with the file of its node",
         words: &["check", "a", "b"],
         files: &[
             ("a", "A:\n\tHealth:\n"),
@@ -250,13 +309,14 @@ const REFUSED: [Row; 14] = [
 fn words_and_files_are_refused(rt: HostRuntime) -> Result<(), Fail> {
     for row in REFUSED {
         let disk = disk_of(rt.alloc(), row.files, None)?;
-        let told = is_answered(rt.alloc(), row.words, disk, None, row.status, row.text)?;
-        assert!(rt; told, "{}", row.shows);
+        let right = is_answered(rt.alloc(), row.words, disk, None, row.status, row.text)?;
+        assert!(rt; right, "{}", row.shows);
     }
     Ok(())
 }
 
-/// What fails: the words, the file `d`, what a failed read and a failed put leave, the status and the text.
+/// What fails: the words, the file `d`, what a failed read and a failed put leave, the status and
+/// the text.
 const FAILED: [(&[&str], &str, Option<Remains>, Option<Remains>, u8, &str); 14] = [
     (
         &DRILL,
@@ -271,7 +331,7 @@ const FAILED: [(&[&str], &str, Option<Remains>, Option<Remains>, u8, &str); 14] 
         &DRILL,
         SEALED,
         None,
-        Some(Remains::Front(16)),
+        Some(Remains::Prefix(16)),
         5,
         "0 sealed 0\ncolum",
     ),
@@ -288,16 +348,16 @@ const FAILED: [(&[&str], &str, Option<Remains>, Option<Remains>, u8, &str); 14] 
         &DRILL,
         SEALED,
         Some(Remains::Nothing),
-        Some(Remains::Front(7)),
+        Some(Remains::Prefix(7)),
         5,
         "fault r",
     ),
-    // A refusal that is not told.
+    // A refusal that is not printed.
     (
         &DRILL,
         OUTSIDE,
         None,
-        Some(Remains::Front(9)),
+        Some(Remains::Prefix(9)),
         5,
         "refused d",
     ),
@@ -306,7 +366,7 @@ const FAILED: [(&[&str], &str, Option<Remains>, Option<Remains>, u8, &str); 14] 
         &["dance"],
         SEALED,
         None,
-        Some(Remains::Front(99)),
+        Some(Remains::Prefix(99)),
         5,
         "refused words\n",
     ),
@@ -323,7 +383,7 @@ const FAILED: [(&[&str], &str, Option<Remains>, Option<Remains>, u8, &str); 14] 
         &["yaml", "d"],
         SEALED,
         None,
-        Some(Remains::Front(5)),
+        Some(Remains::Prefix(5)),
         5,
         "match",
     ),
@@ -331,11 +391,11 @@ const FAILED: [(&[&str], &str, Option<Remains>, Option<Remains>, u8, &str); 14] 
         &["check", "d"],
         SEALED,
         None,
-        Some(Remains::Front(4)),
+        Some(Remains::Prefix(4)),
         5,
         "kind",
     ),
-    // A file that is not there decides, and none behind it is read first.
+    // A file that is not there decides, and none after it is read before.
     (
         &["yaml", "a", "d"],
         SEALED,
@@ -364,11 +424,11 @@ const FAILED: [(&[&str], &str, Option<Remains>, Option<Remains>, u8, &str); 14] 
 ];
 
 #[test]
-fn failures_are_told(rt: HostRuntime) -> Result<(), Fail> {
+fn failures_are_printed(rt: HostRuntime) -> Result<(), Fail> {
     for (words, script, read, put, status, text) in FAILED {
         let disk = disk_of(rt.alloc(), &[("d", script)], read)?;
-        let told = is_answered(rt.alloc(), words, disk, put, status, text)?;
-        assert!(rt; told, "{words:?}: {status} {text}");
+        let right = is_answered(rt.alloc(), words, disk, put, status, text)?;
+        assert!(rt; right, "{words:?}: {status} {text}");
     }
     Ok(())
 }
@@ -393,8 +453,8 @@ fn long_rule_files_are_refused(rt: HostRuntime) -> Result<(), Fail> {
     ];
     for (lines, status, text) in rows {
         let disk = disk_of_lines(rt.alloc(), lines)?;
-        let told = is_answered(rt.alloc(), &["yaml", "a"], disk, None, status, text)?;
-        assert!(rt; told, "{lines}");
+        let right = is_answered(rt.alloc(), &["yaml", "a"], disk, None, status, text)?;
+        assert!(rt; right, "{lines}");
     }
     Ok(())
 }

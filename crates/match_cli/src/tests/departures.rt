@@ -1,7 +1,7 @@
-//! Drills in which clients leave.
+//! Drills in which the server leaves a client.
 
-/// What each shows, its script, and the report.
-pub(super) const ROWS: [(&str, &str, &str); 2] = [
+/// What each shows, its script, the status and the text.
+pub(super) static ROWS: [(&str, &str, u8, &str); 2] = [
     (
         "drop leaves at length",
         "match 2 3 1\n\
@@ -30,6 +30,7 @@ pub(super) const ROWS: [(&str, &str, &str); 2] = [
          down 0 1 2\n\
          tick 0\n\
          tick 0\n",
+        0,
         "0 sealed 0\n\
          1 sealed 1\n\
          2 sealed 2\n\
@@ -57,9 +58,9 @@ pub(super) const ROWS: [(&str, &str, &str); 2] = [
          24 not yet 0\n\
          column 0 3 playing\n\
          column 1 3 left\n\
-         peer 0 frames 3 sealed 3 hash 81b858065e314206 actors 0 cash 1000 1000\n\
-         peer 1 frames 0 sealed 3 hash fcf76e38ea964cd7 actors 0 cash 1000 1000\n\
-         server frames 0 hash fcf76e38ea964cd7 actors 0 cash 1000 1000\n\
+         peer 0 frames 3 sealed 3 hash b29bfaeb22c2bd27 actors 0 cash 1000 1000\n\
+         peer 1 frames 0 sealed 3 hash 2272380b296705a4 actors 0 cash 1000 1000\n\
+         server frames 0 hash 2272380b296705a4 actors 0 cash 1000 1000\n\
          end\n",
     ),
     (
@@ -91,6 +92,7 @@ pub(super) const ROWS: [(&str, &str, &str); 2] = [
          tick 0\n\
          tick 0\n\
          drop 1\n",
+        0,
         "0 sealed 0\n\
          1 sealed 1\n\
          2 sealed 2\n\
@@ -119,9 +121,9 @@ pub(super) const ROWS: [(&str, &str, &str); 2] = [
          25 already 1 3\n\
          column 0 3 playing\n\
          column 1 3 left\n\
-         peer 0 frames 3 sealed 3 hash 81b858065e314206 actors 0 cash 1000 1000\n\
-         peer 1 frames 0 sealed 3 hash fcf76e38ea964cd7 actors 0 cash 1000 1000\n\
-         server frames 0 hash fcf76e38ea964cd7 actors 0 cash 1000 1000\n\
+         peer 0 frames 3 sealed 3 hash b29bfaeb22c2bd27 actors 0 cash 1000 1000\n\
+         peer 1 frames 0 sealed 3 hash 2272380b296705a4 actors 0 cash 1000 1000\n\
+         server frames 0 hash 2272380b296705a4 actors 0 cash 1000 1000\n\
          end\n",
     ),
 ];

@@ -1,7 +1,7 @@
-//! Drills with donations.
+//! Drills of donations.
 
-/// What each shows, its script, and the report.
-pub(super) const ROWS: [(&str, &str, &str); 3] = [
+/// What each shows, its script, the status and the text.
+pub(super) static ROWS: [(&str, &str, u8, &str); 3] = [
     (
         "donations of one frame",
         "match 2 2 1\n\
@@ -10,6 +10,7 @@ pub(super) const ROWS: [(&str, &str, &str); 3] = [
          up 0\n\
          up 1\n\
          tick server\n",
+        0,
         "0 sealed 0\n\
          1 sealed 0\n\
          2 entry 0 0\n\
@@ -17,9 +18,9 @@ pub(super) const ROWS: [(&str, &str, &str); 3] = [
          4 ticked 0\n\
          column 0 1 playing\n\
          column 1 1 playing\n\
-         peer 0 frames 0 sealed 1 hash fcf76e38ea964cd7 actors 0 cash 1000 1000\n\
-         peer 1 frames 0 sealed 1 hash fcf76e38ea964cd7 actors 0 cash 1000 1000\n\
-         server frames 1 hash 22cde6625a608f61 actors 0 cash 700 1300\n\
+         peer 0 frames 0 sealed 1 hash 2272380b296705a4 actors 0 cash 1000 1000\n\
+         peer 1 frames 0 sealed 1 hash 2272380b296705a4 actors 0 cash 1000 1000\n\
+         server frames 1 hash 7c85a16e03727170 actors 0 cash 700 1300\n\
          end\n",
     ),
     (
@@ -29,19 +30,20 @@ pub(super) const ROWS: [(&str, &str, &str); 3] = [
          up 0\n\
          drop 1\n\
          tick server\n",
+        0,
         "0 sealed 0\n\
          1 entry 0 0\n\
          2 leave 1 0\n\
          3 ticked 0\n\
          column 0 1 playing\n\
          column 1 0 left\n\
-         peer 0 frames 0 sealed 1 hash fcf76e38ea964cd7 actors 0 cash 1000 1000\n\
-         peer 1 frames 0 sealed 0 hash fcf76e38ea964cd7 actors 0 cash 1000 1000\n\
-         server frames 1 hash 7163dacd7c91f1bf actors 0 cash 1000 1000\n\
+         peer 0 frames 0 sealed 1 hash 2272380b296705a4 actors 0 cash 1000 1000\n\
+         peer 1 frames 0 sealed 0 hash 2272380b296705a4 actors 0 cash 1000 1000\n\
+         server frames 1 hash 8f625a45533aeb0e actors 0 cash 1000 1000\n\
          end\n",
     ),
     (
-        "three clients that move cash",
+        "drill of the local match",
         "match 3 2 9\n\
          seal 0 donate 1 10\n\
          seal 1\n\
@@ -56,6 +58,7 @@ pub(super) const ROWS: [(&str, &str, &str); 3] = [
          drop 2\n\
          tick server\n\
          tick server\n",
+        0,
         "0 sealed 0\n\
          1 sealed 0\n\
          2 sealed 0\n\
@@ -72,10 +75,10 @@ pub(super) const ROWS: [(&str, &str, &str); 3] = [
          column 0 2 left\n\
          column 1 1 left\n\
          column 2 1 left\n\
-         peer 0 frames 0 sealed 2 hash 0585fc97a81b1f87 actors 0 cash 1000 1000 1000\n\
-         peer 1 frames 0 sealed 1 hash 0585fc97a81b1f87 actors 0 cash 1000 1000 1000\n\
-         peer 2 frames 0 sealed 1 hash 0585fc97a81b1f87 actors 0 cash 1000 1000 1000\n\
-         server frames 2 hash 40558307518e13fb actors 0 cash 990 1010 1000\n\
+         peer 0 frames 0 sealed 2 hash fa1681b15777ebde actors 0 cash 1000 1000 1000\n\
+         peer 1 frames 0 sealed 1 hash fa1681b15777ebde actors 0 cash 1000 1000 1000\n\
+         peer 2 frames 0 sealed 1 hash fa1681b15777ebde actors 0 cash 1000 1000 1000\n\
+         server frames 2 hash ea3954432b052e36 actors 0 cash 990 1010 1000\n\
          end\n",
     ),
 ];

@@ -1,7 +1,7 @@
-//! Drills with reports of hashes.
+//! Drills of reports and alarms.
 
-/// What each shows, its script, and the report.
-pub(super) const ROWS: [(&str, &str, &str); 2] = [
+/// What each shows, its script, the status and the text.
+pub(super) static ROWS: [(&str, &str, u8, &str); 3] = [
     (
         "first report stays and alarms",
         "match 1 2 1\n\
@@ -14,6 +14,7 @@ pub(super) const ROWS: [(&str, &str, &str); 2] = [
          tick server\n\
          report 0\n\
          up 2\n",
+        0,
         "0 sealed 0\n\
          1 entry 0 0\n\
          2 kept 0 0\n\
@@ -24,9 +25,9 @@ pub(super) const ROWS: [(&str, &str, &str); 2] = [
          7 sent 0\n\
          8 report repeated 0 0\n\
          column 0 1 playing\n\
-         peer 0 frames 1 sealed 1 hash 812832320b2b6e66 actors 0 cash 1000\n\
-         server frames 1 hash 812832320b2b6e66 actors 0 cash 1000\n\
-         alarm 0 frame 0 got 0000000000000000 want 812832320b2b6e66\n\
+         peer 0 frames 1 sealed 1 hash f7942f07d18c2ac5 actors 0 cash 1000\n\
+         server frames 1 hash f7942f07d18c2ac5 actors 0 cash 1000\n\
+         alarm 0 frame 0 got 0000000000000000 want f7942f07d18c2ac5\n\
          end\n",
     ),
     (
@@ -39,6 +40,7 @@ pub(super) const ROWS: [(&str, &str, &str); 2] = [
          tick server\n\
          report 0\n\
          up 1\n",
+        0,
         "0 sealed 0\n\
          1 entry 0 0\n\
          2 kept 0 0\n\
@@ -47,8 +49,15 @@ pub(super) const ROWS: [(&str, &str, &str); 2] = [
          5 sent 0\n\
          6 report 0 0\n\
          column 0 1 playing\n\
-         peer 0 frames 1 sealed 1 hash 812832320b2b6e66 actors 0 cash 1000\n\
-         server frames 1 hash 812832320b2b6e66 actors 0 cash 1000\n\
+         peer 0 frames 1 sealed 1 hash f7942f07d18c2ac5 actors 0 cash 1000\n\
+         server frames 1 hash f7942f07d18c2ac5 actors 0 cash 1000\n\
          end\n",
+    ),
+    (
+        "client outside the match",
+        "match 1 2 1\n\
+         seal 7\n",
+        3,
+        "refused d 2 NoSuchClient\n",
     ),
 ];

@@ -1,13 +1,14 @@
 //! Drills of seals, packets, agreed entries and ticks.
 
-/// What each shows, its script, and the report.
-pub(super) const ROWS: [(&str, &str, &str); 6] = [
+/// What each shows, its script, the status and the text.
+pub(super) static ROWS: [(&str, &str, u8, &str); 6] = [
     (
         "match without events",
         "match 1 2 5489\n",
+        0,
         "column 0 0 playing\n\
-         peer 0 frames 0 sealed 0 hash e284473ba23241b0 actors 0 cash 1000\n\
-         server frames 0 hash e284473ba23241b0 actors 0 cash 1000\n\
+         peer 0 frames 0 sealed 0 hash f4598944335569d3 actors 0 cash 1000\n\
+         server frames 0 hash f4598944335569d3 actors 0 cash 1000\n\
          end\n",
     ),
     (
@@ -17,13 +18,14 @@ pub(super) const ROWS: [(&str, &str, &str); 6] = [
          up 0\n\
          down 0 0 0\n\
          tick 0\n",
+        0,
         "0 sealed 0\n\
          1 entry 0 0\n\
          2 kept 0 0\n\
          3 ticked 0\n\
          column 0 1 playing\n\
-         peer 0 frames 1 sealed 1 hash 2844b966ff578f05 actors 0 cash 1000\n\
-         server frames 0 hash e284473ba23241b0 actors 0 cash 1000\n\
+         peer 0 frames 1 sealed 1 hash 4c4dc97d38784958 actors 0 cash 1000\n\
+         server frames 0 hash f4598944335569d3 actors 0 cash 1000\n\
          end\n",
     ),
     (
@@ -34,14 +36,15 @@ pub(super) const ROWS: [(&str, &str, &str); 6] = [
          tick 0\n\
          down 0 0 0\n\
          tick 0\n",
+        0,
         "0 sealed 0\n\
          1 entry 0 0\n\
          2 not yet 0\n\
          3 kept 0 0\n\
          4 ticked 0\n\
          column 0 1 playing\n\
-         peer 0 frames 1 sealed 1 hash 812832320b2b6e66 actors 0 cash 1000\n\
-         server frames 0 hash d58d09c89f12778f actors 0 cash 1000\n\
+         peer 0 frames 1 sealed 1 hash f7942f07d18c2ac5 actors 0 cash 1000\n\
+         server frames 0 hash 6e9a0e14bd41cdce actors 0 cash 1000\n\
          end\n",
     ),
     (
@@ -59,6 +62,7 @@ pub(super) const ROWS: [(&str, &str, &str); 6] = [
          tick 0\n\
          tick 0\n\
          tick 0\n",
+        0,
         "0 sealed 0\n\
          1 sealed 1\n\
          2 entry 0 0\n\
@@ -72,8 +76,8 @@ pub(super) const ROWS: [(&str, &str, &str); 6] = [
          10 ticked 1\n\
          11 not yet 0\n\
          column 0 2 playing\n\
-         peer 0 frames 2 sealed 2 hash c8e66d9483e411ed actors 0 cash 1000\n\
-         server frames 0 hash d58d09c89f12778f actors 0 cash 1000\n\
+         peer 0 frames 2 sealed 2 hash 2470548cdd796a10 actors 0 cash 1000\n\
+         server frames 0 hash 6e9a0e14bd41cdce actors 0 cash 1000\n\
          end\n",
     ),
     (
@@ -85,6 +89,7 @@ pub(super) const ROWS: [(&str, &str, &str); 6] = [
          up 0\n\
          up 1\n\
          up 9\n",
+        0,
         "0 sealed 0\n\
          1 sealed 1\n\
          2 ahead 0 1 0\n\
@@ -92,8 +97,8 @@ pub(super) const ROWS: [(&str, &str, &str); 6] = [
          4 entry 0 1\n\
          5 no packet\n\
          column 0 2 playing\n\
-         peer 0 frames 0 sealed 2 hash d58d09c89f12778f actors 0 cash 1000\n\
-         server frames 0 hash d58d09c89f12778f actors 0 cash 1000\n\
+         peer 0 frames 0 sealed 2 hash 6e9a0e14bd41cdce actors 0 cash 1000\n\
+         server frames 0 hash 6e9a0e14bd41cdce actors 0 cash 1000\n\
          end\n",
     ),
     (
@@ -102,12 +107,13 @@ pub(super) const ROWS: [(&str, &str, &str); 6] = [
          seal 0\n\
          seal 0\n\
          seal 0\n",
+        0,
         "0 sealed 0\n\
          1 sealed 1\n\
          2 too early\n\
          column 0 0 playing\n\
-         peer 0 frames 0 sealed 2 hash d58d09c89f12778f actors 0 cash 1000\n\
-         server frames 0 hash d58d09c89f12778f actors 0 cash 1000\n\
+         peer 0 frames 0 sealed 2 hash 6e9a0e14bd41cdce actors 0 cash 1000\n\
+         server frames 0 hash 6e9a0e14bd41cdce actors 0 cash 1000\n\
          end\n",
     ),
 ];

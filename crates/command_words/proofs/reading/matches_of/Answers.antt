@@ -7,7 +7,7 @@ use Rattle.clap.specs.declared.error.kind.ErrorKind.{ErrorKind}
 use Rattle.clap.specs.declared.error.kind.ErrorKind.TheVariants.{OutOfMemory}
 use Rattle.clap.proofs.OnLiterals.{clap_on_literals}
 use Rattle.command_words.specs.Commands.{bare_app, drill_app, yaml_app, check_app, lockstep_app}
-use Rattle.command_words.specs.Words.{is_accepted}
+use Rattle.command_words.specs.Reading.{is_accepted}
 use Rattle.command_words.proofs.reading.matches_of.Goals as goal
 
 -- `clap` says of such a command exactly what it finds and what it refuses.
@@ -19,7 +19,7 @@ free : is_simple_and_free lockstep_app ≡ true
 unfolding lockstep_app bare_app drill_app yaml_app check_app clap_on_literals
 free = refl
 
--- An error of one of these kinds, other than want of memory, says that there is such a kind.
+-- An error of one of these kinds, other than out of memory, says that there is such a kind.
 some_kind : (kinds : Kinds) (kind : ErrorKind) → (kind ≡ OutOfMemory) ⊎ IsAmong kind kinds → kind ≢ OutOfMemory → is_empty kinds ≡ false
 some_kind [] kind has other = elim has [ inl memory ↦ absurd (other memory) | inr none ↦ absurd none ]
 some_kind (first ∷ kinds) kind has other = grind arith

@@ -1,7 +1,7 @@
 -- A file with a fault in its lines.
 use Rattle.std.proofs.Common.{◌+◌, ap, ◌∙◌, drop, map}
-use Rattle.match_cli.proofs.ReadSteps.{left_is}
-use Rattle.match_cli.proofs.FaultSteps.{parse_stops}
+use Rattle.match_cli.proofs.ContentsLemmas.{left_is}
+use Rattle.match_cli.proofs.StopLemmas.{parse_stops}
 use Rattle.match_cli.proofs.rules.parse_files.Goals as goal
 
 pub returns-in-Err : goal.returns-in-Err

@@ -1,4 +1,4 @@
--- Words that are all names, behind a command that takes names.
+-- Words that are all names, after a command that takes names.
 use Rattle.std.proofs.Common.{◌≡◌, ◌∙◌, ap, ap₂, sym, refl, List, [], ◌∷◌, Option, Some, None, codes, is_some}
 use Rattle.std.specs.Prelude.{option_map, if◌then◌else◌}
 use Rattle.std.specs.List.{All}
@@ -9,16 +9,16 @@ use Rattle.clap.specs.Faults.{walk_fault, entered_fault, settle_fault, defaults_
 use Rattle.clap.proofs.WalkLemmas.{walk_stopped}
 use Rattle.clap.proofs.FaultLemmas.{stopped_fault}
 use Rattle.clap.proofs.OnLiterals.{clap_on_literals}
-use Rattle.command_words.specs.Asked.{Yaml, Check}
+use Rattle.command_words.specs.RequestPlain.{Yaml, Check}
 use Rattle.command_words.specs.Commands.{bare_app, drill_app, yaml_app, check_app, lockstep_app}
-use Rattle.command_words.specs.Words.{is_accepted, asked_of, names_in, named_by, request_of, allowed}
-use Rattle.command_words.proofs.PlainNames.{IsPlain, level_quiet, rows_found, found_names}
+use Rattle.command_words.specs.Reading.{is_accepted, command_request, names_in, found_request, request_of, allowed}
+use Rattle.command_words.proofs.PlainWordsLemmas.{IsPlain, level_quiet, rows_found, found_names}
 
 -- The walk of the whole command line, which stopped at a command.
 abbrev stopped : Text → List Text → Walk
 stopped command words = record (walk_from nothing_held) { stopped = Some (command, words) }
 
--- The fault of a command line, by what its walk came to and the fault in it.
+-- The fault of a command line, by where its walk ended and the fault in it.
 above_fault : App → Walk → Kinds → Kinds
 above_fault app end kinds = or_else kinds (or_else (entered_fault app end.stopped)
     (or_else (settle_fault app.top.rules app.top.args_override_self end.held)
@@ -43,19 +43,19 @@ yaml_found program word words plain =
     (sym (walk_stopped app.top.rules (names_of app) (walk_from nothing_held) (codes "yaml") [] (word ∷ words)))
     ∙ ap (λ (rows : List Row). Some (codes "yaml", rows)) (rows_found word words plain)
 
-yaml_named : (word : Text) (words : List Text) → named_by (Some (codes "yaml", found_names (word ∷ words))) ≡ option_map Yaml (allowed (word ∷ words))
-unfolding asked_of names_in
+yaml_named : (word : Text) (words : List Text) → found_request (Some (codes "yaml", found_names (word ∷ words))) ≡ option_map Yaml (allowed (word ∷ words))
+unfolding command_request names_in
 yaml_named word words = refl
 
 yaml_nothing : (program : Text) → request_of (program ∷ codes "yaml" ∷ []) ≡ None
-unfolding request_of is_accepted asked_of names_in lockstep_app bare_app drill_app yaml_app check_app clap_on_literals
+unfolding request_of is_accepted command_request names_in lockstep_app bare_app drill_app yaml_app check_app clap_on_literals
 yaml_nothing program = refl
 
 pub yaml_names : (program : Text) (names : List Text) → All IsPlain names → request_of (program ∷ codes "yaml" ∷ names) ≡ option_map Yaml (allowed names)
 unfolding request_of is_accepted
 yaml_names program [] plain = yaml_nothing program
 yaml_names program (word ∷ words) plain =
-    ap₂ (λ (kinds : Kinds) (found : Option (Text × List Row)). if is_empty kinds then named_by found else None)
+    ap₂ (λ (kinds : Kinds) (found : Option (Text × List Row)). if is_empty kinds then found_request found else None)
     (yaml_quiet program word words plain) (yaml_found program word words plain)
     ∙ yaml_named word words
 
@@ -77,18 +77,18 @@ check_found program word words plain =
     (sym (walk_stopped app.top.rules (names_of app) (walk_from nothing_held) (codes "check") [] (word ∷ words)))
     ∙ ap (λ (rows : List Row). Some (codes "check", rows)) (rows_found word words plain)
 
-check_named : (word : Text) (words : List Text) → named_by (Some (codes "check", found_names (word ∷ words))) ≡ option_map Check (allowed (word ∷ words))
-unfolding asked_of names_in
+check_named : (word : Text) (words : List Text) → found_request (Some (codes "check", found_names (word ∷ words))) ≡ option_map Check (allowed (word ∷ words))
+unfolding command_request names_in
 check_named word words = refl
 
 check_nothing : (program : Text) → request_of (program ∷ codes "check" ∷ []) ≡ None
-unfolding request_of is_accepted asked_of names_in lockstep_app bare_app drill_app yaml_app check_app clap_on_literals
+unfolding request_of is_accepted command_request names_in lockstep_app bare_app drill_app yaml_app check_app clap_on_literals
 check_nothing program = refl
 
 pub check_names : (program : Text) (names : List Text) → All IsPlain names → request_of (program ∷ codes "check" ∷ names) ≡ option_map Check (allowed names)
 unfolding request_of is_accepted
 check_names program [] plain = check_nothing program
 check_names program (word ∷ words) plain =
-    ap₂ (λ (kinds : Kinds) (found : Option (Text × List Row)). if is_empty kinds then named_by found else None)
+    ap₂ (λ (kinds : Kinds) (found : Option (Text × List Row)). if is_empty kinds then found_request found else None)
     (check_quiet program word words plain) (check_found program word words plain)
     ∙ check_named word words

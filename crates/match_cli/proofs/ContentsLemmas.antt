@@ -1,10 +1,11 @@
 -- Reading files one after the other.
 use Rattle.std.proofs.Common.{◌≡◌, ◌≤◌, ◌<◌, ◌+◌, map, drop, get_or, ℕ, [], ◌∷◌, ◌++◌, List, length, Bor, Option, Some, None, Ok, IsSome, IfSome, IfNone, refl, sym, ap, subst, inr, ◌∙◌, append_assoc, append-nil}
 use Rattle.std.proofs.lemmas.List.{drop_more}
-use Rattle.game_io.specs.Disk.{Files}
+use Rattle.game_io.specs.Files.{Files}
 use Rattle.base.specs.Steps.{◌>>=◌}
 use Rattle.match_cli.specs.Reply.{Reply}
-use Rattle.match_cli.specs.Contents.{Wanted, content_of, read_behind, contents_of, IsFirstThere, IsGiven, IsUnread}
+use Rattle.match_cli.specs.WantedFiles.{Wanted}
+use Rattle.match_cli.specs.Contents.{content_of, read_after, IsFirstThere, AreWithinLimits, IsUnread}
 use Rattle.match_cli.specs.declared.files.TheConstants.{MAX_RULE_BYTES}
 use Rattle.match_cli.specs.Request.{rule_file}
 
@@ -16,19 +17,19 @@ left_is view xs i d y below is = ap (map view) (drop_more xs i d below) ∙ ap (
 
 -- Some files were read, and some are left.
 pub record SoFar (files : Option Files) (all left : List Wanted) (got : List (List ℕ)) : Type 0 where
-  pub told : IfSome files (λ files. read_behind got left files ≡ contents_of all files)
+  pub told : IfSome files (λ files. read_after got left files ≡ read_after [] all files)
   pub there : IfSome files (λ files. IsFirstThere left files → IsFirstThere all files)
-  pub given : IfNone files ((rest : List (List ℕ)) → IsGiven left rest → IsGiven all (got ++ rest))
+  pub given : IfNone files ((rest : List (List ℕ)) → AreWithinLimits left rest → AreWithinLimits all (got ++ rest))
   pub unread : (reply : Reply) → IsUnread left reply → IsUnread all reply
 
 told_next :
     (files : Option Files) (all rest : List Wanted) (file : Wanted) (got : List (List ℕ)) (bytes : List ℕ) →
-    IfSome files (λ files. read_behind got (file ∷ rest) files ≡ contents_of all files) →
+    IfSome files (λ files. read_after got (file ∷ rest) files ≡ read_after [] all files) →
     IfSome files (λ files. content_of file (files file.name) ≡ Ok bytes) →
-    IfSome files (λ files. read_behind (got ++ bytes ∷ []) rest files ≡ contents_of all files)
+    IfSome files (λ files. read_after (got ++ bytes ∷ []) rest files ≡ read_after [] all files)
 told_next None all rest file got bytes told read = tt
 told_next (Some files) all rest file got bytes told read =
-    ap (λ step. step >>= λ bytes. read_behind (got ++ bytes ∷ []) rest files) (sym read) ∙ told
+    ap (λ step. step >>= λ bytes. read_after (got ++ bytes ∷ []) rest files) (sym read) ∙ told
 
 -- A file that was read is there.
 read_there : (file : Wanted) (content : Option (List ℕ)) (bytes : List ℕ) → content_of file content ≡ Ok bytes → IsSome content
@@ -45,11 +46,11 @@ there_next (Some files) all rest file bytes there read = λ _. there (read_there
 
 given_next :
     (files : Option Files) (all rest : List Wanted) (file : Wanted) (got : List (List ℕ)) (bytes : List ℕ) →
-    IfNone files ((others : List (List ℕ)) → IsGiven (file ∷ rest) others → IsGiven all (got ++ others)) →
+    IfNone files ((others : List (List ℕ)) → AreWithinLimits (file ∷ rest) others → AreWithinLimits all (got ++ others)) →
     IfNone files (length bytes ≤ file.limit) →
-    IfNone files ((others : List (List ℕ)) → IsGiven rest others → IsGiven all ((got ++ bytes ∷ []) ++ others))
+    IfNone files ((others : List (List ℕ)) → AreWithinLimits rest others → AreWithinLimits all ((got ++ bytes ∷ []) ++ others))
 given_next None all rest file got bytes given short =
-    λ others others_given. subst (IsGiven all) (sym (append_assoc got (bytes ∷ []) others)) (given (bytes ∷ others) (short, others_given))
+    λ others others_given. subst (AreWithinLimits all) (sym (append_assoc got (bytes ∷ []) others)) (given (bytes ∷ others) (short, others_given))
 given_next (Some files) all rest file got bytes given short = tt
 
 -- One more file was read.
@@ -66,8 +67,8 @@ next files all rest file got bytes so_far read short = record {
   unread = λ reply unread. so_far.unread reply (inr (inr unread));
 }
 
-pub all_given : (files : Option Files) (all : List Wanted) (got : List (List ℕ)) → SoFar files all [] got → IfNone files (IsGiven all got)
-all_given None all got so_far = subst (IsGiven all) (append-nil got) (so_far.given [] tt)
+pub all_given : (files : Option Files) (all : List Wanted) (got : List (List ℕ)) → SoFar files all [] got → IfNone files (AreWithinLimits all got)
+all_given None all got so_far = subst (AreWithinLimits all) (append-nil got) (so_far.given [] tt)
 all_given (Some files) all got so_far = tt
 
 -- What is left of the named files, of which one is read next.

@@ -10,7 +10,7 @@ use Rattle.clap.specs.Faults.{other_fault, turn_fault, walk_fault, settle_fault,
 use Rattle.clap.specs.declared.parser.matches.ValueSource.TheVariants.{CommandLine}
 use Rattle.clap.proofs.SimpleLemmas.{is_false}
 use Rattle.command_words.specs.Commands.{file_names}
-use Rattle.command_words.specs.Words.{is_plain}
+use Rattle.command_words.specs.Reading.{is_plain}
 
 abbrev pub IsPlain : Text → Type 0
 IsPlain word = is_plain word ≡ true
@@ -65,9 +65,9 @@ found_names (name ∷ names) = record {
   reading = reading_by names_rule;
 } ∷ []
 
--- The walk behind a name, which is still held back.
-abbrev behind : List Text → Text → Walk
-behind before last = record {
+-- The walk after a name, which is still held back.
+abbrev after_name : List Text → Text → Walk
+after_name before last = record {
   held = record { rows = found_names before; pending = Some (codes "names", last ∷ []); skip = 0 };
   waiting = positional;
   position = 1;
@@ -75,18 +75,18 @@ behind before last = record {
   stopped = None;
 }
 
-first_name : (word : Text) → is_plain word ≡ true → walked (names_rule ∷ []) [] (walk_from nothing_held) word ≡ behind [] word
+first_name : (word : Text) → is_plain word ≡ true → walked (names_rule ∷ []) [] (walk_from nothing_held) word ≡ after_name [] word
 unfolding walked
 first_name word plain = ap (λ (m : Held × Step). after_step (names_rule ∷ []) word (walk_from nothing_held) m.0 m.1) (met (names_rule ∷ []) idle 1 word nothing_held plain)
 
-to_next : (before : List Text) (last word : Text) → after_step (names_rule ∷ []) word (behind before last) (behind before last).held value ≡ behind (before ++ last ∷ []) word
+to_next : (before : List Text) (last word : Text) → after_step (names_rule ∷ []) word (after_name before last) (after_name before last).held value ≡ after_name (before ++ last ∷ []) word
 to_next [] last word = refl
 to_next (name ∷ names) last word = refl
 
-next_name : (before : List Text) (last word : Text) → is_plain word ≡ true → walked (names_rule ∷ []) [] (behind before last) word ≡ behind (before ++ last ∷ []) word
+next_name : (before : List Text) (last word : Text) → is_plain word ≡ true → walked (names_rule ∷ []) [] (after_name before last) word ≡ after_name (before ++ last ∷ []) word
 unfolding walked
 next_name before last word plain =
-    ap (λ (m : Held × Step). after_step (names_rule ∷ []) word (behind before last) m.0 m.1) (met (names_rule ∷ []) positional 1 word (behind before last).held plain)
+    ap (λ (m : Held × Step). after_step (names_rule ∷ []) word (after_name before last) m.0 m.1) (met (names_rule ∷ []) positional 1 word (after_name before last).held plain)
     ∙ to_next before last word
 
 first_quiet : (command word : Text) → is_plain word ≡ true → turn_fault (names_shape command) [] (walk_from nothing_held) word ≡ []
@@ -94,23 +94,23 @@ first_quiet command word plain =
     ap₂ (λ (kinds : Kinds) (m : Held × Step). or_else kinds (step_fault (names_shape command) 1 m.0 m.1))
     (quiet (names_shape command) word nothing_held plain) (met (names_rule ∷ []) idle 1 word nothing_held plain)
 
-next_quiet : (command : Text) (before : List Text) (last word : Text) → is_plain word ≡ true → turn_fault (names_shape command) [] (behind before last) word ≡ []
+next_quiet : (command : Text) (before : List Text) (last word : Text) → is_plain word ≡ true → turn_fault (names_shape command) [] (after_name before last) word ≡ []
 next_quiet command before last word plain =
     ap₂ (λ (kinds : Kinds) (m : Held × Step). or_else kinds (step_fault (names_shape command) 1 m.0 m.1))
-    (quiet (names_shape command) word (behind before last).held plain) (met (names_rule ∷ []) positional 1 word (behind before last).held plain)
+    (quiet (names_shape command) word (after_name before last).held plain) (met (names_rule ∷ []) positional 1 word (after_name before last).held plain)
 
--- Where the walk ends: behind the last of the names.
-record EndsBehind (names : List Text) (end : Walk) : Type 0 where
+-- Where the walk ends: after the last of the names.
+record EndsAfter (names : List Text) (end : Walk) : Type 0 where
   before : List Text
   last : Text
   all : before ++ last ∷ [] ≡ names
-  is : end ≡ behind before last
+  is : end ≡ after_name before last
 
 ends : (before : List Text) (last : Text) (names : List Text) → All IsPlain names
-    → EndsBehind (before ++ last ∷ names) (fold (walked (names_rule ∷ []) []) (behind before last) names)
+    → EndsAfter (before ++ last ∷ names) (fold (walked (names_rule ∷ []) []) (after_name before last) names)
 ends before last [] plain = record { before = before; last = last; all = refl; is = refl }
 ends before last (word ∷ names) plain =
-    let later : EndsBehind ((before ++ last ∷ []) ++ word ∷ names) (fold (walked (names_rule ∷ []) []) (behind (before ++ last ∷ []) word) names) =
+    let later : EndsAfter ((before ++ last ∷ []) ++ word ∷ names) (fold (walked (names_rule ∷ []) []) (after_name (before ++ last ∷ []) word) names) =
     ends (before ++ last ∷ []) word names (All-tail IsPlain word names plain) in
     record {
       before = later.before;
@@ -120,7 +120,7 @@ ends before last (word ∷ names) plain =
     }
 
 walk_quiet : (command : Text) (before : List Text) (last : Text) (names : List Text) → All IsPlain names
-    → walk_fault (names_shape command) [] (behind before last) names ≡ []
+    → walk_fault (names_shape command) [] (after_name before last) names ≡ []
 unfolding walk_fault
 walk_quiet command before last [] plain = refl
 walk_quiet command before last (word ∷ names) plain =
@@ -128,18 +128,18 @@ walk_quiet command before last (word ∷ names) plain =
     (next_quiet command before last word (at_first word names plain)) (next_name before last word (at_first word names plain))
     ∙ walk_quiet command (before ++ last ∷ []) word names (All-tail IsPlain word names plain)
 
--- What comes behind the walk is at no fault, and all the names are found.
+-- After the walk there is no fault, and all the names are found.
 tail_fault : Text → Walk → Kinds
 tail_fault command end = or_else (settle_fault (names_rule ∷ []) false end.held)
     (or_else (defaults_fault (settled (names_rule ∷ []) end.held).rows (names_rule ∷ []))
     (check_fault (names_shape command) (finished (names_rule ∷ []) end.held) false))
 
-tail_quiet : (command : Text) (before : List Text) (last : Text) → tail_fault command (behind before last) ≡ []
+tail_quiet : (command : Text) (before : List Text) (last : Text) → tail_fault command (after_name before last) ≡ []
 unfolding tail_fault defaults_fault
 tail_quiet command [] last = refl
 tail_quiet command (name ∷ names) last = refl
 
-all_found : (before : List Text) (last : Text) → finished (names_rule ∷ []) (behind before last).held ≡ found_names (before ++ last ∷ [])
+all_found : (before : List Text) (last : Text) → finished (names_rule ∷ []) (after_name before last).held ≡ found_names (before ++ last ∷ [])
 all_found [] last = refl
 all_found (name ∷ names) last = refl
 
@@ -147,8 +147,8 @@ pub level_quiet : (command word : Text) (names : List Text) → All IsPlain (wor
     → level_fault (names_shape command) [] nothing_held (word ∷ names) false [] ≡ []
 unfolding walk_fault tail_fault
 level_quiet command word names plain =
-    let end : EndsBehind (word ∷ names) (fold (walked (names_rule ∷ []) []) (behind [] word) names) = ends [] word names (All-tail IsPlain word names plain) in
-    let first : walked (names_rule ∷ []) [] (walk_from nothing_held) word ≡ behind [] word = first_name word (at_first word names plain) in
+    let end : EndsAfter (word ∷ names) (fold (walked (names_rule ∷ []) []) (after_name [] word) names) = ends [] word names (All-tail IsPlain word names plain) in
+    let first : walked (names_rule ∷ []) [] (walk_from nothing_held) word ≡ after_name [] word = first_name word (at_first word names plain) in
     ap₂ (λ (kinds : Kinds) (w : Walk). or_else (or_else kinds (walk_fault (names_shape command) [] w names)) (tail_fault command (fold (walked (names_rule ∷ []) []) w names)))
     (first_quiet command word (at_first word names plain)) first
     ∙ ap₂ (λ (kinds : Kinds) (w : Walk). or_else kinds (tail_fault command w)) (walk_quiet command [] word names (All-tail IsPlain word names plain)) end.is
@@ -157,7 +157,7 @@ level_quiet command word names plain =
 pub rows_found : (word : Text) (names : List Text) → All IsPlain (word ∷ names)
     → rows_after (names_rule ∷ []) [] (word ∷ names) ≡ found_names (word ∷ names)
 rows_found word names plain =
-    let end : EndsBehind (word ∷ names) (fold (walked (names_rule ∷ []) []) (behind [] word) names) = ends [] word names (All-tail IsPlain word names plain) in
+    let end : EndsAfter (word ∷ names) (fold (walked (names_rule ∷ []) []) (after_name [] word) names) = ends [] word names (All-tail IsPlain word names plain) in
     ap (λ (w : Walk). finished (names_rule ∷ []) (fold (walked (names_rule ∷ []) []) w names).held) (first_name word (at_first word names plain))
     ∙ ap (λ (w : Walk). finished (names_rule ∷ []) w.held) end.is
     ∙ all_found end.before end.last

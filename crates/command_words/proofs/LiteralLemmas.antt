@@ -1,0 +1,32 @@
+-- The definition of the command line at words that are literals but for the names in them.
+use Rattle.std.proofs.Common.{◌≡◌, ◌==◌, Bool, true, false, [], ◌∷◌, ◌++◌, Some, None, codes, refl}
+use Rattle.clap.specs.Walk.{Text}
+use Rattle.clap.proofs.OnLiterals.{clap_on_literals}
+use Rattle.clap.proofs.SimpleLemmas.{is_false}
+use Rattle.command_words.specs.RequestPlain.{Drill}
+use Rattle.command_words.specs.Commands.{bare_app, drill_app, yaml_app, check_app, lockstep_app}
+use Rattle.command_words.specs.Reading.{is_accepted, command_request, names_in, request_of, is_plain}
+
+pub script_after_equals : (program script : Text) → request_of (program ∷ codes "drill" ∷ (codes "--script=" ++ script) ∷ []) ≡ Some (Drill script)
+unfolding request_of is_accepted command_request names_in lockstep_app bare_app drill_app yaml_app check_app clap_on_literals
+script_after_equals program script = refl
+
+pub script_in_a_word : (program script : Text) → is_plain script ≡ true → request_of (program ∷ codes "drill" ∷ codes "--script" ∷ script ∷ []) ≡ Some (Drill script)
+unfolding request_of is_accepted command_request names_in lockstep_app bare_app drill_app yaml_app check_app clap_on_literals
+script_in_a_word program [] plain = refl
+script_in_a_word program (first ∷ []) plain = by_hyphen (first == 45) refl
+  where
+    by_hyphen : (hyphen : Bool) → (first == 45) ≡ hyphen → request_of (program ∷ codes "drill" ∷ codes "--script" ∷ (first ∷ []) ∷ []) ≡ Some (Drill (first ∷ []))
+    by_hyphen true is = simp is refl
+    by_hyphen false is = simp is refl
+script_in_a_word program (first ∷ second ∷ rest) plain =
+    let other : (first == 45) ≡ false = is_false _ plain in
+    simp other refl
+
+pub no_words : request_of [] ≡ None
+unfolding request_of is_accepted command_request names_in lockstep_app bare_app drill_app yaml_app check_app clap_on_literals
+no_words = refl
+
+pub alone : (program : Text) → request_of (program ∷ []) ≡ None
+unfolding request_of is_accepted command_request names_in lockstep_app bare_app drill_app yaml_app check_app clap_on_literals
+alone program = refl
