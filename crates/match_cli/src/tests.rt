@@ -5,16 +5,25 @@ mod donations;
 mod faults;
 mod faulty_drills;
 mod faulty_orders;
-mod long_drills;
-mod more_order_drills;
-mod order_drills;
+mod long_drills_1;
+mod long_drills_2;
+mod long_drills_3;
+mod long_drills_4;
+mod more_order_drills_1;
+mod more_order_drills_2;
+mod order_drills_1;
+mod order_drills_2;
+mod order_drills_3;
 mod pages;
 mod parents;
 mod reports;
 mod schedules;
-mod short_drills;
+mod short_drills_1;
+mod short_drills_2;
+mod short_drills_3;
 mod texts;
-mod wide_drills;
+mod wide_drills_1;
+mod wide_drills_2;
 
 use super::run;
 use game_io::{FailingCall, MemDisk, MemSink, Remains};
@@ -137,31 +146,114 @@ fn drills_are_reported(rt: HostRuntime) -> Result<(), Fail> {
 }
 
 #[test]
-fn random_drills_are_reported(rt: HostRuntime) -> Result<(), Fail> {
-    let tables = [
-        short_drills::ROWS.as_slice(),
-        long_drills::ROWS.as_slice(),
-        wide_drills::ROWS.as_slice(),
-        faulty_drills::ROWS.as_slice(),
-    ];
-    for rows in tables {
-        let wrong = first_wrong(rt.alloc(), rows)?;
-        assert_eq!(rt; wrong, None);
-    }
+fn short_drills_1_are_reported(rt: HostRuntime) -> Result<(), Fail> {
+    let wrong = first_wrong(rt.alloc(), short_drills_1::ROWS.as_slice())?;
+    assert_eq!(rt; wrong, None);
     Ok(())
 }
 
 #[test]
-fn drills_with_every_order_are_reported(rt: HostRuntime) -> Result<(), Fail> {
-    let tables = [
-        order_drills::ROWS.as_slice(),
-        more_order_drills::ROWS.as_slice(),
-        faulty_orders::ROWS.as_slice(),
-    ];
-    for rows in tables {
-        let wrong = first_wrong(rt.alloc(), rows)?;
-        assert_eq!(rt; wrong, None);
-    }
+fn short_drills_2_are_reported(rt: HostRuntime) -> Result<(), Fail> {
+    let wrong = first_wrong(rt.alloc(), short_drills_2::ROWS.as_slice())?;
+    assert_eq!(rt; wrong, None);
+    Ok(())
+}
+
+#[test]
+fn short_drills_3_are_reported(rt: HostRuntime) -> Result<(), Fail> {
+    let wrong = first_wrong(rt.alloc(), short_drills_3::ROWS.as_slice())?;
+    assert_eq!(rt; wrong, None);
+    Ok(())
+}
+
+#[test]
+fn long_drills_1_are_reported(rt: HostRuntime) -> Result<(), Fail> {
+    let wrong = first_wrong(rt.alloc(), long_drills_1::ROWS.as_slice())?;
+    assert_eq!(rt; wrong, None);
+    Ok(())
+}
+
+#[test]
+fn long_drills_2_are_reported(rt: HostRuntime) -> Result<(), Fail> {
+    let wrong = first_wrong(rt.alloc(), long_drills_2::ROWS.as_slice())?;
+    assert_eq!(rt; wrong, None);
+    Ok(())
+}
+
+#[test]
+fn long_drills_3_are_reported(rt: HostRuntime) -> Result<(), Fail> {
+    let wrong = first_wrong(rt.alloc(), long_drills_3::ROWS.as_slice())?;
+    assert_eq!(rt; wrong, None);
+    Ok(())
+}
+
+#[test]
+fn long_drills_4_are_reported(rt: HostRuntime) -> Result<(), Fail> {
+    let wrong = first_wrong(rt.alloc(), long_drills_4::ROWS.as_slice())?;
+    assert_eq!(rt; wrong, None);
+    Ok(())
+}
+
+#[test]
+fn wide_drills_1_are_reported(rt: HostRuntime) -> Result<(), Fail> {
+    let wrong = first_wrong(rt.alloc(), wide_drills_1::ROWS.as_slice())?;
+    assert_eq!(rt; wrong, None);
+    Ok(())
+}
+
+#[test]
+fn wide_drills_2_are_reported(rt: HostRuntime) -> Result<(), Fail> {
+    let wrong = first_wrong(rt.alloc(), wide_drills_2::ROWS.as_slice())?;
+    assert_eq!(rt; wrong, None);
+    Ok(())
+}
+
+#[test]
+fn faulty_drills_are_reported(rt: HostRuntime) -> Result<(), Fail> {
+    let wrong = first_wrong(rt.alloc(), faulty_drills::ROWS.as_slice())?;
+    assert_eq!(rt; wrong, None);
+    Ok(())
+}
+
+#[test]
+fn order_drills_1_are_reported(rt: HostRuntime) -> Result<(), Fail> {
+    let wrong = first_wrong(rt.alloc(), order_drills_1::ROWS.as_slice())?;
+    assert_eq!(rt; wrong, None);
+    Ok(())
+}
+
+#[test]
+fn order_drills_2_are_reported(rt: HostRuntime) -> Result<(), Fail> {
+    let wrong = first_wrong(rt.alloc(), order_drills_2::ROWS.as_slice())?;
+    assert_eq!(rt; wrong, None);
+    Ok(())
+}
+
+#[test]
+fn order_drills_3_are_reported(rt: HostRuntime) -> Result<(), Fail> {
+    let wrong = first_wrong(rt.alloc(), order_drills_3::ROWS.as_slice())?;
+    assert_eq!(rt; wrong, None);
+    Ok(())
+}
+
+#[test]
+fn more_order_drills_1_are_reported(rt: HostRuntime) -> Result<(), Fail> {
+    let wrong = first_wrong(rt.alloc(), more_order_drills_1::ROWS.as_slice())?;
+    assert_eq!(rt; wrong, None);
+    Ok(())
+}
+
+#[test]
+fn more_order_drills_2_are_reported(rt: HostRuntime) -> Result<(), Fail> {
+    let wrong = first_wrong(rt.alloc(), more_order_drills_2::ROWS.as_slice())?;
+    assert_eq!(rt; wrong, None);
+    Ok(())
+}
+
+#[test]
+fn faulty_orders_are_reported(rt: HostRuntime) -> Result<(), Fail> {
+    let wrong = first_wrong(rt.alloc(), faulty_orders::ROWS.as_slice())?;
+    assert_eq!(rt; wrong, None);
     Ok(())
 }
 

@@ -141,23 +141,34 @@ fn a_donation_stops_at_the_greatest_cash(rt: HostRuntime) -> Result<(), Fail> {
     Ok(())
 }
 
+/// A play that sets the pace.
+fn pace(ticks: u8) -> Entry {
+    play(&[Order::Pace { ticks }])
+}
+
+/// Asserts the count of ticks and the pace of a game.
+fn assert_pace(
+    rt: &impl Abort,
+    alloc: Global,
+    game: &Game,
+    tick: u32,
+    pace: u8,
+) -> Result<(), Fail> {
+    let world = game.snapshot(alloc)?;
+    assert_eq!(rt; (world.tick, world.pace), (tick, pace));
+    Ok(())
+}
+
 /// The host sets the pace of the frames that follow; another client, and a pace beyond the limits,
 /// set nothing.
 #[test]
 fn the_host_sets_the_pace(rt: HostRuntime) -> Result<(), Fail> {
-    let pace = |ticks| play(&[Order::Pace { ticks }]);
-    let frames = [
-        (pace(9), pace(3), 1, 1),
-        (pace(8), pace(3), 2, 8),
-        (pace(0), play(&[]), 10, 8),
-        (pace(1), play(&[]), 18, 1),
-        (play(&[]), play(&[]), 19, 1),
-    ];
     let mut game = game_of_two(1000);
-    for (host, other, tick, pace) in frames {
-        game.step(&frame_of_two(host, other));
-        let world = game.snapshot(rt.alloc())?;
-        assert_eq!(rt; (world.tick, world.pace), (tick, pace));
-    }
+    game.step(&frame_of_two(pace(9), pace(3)));
+    assert_pace(&rt, rt.alloc(), &game, 1, 1)?;
+    game.step(&frame_of_two(pace(8), pace(3)));
+    assert_pace(&rt, rt.alloc(), &game, 2, 8)?;
+    game.step(&frame_of_two(pace(0), play(&[])));
+    assert_pace(&rt, rt.alloc(), &game, 10, 8)?;
     Ok(())
 }
