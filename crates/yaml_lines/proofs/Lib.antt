@@ -12,3 +12,4 @@ pub mod EscapeLaws
 pub mod ReadAgain
 pub mod ForestSteps
 pub mod LinesReadable
+pub mod LimitSteps

@@ -7,4 +7,5 @@ pub mod Trees
 pub mod Grown
 pub mod Printed
 pub mod Readable
+pub mod Limits
 pub mod Built

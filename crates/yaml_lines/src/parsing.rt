@@ -5,7 +5,9 @@ ghost use Rattle.yaml_lines.specs.Grown.{flat_grown, height};
 ghost use Rattle.base.specs.Lines.{lines_of};
 ghost use Rattle.yaml_lines.specs.Kept.{kept_of, kept_lines, line_fault, allowed_after};
 ghost use Rattle.yaml_lines.specs.Kept.{first_line_fault, IsLineFault};
+ghost use Rattle.yaml_lines.specs.Limits.{nodes_in, IsLowForest};
 ghost use Rattle.yaml_lines.specs.Readable.{AllReadable};
+ghost use Rattle.yaml_lines.specs.declared.TheConstants.{MAX_LINES};
 ghost use Rattle.yaml_lines.specs.Reading.{words_of};
 ghost use Rattle.yaml_lines.specs.Trees.{trees_of, flat};
 
@@ -50,7 +52,8 @@ fn add_line(alloc: Global, grown: &mut Growing, place: Place, line: &[u8]) -> Re
 }
 
 /// Reads a file: its kept lines as a forest, or its first line fault. `file` is the file's number,
-/// which each place has; its lines are numbered from 1.
+/// which each place has; its lines are numbered from 1. The forest has at most `MAX_LINES` nodes,
+/// and none below level `MAX_LEVELS - 1`.
 ///
 /// The fault is that of the earliest line that has one. In one line the order is: `TooManyLines`,
 /// `NotUtf8`, `LineTooLong`, each also where the line isn't kept, then `BadIndent` and `TooDeep`.
@@ -60,6 +63,8 @@ pub fn parse(alloc: Global, file: u16, bytes: &[u8]) -> Result<Forest, LineFault
     ensures done { IfOk result (λ forest. parsed file bytes.now ≡ Ok (trees_of forest)) }
     ensures reads { IfOk result (λ forest. flat 0 (trees_of forest) ≡ kept_lines file bytes.now) }
     ensures readable { IfOk result (λ forest. AllReadable (flat 0 (trees_of forest))) }
+    ensures nodes { IfOk result (λ forest. nodes_in forest ≤ MAX_LINES) }
+    ensures low { IfOk result IsLowForest }
     ensures fault { IfErr result (λ fault. IsLineFault fault (first_line_fault file bytes.now)) }
 {
     let mut grown = grow::start(alloc);

@@ -2,6 +2,7 @@ use Rattle.std.proofs.Common.{arith}
 use Rattle.yaml_lines.proofs.ParseSteps.{line_within, kept_step, fault_step}
 use Rattle.yaml_lines.proofs.ForestSteps.{parsed-end}
 use Rattle.yaml_lines.proofs.LinesReadable.{nodes_readable}
+use Rattle.yaml_lines.proofs.LimitSteps.{limits-end, nodes_low, nodes_few}
 use Rattle.yaml_lines.proofs.parsing.parse.Goals as goal
 
 pub loop-text-preserved : goal.loop-text-preserved
@@ -22,3 +23,13 @@ returns-clause-readable c =
 pub returns-clause-done : goal.returns-clause-done
 returns-clause-done c =
     parsed-end c.args.file c.loop-text.line _ c.args.bytes.now c.loop-text.rest.now _ _ c.in_default.ensures (c.in_ok-forest.ensures {u = tt}) c.loop-text.invariant.kept c.loop-text.invariant.fault
+
+pub returns-clause-nodes : goal.returns-clause-nodes
+returns-clause-nodes c =
+    let e = limits-end c.args.file c.loop-text.line _ c.args.bytes.now c.loop-text.rest.now _ _ c.in_default.ensures (c.in_ok-forest.ensures {u = tt}) c.loop-text.invariant.kept c.loop-text.invariant.fault in
+    nodes_few c.args.file c.args.bytes.now _ e.0 e.1
+
+pub returns-clause-low : goal.returns-clause-low
+returns-clause-low c =
+    let e = limits-end c.args.file c.loop-text.line _ c.args.bytes.now c.loop-text.rest.now _ _ c.in_default.ensures (c.in_ok-forest.ensures {u = tt}) c.loop-text.invariant.kept c.loop-text.invariant.fault in
+    nodes_low c.args.file c.args.bytes.now _ e.0 e.1
