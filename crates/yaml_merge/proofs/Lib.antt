@@ -13,3 +13,6 @@ pub mod RemoveSteps
 pub mod FileSteps
 pub mod ReadableSteps
 pub mod SettledSteps
+pub mod LawSteps
+pub mod StaysSteps
+pub mod LimitSteps

@@ -26,40 +26,40 @@ use Rattle.yaml_merge.specs.Settled.{IsSettled, IsSettledTop, IsSettledForest, I
 use Rattle.yaml_merge.proofs.LevelSteps.{bytes_flip}
 
 -- What holds of both sides of a choice.
-either : {A : Type 0} (P : A → Type 0) (test : Bool) (x y : A) → P x → P y → P (cond test x y)
+pub either : {A : Type 0} (P : A → Type 0) (test : Bool) (x y : A) → P x → P y → P (cond test x y)
 either P true x y f g = f
 either P false x y f g = g
 
 -- What holds of each side where it is taken.
-chosen : {A : Type 0} (P : A → Type 0) (test : Bool) (x y : A) → (test ≡ true → P x) → (test ≡ false → P y) → P (cond test x y)
+pub chosen : {A : Type 0} (P : A → Type 0) (test : Bool) (x y : A) → (test ≡ true → P x) → (test ≡ false → P y) → P (cond test x y)
 chosen P test x y f g = elim (cases_Bool test) [
   | inl t ↦ subst P (sym (cond-true test x y t)) (f t)
   | inr t ↦ subst P (sym (cond-false test x y t)) (g t)
 ]
 
 -- What holds after a step and what follows it.
-followed : (P Q : Trees → Type 0) (outcome : Outcome) (next : Trees → Outcome) → IfOk outcome P → ((trees : Trees) → P trees → IfOk (next trees) Q) →
+pub followed : (P Q : Trees → Type 0) (outcome : Outcome) (next : Trees → Outcome) → IfOk outcome P → ((trees : Trees) → P trees → IfOk (next trees) Q) →
     IfOk (outcome >>= next) Q
 followed P Q (Ok trees) next h n = n trees h
 followed P Q (Err fault) next h n = tt
 
-within_kept : (P : Trees → Type 0) (limit : ℕ) (place : Place) (list : Trees) → P list → IfOk (within limit place list) P
+pub within_kept : (P : Trees → Type 0) (limit : ℕ) (place : Place) (list : Trees) → P list → IfOk (within limit place list) P
 unfolding within
 within_kept P limit place list h = either (λ (o : Outcome). IfOk o P) (ltb limit (count list)) (Err (TooLarge place)) (Ok list) tt h
 
-removed_kept : (P : Trees → Type 0) (place : Place) (left : Option Trees) → IfSome left P → IfOk (removed place left) P
+pub removed_kept : (P : Trees → Type 0) (place : Place) (left : Option Trees) → IfSome left P → IfOk (removed place left) P
 removed_kept P place None h = tt
 removed_kept P place (Some list) h = h
 
 -- A key that a list lacks.
-lacks_joined : (q key value : List ℕ) (place : Place) (below : Trees → Trees) (list : Trees) → bytes_eq key q ≡ false → Lacks q list →
+pub lacks_joined : (q key value : List ℕ) (place : Place) (below : Trees → Trees) (list : Trees) → bytes_eq key q ≡ false → Lacks q list →
     Lacks q (joined key value place below list)
 lacks_joined q key value place below none n h = (n, tt)
 lacks_joined q key value place below (more first old last children rest) n h =
     either (Lacks q) (bytes_eq first key) (more first (newer_value old value) place (below children) rest)
     (more first old last children (joined key value place below rest)) h (h.0, lacks_joined q key value place below rest n h.1)
 
-lacks_added : (q key value : List ℕ) (place : Place) (children list : Trees) → bytes_eq key q ≡ false → Lacks q list → Lacks q (added key value place children list)
+pub lacks_added : (q key value : List ℕ) (place : Place) (children list : Trees) → bytes_eq key q ≡ false → Lacks q list → Lacks q (added key value place children list)
 lacks_added q key value place children none n h = (n, tt)
 lacks_added q key value place children (more first old last others rest) n h = (h.0, lacks_added q key value place children rest n h.1)
 
@@ -68,14 +68,14 @@ lacks_behind : (q key value : List ℕ) (place : Place) (children : Trees) (left
 lacks_behind q key value place children None n h = tt
 lacks_behind q key value place children (Some rest) n h = (n, h)
 
-lacks_without : (q key : List ℕ) (list : Trees) → Lacks q list → IfSome (without key list) (Lacks q)
+pub lacks_without : (q key : List ℕ) (list : Trees) → Lacks q list → IfSome (without key list) (Lacks q)
 lacks_without q key none h = tt
 lacks_without q key (more first value place children rest) h =
     either (λ (left : Option Trees). IfSome left (Lacks q)) (bytes_eq first key) (Some rest) (behind first value place children (without key rest)) h.1
     (lacks_behind q first value place children (without key rest) h.0 (lacks_without q key rest h.1))
 
 -- Lists below the top level.
-joined_settled : (key value : List ℕ) (place : Place) (below : Trees → Trees) (list : Trees) → inherits key ≡ false → removes key ≡ false →
+pub joined_settled : (key value : List ℕ) (place : Place) (below : Trees → Trees) (list : Trees) → inherits key ≡ false → removes key ≡ false →
     ((trees : Trees) → IsSettled trees → IsSettled (below trees)) → IsSettled list → IsSettled (joined key value place below list)
 joined_settled key value place below none i r b h = (tt, i, r, b none tt, tt)
 joined_settled key value place below (more first old last children rest) i r b (l, fi, fr, c, s) =
@@ -105,7 +105,7 @@ without_settled key (more first value place children rest) (l, i, r, c, s) =
     either (λ (left : Option Trees). IfSome left IsSettled) (bytes_eq first key) (Some rest) (behind first value place children (without key rest)) s
     (behind_settled first value place children (without key rest) (lacks_without first key rest l) i r c (without_settled key rest s))
 
-abbrev IfSettled : Outcome → Type 0
+abbrev pub IfSettled : Outcome → Type 0
 IfSettled outcome = IfOk outcome IsSettled
 
 inherited_settled : (room : ℕ) (place : Place) (list parent : Trees) → IsSettled list → IsSettled parent → IfSettled (inherited room place list parent)
@@ -122,7 +122,7 @@ inherit_step_settled free room place name path parents list (Some children) p h 
     (either IfSettled (eqb free 0) (Err (TooDeep place)) taken tt
     (followed IsSettled IsSettled (parents children) (inherited room place list) (p children) (λ trees t. inherited_settled room place list trees h t)))
 
-node_step_settled : (free room : ℕ) (tops : Trees) (path : List (List ℕ)) (key value : List ℕ) (place : Place) (parents below : Trees → Outcome) (list : Trees) →
+pub node_step_settled : (free room : ℕ) (tops : Trees) (path : List (List ℕ)) (key value : List ℕ) (place : Place) (parents below : Trees → Outcome) (list : Trees) →
     ((trees : Trees) → IfSettled (parents trees)) → ((trees : Trees) → IsSettled trees → IfSettled (below trees)) → IsSettled list →
     IfSettled (node_step free room tops path key value place parents below list)
 unfolding node_step
@@ -137,7 +137,7 @@ node_step_settled free room tops path key value place parents below list p b h =
     (λ r. followed IsSettled IsSettled (below (children_at key list)) add (b (children_at key list) (children_at_settled key list h))
     (λ children c. joined_settled key value place (λ _. children) list i r (λ _ _. c) h)))
 
-resolved_list_settled : (free : ℕ) (list : Trees) (room : ℕ) (tops : Trees) (path : List (List ℕ)) (start : Trees) → IsSettled start →
+pub resolved_list_settled : (free : ℕ) (list : Trees) (room : ℕ) (tops : Trees) (path : List (List ℕ)) (start : Trees) → IsSettled start →
     IfSettled (resolved_list free list room tops path start)
 unfolding resolved_list
 resolved_list_settled free none room tops path start h = h
@@ -174,11 +174,11 @@ merged_files_once [] list h = h
 merged_files_once (file ∷ files) list h = merged_files_once files (merged_into file list) (merged_into_once file list h)
 
 -- The top level: what is made so far has none of the keys that are left.
-abbrev IsApart : (made left : Trees) → Type 0
+abbrev pub IsApart : (made left : Trees) → Type 0
 IsApart made none = Unit {0}
 IsApart made (more key value place children rest) = Lacks key made × IsApart made rest
 
-none_apart : (left : Trees) → IsApart none left
+pub none_apart : (left : Trees) → IsApart none left
 none_apart none = tt
 none_apart (more key value place children rest) = (tt, none_apart rest)
 
@@ -193,7 +193,7 @@ added_top key value place children none l r c h = (tt, r, c, tt)
 added_top key value place children (more first old last others rest) l r c (fl, fr, fc, s) =
     (lacks_added first key value place children rest (bytes_flip key first ∙ l.0) fl, fr, fc, added_top key value place children rest l.1 r c s)
 
-resolved_tops_settled : (left tops made : Trees) → IsOnce left → IsApart made left → IsSettledTop made → IfOk (resolved_tops left tops made) IsSettledTop
+pub resolved_tops_settled : (left tops made : Trees) → IsOnce left → IsApart made left → IsSettledTop made → IfOk (resolved_tops left tops made) IsSettledTop
 resolved_tops_settled none tops made o a h = h
 resolved_tops_settled (more key value place children rest) tops made o a h =
     let Next : Trees → Type 0 = λ next. IsSettledTop next × IsApart next rest in
@@ -225,7 +225,7 @@ removed_tops_settled (more key value place children rest) made h =
     (removed_kept IsSettledTop place (without (drop 1 key) made) (without_top (drop 1 key) made h)) (λ next n. removed_tops_settled rest next n))
     (removed_tops_settled rest made h)
 
-resolved_files_settled : (files : List Trees) → IfOk (resolved_files files) IsSettledTop
+pub resolved_files_settled : (files : List Trees) → IfOk (resolved_files files) IsSettledTop
 unfolding resolved_files
 resolved_files_settled files =
     let tops = merged_files files none in

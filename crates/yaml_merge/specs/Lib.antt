@@ -2,6 +2,7 @@ pub mod Fault
 pub mod Merging
 pub mod Resolving
 pub mod Settled
+pub mod Laws
 pub mod Nodes
 pub mod Codes
 pub mod Levels

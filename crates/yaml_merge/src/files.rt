@@ -1,6 +1,7 @@
-ghost use Rattle.std.specs.Prelude.{◌≡◌, ◌<◌, map, length, set, All, IfOk, IfErr, IsSome, OnOk};
+ghost use Rattle.std.specs.Prelude.{◌≡◌, ◌<◌, ◌≤◌, map, length, set, All, IfOk, IfErr, IsSome, OnOk};
 ghost use Rattle.std.specs.Prelude.{None, Some, Ok};
 ghost use Rattle.base.specs.Steps.{IsFault};
+ghost use Rattle.yaml_lines.specs.Limits.{nodes_in, IsLowForest};
 ghost use Rattle.yaml_lines.specs.Readable.{IsReadableForest};
 ghost use Rattle.yaml_lines.specs.Trees.{none, more, trees_of, before};
 ghost use Rattle.yaml_lines.specs.declared.forest.Forest.TheViews.{out-Node};
@@ -10,6 +11,7 @@ ghost use Rattle.yaml_merge.specs.Resolving.{resolved_tops, removed_tops, resolv
 ghost use Rattle.yaml_merge.specs.Kept.{AreKept, AreKeptBefore, slot};
 ghost use Rattle.yaml_merge.specs.Levels.{width};
 ghost use Rattle.yaml_merge.specs.Settled.{IsOnce, IsSettledForest};
+ghost use Rattle.yaml_merge.specs.declared.TheConstants.{MAX_FOREST_NODES};
 
 use crate::MAX_FOREST_NODES;
 use crate::fault::MergeFault;
@@ -162,7 +164,8 @@ fn merge_files(alloc: Global, files: &[Forest]) -> Result<Level, NoMemory>
 ///
 /// In each list of the answer a key stands once, and nothing is left to resolve: no node is a
 /// removal, and none below the top level is an `Inherits`. Where lines can give the nodes of all
-/// files, they can give those of the answer.
+/// files, they can give those of the answer. It has at most `MAX_FOREST_NODES` nodes, and where all
+/// files have at most `MAX_LEVELS` levels, so has it.
 ///
 /// The fault is the first in the order of resolving: the top-level nodes that are no removals, in
 /// order, each with the nodes below it in order, and then the removals at the top level. At an
@@ -177,6 +180,8 @@ pub fn resolve(alloc: Global, files: &[Forest]) -> Result<Forest, MergeFault>
     ensures done { IfOk result (λ forest. resolved_files (map trees_of files.now) ≡ Ok (trees_of forest)) }
     ensures settled { IfOk result IsSettledForest }
     ensures readable { All IsReadableForest files.now → IfOk result IsReadableForest }
+    ensures nodes { IfOk result (λ forest. nodes_in forest ≤ MAX_FOREST_NODES) }
+    ensures low { All IsLowForest files.now → IfOk result IsLowForest }
     ensures fault { IfErr result (λ fault. IsFault NoMemory fault (resolved_files (map trees_of files.now))) }
 {
     let list = merge_files(alloc, files)?;

@@ -9,6 +9,7 @@
 mod fault;
 mod files;
 mod keeping;
+mod laws;
 mod level;
 mod merging;
 mod removing;
@@ -23,6 +24,7 @@ mod walked;
 
 pub use fault::MergeFault;
 pub use files::resolve;
+pub use laws::{plain_is_merged, removals_remove, settled_stays, values_win};
 
 /// The most names of a path of parents, the top-level node's own name among them.
 pub const MAX_PATH: usize = 64;

@@ -2,6 +2,7 @@ use Rattle.std.proofs.Common.{rules, map, sym, ◌∙◌, subst}
 use Rattle.yaml_lines.specs.Trees.{none, trees_of}
 use Rattle.yaml_merge.specs.Settled.{IsOnce}
 use Rattle.yaml_merge.specs.Resolving.{resolved_files}
+use Rattle.yaml_merge.proofs.LimitSteps.{resolve_few, resolve_low}
 use Rattle.yaml_merge.proofs.ReadableSteps.{resolve_readable}
 use Rattle.yaml_merge.proofs.SettledSteps.{resolve_settled, merged_files_once}
 use Rattle.yaml_merge.proofs.files.resolve.Goals as goal
@@ -15,6 +16,12 @@ returns-clause-settled c = resolve_settled c.args.files.now _ (returns-clause-do
 
 pub returns-clause-readable : goal.returns-clause-readable
 returns-clause-readable c = resolve_readable c.args.files.now _ (returns-clause-done c)
+
+pub returns-clause-nodes : goal.returns-clause-nodes
+returns-clause-nodes c = resolve_few c.args.files.now _ (returns-clause-done c)
+
+pub returns-clause-low : goal.returns-clause-low
+returns-clause-low c = resolve_low c.args.files.now _ (returns-clause-done c)
 
 pub resolve_tops-requires : goal.resolve_tops-requires
 resolve_tops-requires c =
