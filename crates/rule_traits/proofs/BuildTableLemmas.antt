@@ -15,8 +15,9 @@ use Rattle.std.specs.List.{list_any, slice_get}
 use Rattle.std.specs.Option.{option_map}
 use Rattle.std.specs.Str.{bytes_eq}
 use Rattle.rule_traits.specs.declared.kind.Kind.{Kind}
-use Rattle.rule_traits.specs.BuildTable.{bit_of, bit_at, bit_in, table_at, one_user, users_of_queue, users_or_none}
-use Rattle.rule_traits.specs.BuildTable.{users_from, marked, marked_by, width_of, row_of, IsTableOf}
+use Rattle.rule_traits.specs.BuildTable.{bit_of, bit_at, bit_in, table_at, users_or_none, is_number}
+use Rattle.rule_traits.specs.BuildTable.{ends_in, with_user, with_queue, with_queues, with_kinds}
+use Rattle.rule_traits.specs.BuildTable.{marked, marked_by, width_of, row_of, IsTableOf}
 use Rattle.rule_traits.specs.Rules.{builds_between, can_build, kind_at}
 use Rattle.rule_traits.specs.Rules.{produces_of, queue_of}
 
@@ -30,39 +31,36 @@ users_taken false held = refl
 -- A kind that is added to those of a name.
 pub user_added :
     (before : List ℕ → List ℕ) (queue name : List ℕ) (number : ℕ) (left : Option (List ℕ)) (added : List ℕ) (test : Bool) →
-    bytes_eq queue name ≡ test → added ≡ before queue ++ number ∷ [] →
+    bytes_eq queue name ≡ test → added ≡ with_user number (before queue) →
     users_or_none left ≡ cond (bytes_eq queue name) [] (before name) →
-    users_or_none (cond test (Some added) left) ≡ before name ++ cond test (number ∷ []) []
+    users_or_none (cond test (Some added) left) ≡ cond test (with_user number (before name)) (before name)
 user_added before queue name number left added true e a l =
-    a ∙ ap (λ q. before q ++ number ∷ []) ((bytes_eq-Decides queue name).0 e)
-user_added before queue name number left added false e a l =
-    l ∙ ap (λ t. cond t [] (before name)) e ∙ sym (append-nil (before name))
+    a ∙ ap (λ q. with_user number (before q)) ((bytes_eq-Decides queue name).0 e)
+user_added before queue name number left added false e a l = l ∙ ap (λ t. cond t [] (before name)) e
 
 -- The queues of a kind, one after the other.
 pub queue_next :
     (number : ℕ) (queues : List (List ℕ)) (at : ℕ) (queue name : List ℕ) (old now next : List ℕ) → at < length queues →
-    queue ≡ get_or queues at queue → next ≡ now ++ one_user queue number name →
-    now ++ users_of_queue number (drop at queues) name ≡ old →
-    next ++ users_of_queue number (drop (at + 1) queues) name ≡ old
+    queue ≡ get_or queues at queue → next ≡ with_queue number queue name now →
+    with_queues number (drop at queues) name now ≡ old →
+    with_queues number (drop (at + 1) queues) name next ≡ old
 queue_next number queues at queue name old now next h q n e =
-    let rest = users_of_queue number (drop (at + 1) queues) name in
-    ap (λ l. l ++ rest) n
-    ∙ append_assoc now (one_user queue number name) rest
-    ∙ ap (λ x. now ++ (one_user x number name ++ rest)) q
-    ∙ ap (λ l. now ++ users_of_queue number l name) (sym (drop_more queues at queue h))
+    let rest = λ (users : List ℕ). with_queues number (drop (at + 1) queues) name users in
+    ap rest n
+    ∙ ap (λ x. rest (with_queue number x name now)) q
+    ∙ ap (λ l. with_queues number l name now) (sym (drop_more queues at queue h))
     ∙ e
 
 pub users_next :
     (kinds : List Kind) (at : ℕ) (kind : Kind) (name : List ℕ) (all now next : List ℕ) → at < length kinds →
-    kind ≡ get_or kinds at kind → next ≡ now ++ users_of_queue at (queue_of kind) name →
-    now ++ users_from at (drop at kinds) name ≡ all →
-    next ++ users_from (at + 1) (drop (at + 1) kinds) name ≡ all
+    kind ≡ get_or kinds at kind → next ≡ with_queues at (queue_of kind) name now →
+    with_kinds at (drop at kinds) name now ≡ all →
+    with_kinds (at + 1) (drop (at + 1) kinds) name next ≡ all
 users_next kinds at kind name all now next h k n e =
-    let rest = users_from (at + 1) (drop (at + 1) kinds) name in
-    ap (λ l. l ++ rest) n
-    ∙ append_assoc now (users_of_queue at (queue_of kind) name) rest
-    ∙ ap (λ x. now ++ (users_of_queue at (queue_of x) name ++ rest)) k
-    ∙ ap (λ l. now ++ users_from at l name) (sym (drop_more kinds at kind h))
+    let rest = λ (users : List ℕ). with_kinds (at + 1) (drop (at + 1) kinds) name users in
+    ap rest n
+    ∙ ap (λ x. rest (with_queues at (queue_of x) name now)) k
+    ∙ ap (λ l. with_kinds at l name now) (sym (drop_more kinds at kind h))
     ∙ e
 
 -- Small laws of tests.
@@ -188,67 +186,87 @@ and_false : (a : Bool) → false ≡ (a && false)
 and_false true = refl
 and_false false = refl
 
-queue_step :
-    (same test later : Bool) (number product : ℕ) → (number == product) ≡ same →
-    (list_any (λ u. u == product) (cond test (number ∷ []) []) || (same && later)) ≡ (same && (test || later))
-queue_step true true later number product e = ap (λ b. (b || false) || later) e
-queue_step true false later number product e = refl
-queue_step false true later number product e = ap (λ b. (b || false) || false) e
-queue_step false false later number product e = refl
+or_and : (a s : Bool) → a ≡ (a || (s && false))
+or_and a s = or_false a ∙ ap (λ b. a || b) (and_false s)
 
-any_queue :
-    (number product : ℕ) (queues : List (List ℕ)) (name : List ℕ) →
-    list_any (λ u. u == product) (users_of_queue number queues name)
-    ≡ ((number == product) && list_any (λ queue. bytes_eq queue name) queues)
-any_queue number product [] name = and_false (number == product)
-any_queue number product (queue ∷ queues) name =
-    list_any-append (λ u. u == product) (one_user queue number name) (users_of_queue number queues name)
-    ∙ ap (λ b. list_any (λ u. u == product) (one_user queue number name) || b) (any_queue number product queues name)
-    ∙ queue_step (number == product) (bytes_eq queue name) (list_any (λ queue. bytes_eq queue name) queues) number product refl
+or_both : (a s t l : Bool) → ((a || (s && t)) || (s && l)) ≡ (a || (s && (t || l)))
+or_both true s t l = refl
+or_both false true t l = refl
+or_both false false t l = refl
+
+got_any : (users : List ℕ) (at number : ℕ) → is_number number (slice_get users at) ≡ true → list_any (λ u. u == number) users ≡ true
+got_any [] at number h = absurd (cc)
+got_any (user ∷ users) zero number h = ap (λ b. b || list_any (λ u. u == number) users) h
+got_any (user ∷ users) (suc at) number h = ap (λ b. (user == number) || b) (got_any users at number h) ∙ sym (or_true (user == number))
+
+user_any :
+    (number product : ℕ) (users : List ℕ) (ends same : Bool) → ends_in number users ≡ ends → (number == product) ≡ same →
+    list_any (λ u. u == product) (cond ends users (users ++ number ∷ [])) ≡ (list_any (λ u. u == product) users || same)
+user_any number product users true true e s =
+    let is : number ≡ product = grind (arith, nat_tests) in
+    ap (λ p. list_any (λ u. u == p) users) (sym is)
+    ∙ got_any users (length users - 1) number e
+    ∙ or_true (list_any (λ u. u == product) users)
+user_any number product users true false e s = or_false (list_any (λ u. u == product) users)
+user_any number product users false same e s =
+    list_any-append (λ u. u == product) users (number ∷ [])
+    ∙ ap (λ b. list_any (λ u. u == product) users || (b || false)) s
+    ∙ ap (λ b. list_any (λ u. u == product) users || b) (sym (or_false same))
+
+queue_any :
+    (number product : ℕ) (users : List ℕ) (same test : Bool) → (number == product) ≡ same →
+    list_any (λ u. u == product) (cond test (with_user number users) users) ≡ (list_any (λ u. u == product) users || (same && test))
+queue_any number product users true true s = user_any number product users (ends_in number users) true refl s
+queue_any number product users false true s = user_any number product users (ends_in number users) false refl s
+queue_any number product users same false s = or_and (list_any (λ u. u == product) users) same
+
+any_queues :
+    (number product : ℕ) (queues : List (List ℕ)) (name users : List ℕ) →
+    list_any (λ u. u == product) (with_queues number queues name users)
+    ≡ (list_any (λ u. u == product) users || ((number == product) && list_any (λ queue. bytes_eq queue name) queues))
+any_queues number product [] name users = or_and (list_any (λ u. u == product) users) (number == product)
+any_queues number product (queue ∷ queues) name users =
+    let later = (number == product) && list_any (λ queue. bytes_eq queue name) queues in
+    any_queues number product queues name (with_queue number queue name users)
+    ∙ ap (λ b. b || later) (queue_any number product users (number == product) (bytes_eq queue name) refl)
+    ∙ or_both (list_any (λ u. u == product) users) (number == product) (bytes_eq queue name) (list_any (λ queue. bytes_eq queue name) queues)
 
 none_before :
-    (number product : ℕ) (kinds : List Kind) (name : List ℕ) → product < number →
-    list_any (λ u. u == product) (users_from number kinds name) ≡ false
-none_before number product [] name h = refl
-none_before number product (kind ∷ rest) name h =
+    (number product : ℕ) (kinds : List Kind) (name users : List ℕ) → product < number →
+    list_any (λ u. u == product) (with_kinds number kinds name users) ≡ list_any (λ u. u == product) users
+none_before number product [] name users h = refl
+none_before number product (kind ∷ rest) name users h =
     let other : (number == product) ≡ false = grind (arith, nat_tests) in
-    list_any-append (λ u. u == product) (users_of_queue number (queue_of kind) name) (users_from (number + 1) rest name)
-    ∙ ap₂ (λ a b. a || b)
-    (any_queue number product (queue_of kind) name
-    ∙ ap (λ b. b && list_any (λ queue. bytes_eq queue name) (queue_of kind)) other)
-    (none_before (number + 1) product rest name (omega arith))
+    none_before (number + 1) product rest name (with_queues number (queue_of kind) name users) (omega arith)
+    ∙ any_queues number product (queue_of kind) name users
+    ∙ ap (λ b. list_any (λ u. u == product) users || (b && list_any (λ queue. bytes_eq queue name) (queue_of kind))) other
+    ∙ sym (or_false (list_any (λ u. u == product) users))
 
 abbrev has_queue : Option Kind → List ℕ → Bool
 has_queue None name = false
 has_queue (Some kind) name = list_any (λ queue. bytes_eq queue name) (queue_of kind)
 
 any_users :
-    (number at : ℕ) (kinds : List Kind) (name : List ℕ) →
-    list_any (λ u. u == number + at) (users_from number kinds name) ≡ has_queue (slice_get kinds at) name
-any_users number at [] name = refl
-any_users number zero (kind ∷ rest) name =
-    let here : (number == number + 0) ≡ true = grind (arith, nat_tests) in
-    list_any-append (λ u. u == number + 0) (users_of_queue number (queue_of kind) name) (users_from (number + 1) rest name)
-    ∙ ap₂ (λ a b. a || b)
-    (any_queue number (number + 0) (queue_of kind) name
-    ∙ ap (λ b. b && list_any (λ queue. bytes_eq queue name) (queue_of kind)) here)
-    (none_before (number + 1) (number + 0) rest name (omega arith))
-    ∙ sym (or_false (list_any (λ queue. bytes_eq queue name) (queue_of kind)))
-any_users number (suc at) (kind ∷ rest) name =
-    let other : (number == number + suc at) ≡ false = grind (arith, nat_tests) in
-    let next : number + suc at ≡ (number + 1) + at = omega arith in
-    list_any-append (λ u. u == number + suc at) (users_of_queue number (queue_of kind) name) (users_from (number + 1) rest name)
-    ∙ ap₂ (λ a b. a || b)
-    (any_queue number (number + suc at) (queue_of kind) name
-    ∙ ap (λ b. b && list_any (λ queue. bytes_eq queue name) (queue_of kind)) other)
-    (ap (λ n. list_any (λ u. u == n) (users_from (number + 1) rest name)) next ∙ any_users (number + 1) at rest name)
+    (number at product : ℕ) (kinds : List Kind) (name users : List ℕ) → product ≡ number + at →
+    list_any (λ u. u == product) (with_kinds number kinds name users) ≡ (list_any (λ u. u == product) users || has_queue (slice_get kinds at) name)
+any_users number at product [] name users e = or_false (list_any (λ u. u == product) users)
+any_users number zero product (kind ∷ rest) name users e =
+    let here : (number == product) ≡ true = grind (arith, nat_tests) in
+    none_before (number + 1) product rest name (with_queues number (queue_of kind) name users) (omega arith)
+    ∙ any_queues number product (queue_of kind) name users
+    ∙ ap (λ b. list_any (λ u. u == product) users || (b && list_any (λ queue. bytes_eq queue name) (queue_of kind))) here
+any_users number (suc at) product (kind ∷ rest) name users e =
+    let other : (number == product) ≡ false = grind (arith, nat_tests) in
+    let found = has_queue (slice_get rest at) name in
+    any_users (number + 1) at product rest name (with_queues number (queue_of kind) name users) (omega arith)
+    ∙ ap (λ b. b || found) (any_queues number product (queue_of kind) name users)
+    ∙ ap (λ b. (list_any (λ u. u == product) users || (b && list_any (λ queue. bytes_eq queue name) (queue_of kind))) || found) other
+    ∙ ap (λ b. b || found) (sym (or_false (list_any (λ u. u == product) users)))
 
 any_user :
     (product : ℕ) (kinds : List Kind) (name : List ℕ) →
-    list_any (λ u. u == product) (users_from 0 kinds name) ≡ has_queue (slice_get kinds product) name
-any_user product kinds name =
-    let same : product ≡ 0 + product = omega arith in
-    ap (λ n. list_any (λ u. u == n) (users_from 0 kinds name)) same ∙ any_users 0 product kinds name
+    list_any (λ u. u == product) (with_kinds 0 kinds name []) ≡ has_queue (slice_get kinds product) name
+any_user product kinds name = any_users 0 product product kinds name [] (omega arith)
 
 -- The bit of a pair.
 bit_is : (row : List Bool) (at : ℕ) → bit_at row at ≡ get_or row at false
@@ -265,7 +283,7 @@ none_is_past (x ∷ xs) zero e = absurd (cc)
 none_is_past (x ∷ xs) (suc at) e = let later = none_is_past xs at e in omega arith
 
 pair_right :
-    (rules : List Kind) (users : List ℕ → List ℕ) → ((name : List ℕ) → users name ≡ users_from 0 rules name) →
+    (rules : List Kind) (users : List ℕ → List ℕ) → ((name : List ℕ) → users name ≡ with_kinds 0 rules name []) →
     (builder : Kind) (at : ℕ) (product : Option Kind) → slice_get rules at ≡ product →
     bit_at (row_of users (length rules) builder) at ≡ builds_between (Some builder) product
 unfolding can_build
@@ -284,7 +302,7 @@ pair_right rules users are builder at (Some product) e =
     ∙ exchange in_queue names (queue_of product)
 
 table_step :
-    (rules : List Kind) (users : List ℕ → List ℕ) → ((name : List ℕ) → users name ≡ users_from 0 rules name) →
+    (rules : List Kind) (users : List ℕ → List ℕ) → ((name : List ℕ) → users name ≡ with_kinds 0 rules name []) →
     (builder : Option Kind) (at : ℕ) →
     bit_in (option_map (row_of users (length rules)) builder) at ≡ builds_between builder (kind_at rules at)
 table_step rules users are None at = refl
@@ -293,7 +311,7 @@ table_step rules users are (Some builder) at = pair_right rules users are builde
 -- The rows of all kinds are the table.
 pub rows_are_table :
     (rules : List Kind) (users : List ℕ → List ℕ) (rows : List (List Bool)) →
-    ((name : List ℕ) → users name ≡ users_from 0 rules name) → rows ≡ map (row_of users (length rules)) rules →
+    ((name : List ℕ) → users name ≡ with_kinds 0 rules name []) → rows ≡ map (row_of users (length rules)) rules →
     IsTableOf rules rows
 rows_are_table rules users rows are is builder product =
     ap (λ rows. table_at rows builder product) is
@@ -309,11 +327,7 @@ take_past (x ∷ xs) (suc at) h = ap (λ l. x ∷ l) (take_past xs at (omega ari
 -- The same where the loop over the kinds has ended.
 pub rows_done :
     (rules : List Kind) (users : List ℕ → List ℕ) (rows : List (List Bool)) (at : ℕ) → length rules ≤ at →
-    ((name : List ℕ) → users name ≡ users_from 0 rules name) →
+    ((name : List ℕ) → users name ≡ with_kinds 0 rules name []) →
     rows ≡ map (row_of users (length rules)) (take at rules) → IsTableOf rules rows
 rows_done rules users rows at past are is =
     rows_are_table rules users rows are (is ∙ ap (map (row_of users (length rules))) (take_past rules at past))
-
-pub ruleset queue_steps = (queue_next, append-nil)
-
-pub ruleset user_steps = (users_next, append-nil)

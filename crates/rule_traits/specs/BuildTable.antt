@@ -1,6 +1,6 @@
 -- The table of which kinds build which, and how it is made from the names of queues.
 use Rattle.std.specs.Prelude.{◌≡◌, ℕ, ◌+◌, Bool, true, false, List, [], ◌∷◌, ◌++◌}
-use Rattle.std.specs.Prelude.{slice_get}
+use Rattle.std.specs.Prelude.{◌-◌, ◌==◌, length, slice_get}
 use Rattle.std.specs.Prelude.{slice_set, replicate, Option, Some, None, if◌then◌else◌}
 use Rattle.std.specs.BTreeMap.{BTreeMap, get_by}
 use Rattle.std.specs.Cmp.Lexicographic.{slice_cmp}
@@ -39,20 +39,32 @@ users_or_none (Some users) = users
 abbrev pub users_in : BTreeMap (Bor (List ℕ)) (List ℕ) → List ℕ → List ℕ
 users_in users name = users_or_none (get_by (λ key. slice_cmp nat_cmp name key.now) users)
 
--- A kind once for each time that the name stands among its queues.
-abbrev pub one_user : List ℕ → ℕ → List ℕ → List ℕ
-one_user queue number name = if bytes_eq queue name then number ∷ [] else []
+-- The kind comes last among these.
+abbrev pub is_number : ℕ → Option ℕ → Bool
+is_number number None = false
+is_number number (Some user) = user == number
 
-abbrev pub users_of_queue : ℕ → List (List ℕ) → List ℕ → List ℕ
-users_of_queue number [] name = []
-users_of_queue number (queue ∷ rest) name =
-    one_user queue number name ++ users_of_queue number rest name
+abbrev pub ends_in : ℕ → List ℕ → Bool
+ends_in number users = is_number number (slice_get users (length users - 1))
 
--- The same of all kinds, numbered from `number` on.
-abbrev pub users_from : ℕ → List Kind → List ℕ → List ℕ
-users_from number [] name = []
-users_from number (kind ∷ rest) name =
-    users_of_queue number (queue_of kind) name ++ users_from (number + 1) rest name
+-- A kind added last, unless it comes last already.
+abbrev pub with_user : ℕ → List ℕ → List ℕ
+with_user number users = if ends_in number users then users else users ++ number ∷ []
+
+-- The kinds of a name with a kind that has this queue, and with one that has these queues.
+abbrev pub with_queue : ℕ → (queue name : List ℕ) → List ℕ → List ℕ
+with_queue number queue name users = if bytes_eq queue name then with_user number users else users
+
+abbrev pub with_queues : ℕ → List (List ℕ) → (name : List ℕ) → List ℕ → List ℕ
+with_queues number [] name users = users
+with_queues number (queue ∷ rest) name users =
+    with_queues number rest name (with_queue number queue name users)
+
+-- The same with all kinds of a list, numbered from `number` on.
+abbrev pub with_kinds : ℕ → List Kind → (name : List ℕ) → List ℕ → List ℕ
+with_kinds number [] name users = users
+with_kinds number (kind ∷ rest) name users =
+    with_kinds (number + 1) rest name (with_queues number (queue_of kind) name users)
 
 -- A row with the bits of these kinds set.
 abbrev pub marked : List Bool → List ℕ → List Bool

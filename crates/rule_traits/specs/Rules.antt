@@ -14,8 +14,8 @@ abbrev pub kind_at : List Kind → ℕ → Option Kind
 kind_at rules number = slice_get rules number
 
 -- The least number of a kind of this name.
-abbrev pub number_of : List Kind → List ℕ → Option ℕ
-number_of rules name = position_from (λ (kind : Kind). bytes_eq kind.name name) 0 rules
+abbrev pub number_named : List Kind → List ℕ → Option ℕ
+number_named rules name = position_from (λ (kind : Kind). bytes_eq kind.name name) 0 rules
 
 -- A kind moves where it has Mobile and not Building.
 abbrev pub moves : Kind → Bool

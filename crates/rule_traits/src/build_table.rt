@@ -1,8 +1,8 @@
-ghost use Rattle.std.specs.Prelude.{◌≡◌, ℕ, ◌≤◌, [], true, List, slice_set, ◌++◌, length};
+ghost use Rattle.std.specs.Prelude.{◌≡◌, ℕ, ◌≤◌, [], true, List, slice_set, length};
 ghost use Rattle.std.specs.Prelude.{if◌then◌else◌, IfOk, OnOk};
 ghost use Rattle.std.specs.Str.{bytes_eq};
-ghost use Rattle.rule_traits.specs.BuildTable.{IsTableOf, marked, one_user, row_of, users_from};
-ghost use Rattle.rule_traits.specs.BuildTable.{users_in, users_of_queue};
+ghost use Rattle.rule_traits.specs.BuildTable.{IsTableOf, ends_in, marked, row_of, users_in};
+ghost use Rattle.rule_traits.specs.BuildTable.{with_kinds, with_queue, with_queues, with_user};
 ghost use Rattle.rule_traits.specs.declared.TheConstants.{MAX_KINDS};
 
 use crate::kind::Kind;
@@ -27,32 +27,52 @@ fn take_users<'a>(alloc: Global, users: &mut QueueUsers<'a>, queue: &'a str) -> 
     }
 }
 
-/// Adds a kind last to those of a name.
+/// Whether a kind comes last among these.
+fn ends_in(numbers: &[u16], number: u16) -> bool
+    ensures { result ≡ ends_in number numbers.now }
+{
+    match numbers.last() {
+        Some(last) => *last == number,
+        None => false,
+    }
+}
+
+/// Adds a kind last, unless it comes last already: its queues may have a name many times.
+fn push_user(numbers: &mut KindNumbers, number: u16) -> Result<(), NoMemory>
+    ensures { OnOk result (numbers.new ≡ with_user number numbers.old) }
+{
+    if ends_in(numbers.as_slice(), number) {
+        return Ok(());
+    }
+    numbers.push(number)
+}
+
+/// Adds a kind to those of a name.
 fn add_user<'a>(
     alloc: Global,
     users: &mut QueueUsers<'a>,
     queue: &'a str,
     number: u16,
 ) -> Result<(), NoMemory>
-    ensures { OnOk result ((name : List ℕ) → users_in users.new name ≡ users_in users.old name ++
-        one_user queue.now number name) }
+    ensures { OnOk result ((name : List ℕ) → users_in users.new name ≡ with_queue number queue.now
+        name (users_in users.old name)) }
 {
     let mut numbers = take_users(alloc, users, queue);
-    numbers.push(number)?;
+    push_user(&mut numbers, number)?;
     users.insert(queue, numbers)?;
     Ok(())
 }
 
 /// Adds a kind to those of each of its queues.
-#[tactic(auto, using(crate::proofs::BuildTableLemmas::queue_steps))]
+#[tactic(auto, using(crate::proofs::BuildTableLemmas::queue_next))]
 fn add_queues<'a>(
     alloc: Global,
     users: &mut QueueUsers<'a>,
     queues: &'a [Text],
     number: u16,
 ) -> Result<(), NoMemory>
-    ensures { OnOk result ((name : List ℕ) → users_in users.new name ≡ users_in users.old name ++
-        users_of_queue number queues.now name) }
+    ensures { OnOk result ((name : List ℕ) → users_in users.new name ≡ with_queues number queues.now
+        name (users_in users.old name)) }
 {
     for queue in queues {
         add_user(alloc, users, queue.as_str(), number)?;
@@ -60,12 +80,12 @@ fn add_queues<'a>(
     Ok(())
 }
 
-/// The kinds of each name of a queue, by rising number.
-#[tactic(auto, using(crate::proofs::BuildTableLemmas::user_steps))]
+/// The kinds of each name of a queue, by rising number, each once.
+#[tactic(auto, using(crate::proofs::BuildTableLemmas::users_next))]
 fn queue_users<'a>(alloc: Global, kinds: &'a [Kind]) -> Result<QueueUsers<'a>, NoMemory>
     requires { length kinds.now ≤ MAX_KINDS }
-    ensures { IfOk result (λ users. (name : List ℕ) → users_in users name ≡ users_from 0 kinds.now
-        name) }
+    ensures { IfOk result (λ users. (name : List ℕ) → users_in users name ≡ with_kinds 0 kinds.now
+        name []) }
 {
     let mut users = BTreeMap::new(alloc);
     for (number, kind) in kinds.iter().enumerate() {

@@ -1,6 +1,6 @@
 ghost use Rattle.std.specs.Prelude.{◌≡◌, ◌<◌, length, IfOk, IfSome};
 ghost use Rattle.std.specs.Option.{option_copied};
-ghost use Rattle.rule_traits.specs.Rules.{builds, kind_at, number_of};
+ghost use Rattle.rule_traits.specs.Rules.{builds, kind_at, number_named};
 ghost use Rattle.rule_traits.specs.ValidRules.{AreValidRules};
 
 use crate::build_table::build_rows;
@@ -70,7 +70,7 @@ impl Rules {
 
     /// The least number of a kind of this name. `None` comes exactly where no kind has it.
     pub fn number(&self, name: &str) -> Option<u16>
-        ensures value { result ≡ number_of self.now name.now }
+        ensures value { result ≡ number_named self.now name.now }
         ensures is_a_kind { IfSome result (λ number. number < length self.now) }
     {
         for (number, kind) in self.kinds.iter().enumerate() {
