@@ -15,7 +15,7 @@ use Rattle.drill.specs.declared.drilled.Drilled.{Drilled}
 use Rattle.drill.specs.declared.run_fault.RunFault.{RunFault}
 use Rattle.drill.specs.declared.run_fault.RunFault.TheVariants.{Write, NoMemory}
 use Rattle.frame_core.specs.Match.{Match}
-use Rattle.drill.specs.Text.{event_lines}
+use Rattle.drill.specs.Text.{outcome_lines}
 use Rattle.drill.specs.Record.{opening, after_events, outcomes, record_of}
 use Rattle.drill.specs.Report.{closing, report}
 use Rattle.drill.specs.Shown.{shown_server, shown_peers}
@@ -72,9 +72,9 @@ left_by m events out out' run' text' runs =
 
 lines_are :
     {W : Type 0} (m : Match W) (events : List Event) →
-    event_lines 0 (outcomes m (progress_of (opened m)) events) ≡ event_lines 0 (outcomes m (opening m.clients) events)
+    outcome_lines 0 (outcomes m (progress_of (opened m)) events) ≡ outcome_lines 0 (outcomes m (opening m.clients) events)
 lines_are m events =
-    ap (λ p. event_lines 0 (outcomes m p events)) (opening_progress m.clients m.lag m.start)
+    ap (λ p. outcome_lines 0 (outcomes m p events)) (opening_progress m.clients m.lag m.start)
 
 left_server :
     {W E : Type 0} (m : Match W) (events : List Event) (out out' : Option (List ℕ)) (run' : RunState W) (text' : List ℕ) →
@@ -115,7 +115,7 @@ report_is :
     run'.clients ≡ m.clients → run'.lag ≡ m.lag →
     RunsAll {E = E} m events out run' out' text' (Ok tt) →
     report m events
-    ≡ event_lines 0 (outcomes m (progress_of (opened m)) events) ++ closing m.hash m.summary run'.server run'.peers
+    ≡ outcome_lines 0 (outcomes m (progress_of (opened m)) events) ++ closing m.hash m.summary run'.server run'.peers
 report_is m events out out' run' text' clients_are lag_is runs =
     ap₂ (λ lines last. lines ++ last) (sym (lines_are m events))
     (ap₂ (closing m.hash m.summary) (sym (left_server m events out out' run' text' runs))

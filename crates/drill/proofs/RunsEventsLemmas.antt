@@ -15,7 +15,7 @@ use Rattle.peer_core.specs.Faithful.{IsFaithful}
 use Rattle.drill_words.specs.declared.event.Event.{Event}
 use Rattle.drill.specs.declared.outcome.Outcome.{Outcome}
 use Rattle.frame_core.specs.Match.{Match, agreed_world}
-use Rattle.drill.specs.Text.{event_line, event_lines}
+use Rattle.drill.specs.Text.{outcome_line, outcome_lines}
 use Rattle.drill.specs.Record.{Progress, outcome_of, after_event, after_events, outcomes}
 use Rattle.drill.specs.Shown.{shown_server, shown_from}
 use Rattle.drill.specs.RunningMatch.{RunState, reached_of, progress_of, match_from, AreNumbered}
@@ -73,7 +73,7 @@ pub event_ran :
     {W E F : Type 0} (match_of : W → Match W) (number : ℕ) (event : Event) (run run' : RunState W)
     (out out' : Option (List ℕ)) (text mid text' : List ℕ) (outcome : Outcome) (result : Result (Unit {0}) E) →
     RunsEvent {E = F} match_of event run run' (Ok outcome) →
-    mid ≡ text ++ event_line number outcome → OnOk result (PrintsLines out mid out' text' []) →
+    mid ≡ text ++ outcome_line number outcome → OnOk result (PrintsLines out mid out' text' []) →
     OnErr result (WrotePrefix out out' mid) →
     RunsEvents {E = E} match_of number (event ∷ []) run out text run' out' text' result
 event_ran match_of number event run run' out out' text mid text' outcome (Ok done) ran mid_is prints cut =
@@ -82,8 +82,8 @@ event_ran match_of number event run run' out out' text mid text' outcome (Ok don
       left = λ start sound. ((ran.follows start sound).0.left, (ran.follows start sound).1);
       printed = λ start sound first rest whole upto.
           prints first rest whole
-          (regroup first out text mid (event_line number outcome) _ rest whole mid_is
-          (append-nil _ ∙ ap (event_line number) (sym (ran.follows start sound).0.outcome_is)) upto);
+          (regroup first out text mid (outcome_line number outcome) _ rest whole mid_is
+          (append-nil _ ∙ ap (outcome_line number) (sym (ran.follows start sound).0.outcome_is)) upto);
       cut = tt;
     }
 event_ran match_of number event run run' out out' text mid text' outcome (Err fault) ran mid_is prints cut =
@@ -93,8 +93,8 @@ event_ran match_of number event run run' out out' text mid text' outcome (Err fa
       printed = tt;
       cut = λ start sound first rest whole upto.
           prefix_put first out out' mid rest whole
-          (regroup first out text mid (event_line number outcome) _ rest whole mid_is
-          (append-nil _ ∙ ap (event_line number) (sym (ran.follows start sound).0.outcome_is)) upto) cut;
+          (regroup first out text mid (outcome_line number outcome) _ rest whole mid_is
+          (append-nil _ ∙ ap (outcome_line number) (sym (ran.follows start sound).0.outcome_is)) upto) cut;
     }
 
 -- Memory ran out before anything was written.
@@ -125,15 +125,15 @@ ran_none match_of events run out text whole =
 lines_step :
     {W : Type 0} (m : Match W) (number : ℕ) (now then : Progress) (event : Event) (left rest : List Event) (more : List ℕ) →
     left ≡ event ∷ rest → then ≡ after_event m now event →
-    event_lines number (outcomes m now left) ++ more
-    ≡ event_lines number (outcomes m now (event ∷ [])) ++ (event_lines (number + 1) (outcomes m then rest) ++ more)
+    outcome_lines number (outcomes m now left) ++ more
+    ≡ outcome_lines number (outcomes m now (event ∷ [])) ++ (outcome_lines (number + 1) (outcomes m then rest) ++ more)
 lines_step m number now then event left rest more left_is then_is =
-    ap (λ events. event_lines number (outcomes m now events) ++ more) left_is
-    ∙ ap (λ p. line ++ event_lines (number + 1) (outcomes m p rest) ++ more) (sym then_is)
-    ∙ append_assoc line (event_lines (number + 1) (outcomes m then rest)) more
-    ∙ ap (λ l. l ++ (event_lines (number + 1) (outcomes m then rest) ++ more)) (sym (append-nil line)) where
+    ap (λ events. outcome_lines number (outcomes m now events) ++ more) left_is
+    ∙ ap (λ p. line ++ outcome_lines (number + 1) (outcomes m p rest) ++ more) (sym then_is)
+    ∙ append_assoc line (outcome_lines (number + 1) (outcomes m then rest)) more
+    ∙ ap (λ l. l ++ (outcome_lines (number + 1) (outcomes m then rest) ++ more)) (sym (append-nil line)) where
       line : List ℕ
-      line = event_line number (outcome_of m now event)
+      line = outcome_line number (outcome_of m now event)
 
 -- After one event more.
 pub ran_one_more :
@@ -200,7 +200,7 @@ ran_all match_of number left run₀ out₀ text₀ events run out text left_is s
       );
       printed = λ start sound first more all upto.
           let P : List Event → Type 0 =
-          λ events'. WroteUpTo first out (text ++ (event_lines number (outcomes (match_of start) (progress_of run) events') ++ more)) all in
+          λ events'. WroteUpTo first out (text ++ (outcome_lines number (outcomes (match_of start) (progress_of run) events') ++ more)) all in
           subst P left_is (so_far.written start sound first more all upto);
       cut = tt;
     }

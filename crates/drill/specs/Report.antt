@@ -8,7 +8,7 @@ use Rattle.server_core.specs.Alarm.{alarm_of}
 use Rattle.server_core.specs.Server.{ServerState}
 use Rattle.drill_words.specs.declared.event.Event.{Event}
 use Rattle.frame_core.specs.Match.{Match}
-use Rattle.drill.specs.Text.{event_lines, column_line, peer_head, server_head, world_text}
+use Rattle.drill.specs.Text.{outcome_lines, column_line, peer_head, server_head, world_text}
 use Rattle.drill.specs.Text.{alarm_line, end_line}
 use Rattle.drill.specs.Record.{opening, outcomes, record_of}
 use Rattle.drill.specs.Shown.{shown_server, shown_peers}
@@ -51,6 +51,6 @@ closing hash summary server peers =
 -- server and the peers that the record shows.
 abbrev pub report : {W : Type 0} → Match W → List Event → List ℕ
 report m events =
-    event_lines 0 (outcomes m (opening m.clients) events)
+    outcome_lines 0 (outcomes m (opening m.clients) events)
     ++ closing m.hash m.summary (shown_server m (record_of m events))
     (shown_peers m (record_of m events))

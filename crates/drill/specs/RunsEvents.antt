@@ -3,7 +3,7 @@ use Rattle.std.specs.Prelude.{◌≡◌, ℕ, List, ◌++◌, Option, Result, On
 use Rattle.base.specs.Written.{WroteUpTo, WrotePrefix}
 use Rattle.drill_words.specs.declared.event.Event.{Event}
 use Rattle.frame_core.specs.Match.{Match}
-use Rattle.drill.specs.Text.{event_lines}
+use Rattle.drill.specs.Text.{outcome_lines}
 use Rattle.drill.specs.Record.{after_events, outcomes}
 use Rattle.drill.specs.RunningMatch.{RunState, progress_of, IsWhole, IsSound}
 
@@ -38,12 +38,12 @@ pub record RunsEvents {W E : Type 0}
       OnOk result
       ((start : W) → IsSound (match_of start) run →
       PrintsLines out text out' text'
-      (event_lines number (outcomes (match_of start) (progress_of run) events)))
+      (outcome_lines number (outcomes (match_of start) (progress_of run) events)))
   pub cut :
       OnErr result
       ((start : W) → IsSound (match_of start) run →
       CutsLines out text out'
-      (event_lines number (outcomes (match_of start) (progress_of run) events)))
+      (outcome_lines number (outcomes (match_of start) (progress_of run) events)))
 
 -- What holds of a run once some of its events ran and these are left.
 pub record RanSoFar {W : Type 0}
@@ -61,6 +61,6 @@ pub record RanSoFar {W : Type 0}
       (start : W) → IsSound (match_of start) run₀ →
       (first : Option (List ℕ)) (rest all : List ℕ) →
       WroteUpTo first out₀
-      (text₀ ++ (event_lines 0 (outcomes (match_of start) (progress_of run₀) events) ++ rest)) all →
+      (text₀ ++ (outcome_lines 0 (outcomes (match_of start) (progress_of run₀) events) ++ rest)) all →
       WroteUpTo first out
-      (text ++ (event_lines number (outcomes (match_of start) (progress_of run) left) ++ rest)) all
+      (text ++ (outcome_lines number (outcomes (match_of start) (progress_of run) left) ++ rest)) all

@@ -1,7 +1,8 @@
 -- The printed words of a report.
-use Rattle.std.specs.Prelude.{ℕ, zero, suc, ◌+◌, ◌/◌, ◌%◌, nat_lt, if◌then◌else◌, Bool, true, false}
+use Rattle.std.specs.Prelude.{ℕ, ◌+◌, Bool, true, false}
 use Rattle.std.specs.Prelude.{List, [], ◌∷◌, ◌++◌, codes}
 use Rattle.std.specs.Fmt.{decimal}
+use Rattle.drill_words.specs.Hash.{hash_digits}
 use Rattle.frame_core.specs.declared.tick_answer.TickAnswer.{TickAnswer}
 use Rattle.frame_core.specs.declared.tick_answer.TickAnswer.TheVariants.{Ticked, NotYet, Over}
 use Rattle.frame_core.specs.declared.summary.Summary.{Summary}
@@ -21,19 +22,6 @@ use Rattle.drill.specs.declared.outcome.Outcome.TheVariants.{Sealed, NotSealed, 
 use Rattle.drill.specs.declared.outcome.Outcome.TheVariants.{Reported, Leaves, NoEntry}
 use Rattle.drill.specs.declared.outcome.Outcome.TheVariants.{Arrived, Repeated, Ticking, ReportSent}
 use Rattle.drill.specs.declared.outcome.Outcome.TheVariants.{NoFrame, ByeSent}
-
--- A digit 0 to 15, in lower case.
-abbrev pub hex_digit : ℕ → ℕ
-hex_digit digit = if nat_lt digit 10 then 48 + digit else 87 + digit
-
--- The last so many hexadecimal digits of a number, the highest first.
-abbrev pub hex_from : ℕ → ℕ → List ℕ
-hex_from zero n = []
-hex_from (suc digits) n = hex_from digits (n / 16) ++ hex_digit (n % 16) ∷ []
-
--- A hash is printed as 16 digits.
-unfoldable pub hash_text : ℕ → List ℕ
-hash_text hash = hex_from 16 hash
 
 -- A client's frame after a word.
 abbrev pub place_text : List ℕ → ℕ → ℕ → List ℕ
@@ -89,13 +77,13 @@ outcome_text NoFrame = codes "no frame"
 outcome_text ByeSent = codes "bye"
 
 -- The line of the event of this number.
-unfoldable pub event_line : ℕ → Outcome → List ℕ
-event_line number outcome = decimal number ++ codes " " ++ outcome_text outcome ++ codes "\n"
+unfoldable pub outcome_line : ℕ → Outcome → List ℕ
+outcome_line number outcome = decimal number ++ codes " " ++ outcome_text outcome ++ codes "\n"
 
 -- The lines of the events from this number on.
-abbrev pub event_lines : ℕ → List Outcome → List ℕ
-event_lines number [] = []
-event_lines number (outcome ∷ rest) = event_line number outcome ++ event_lines (number + 1) rest
+abbrev pub outcome_lines : ℕ → List Outcome → List ℕ
+outcome_lines number [] = []
+outcome_lines number (outcome ∷ rest) = outcome_line number outcome ++ outcome_lines (number + 1) rest
 
 -- The cash of each client, each after a space.
 abbrev pub cash_text : List ℕ → List ℕ
@@ -105,7 +93,7 @@ cash_text (cash ∷ rest) = codes " " ++ decimal cash ++ cash_text rest
 -- A world's hash, its number of actors and the cash of its clients.
 unfoldable pub world_text : {W : Type 0} → (W → ℕ) → (W → Summary) → W → List ℕ
 world_text hash summary world =
-    codes " hash " ++ hash_text (hash world) ++ codes " actors " ++ decimal (summary world).actors
+    codes " hash " ++ hash_digits (hash world) ++ codes " actors " ++ decimal (summary world).actors
     ++ codes " cash" ++ cash_text (summary world).cash ++ codes "\n"
 
 -- Whether a client is in the match still.
@@ -133,7 +121,7 @@ server_head ticked = codes "server frames " ++ decimal ticked
 unfoldable pub alarm_line : ℕ → Alarm → List ℕ
 alarm_line client alarm =
     codes "alarm " ++ decimal client ++ codes " frame " ++ decimal alarm.frame
-    ++ codes " got " ++ hash_text alarm.got ++ codes " want " ++ hash_text alarm.want ++ codes "\n"
+    ++ codes " got " ++ hash_digits alarm.got ++ codes " want " ++ hash_digits alarm.want ++ codes "\n"
 
 -- The last line of a report.
 unfoldable pub end_line : List ℕ

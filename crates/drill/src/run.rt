@@ -16,7 +16,7 @@ use crate::drilled::Drilled;
 use crate::opening::open;
 use crate::run_fault::RunFault;
 use crate::running_match::RunningMatch;
-use crate::text::add_event_line;
+use crate::text::add_outcome_line;
 use drill_words::{Drill, EventList, EventView, MAX_EVENTS};
 use frame_core::{Maker, Sim};
 use game_io::Sink;
@@ -107,7 +107,7 @@ fn print_event<W: Sim, K: Sink>(
     let Ok(outcome) = run.run_event(event) else {
         return Err(RunFault::NoMemory);
     };
-    let Ok(()) = add_event_line(text, number, &outcome) else {
+    let Ok(()) = add_outcome_line(text, number, &outcome) else {
         return Err(RunFault::NoMemory);
     };
     flush_if_full(text, out)

@@ -1,28 +1,30 @@
 ghost use Rattle.std.specs.Prelude.{◌≡◌, ◌<◌, ◌≤◌, ◌++◌, List, string_bytes, OnOk, length};
-ghost use Rattle.drill.specs.Text.{hex_digit, hex_from, hash_text, place_text, seal_fault_text};
+ghost use Rattle.drill.specs.Text.{place_text, seal_fault_text};
+ghost use Rattle.drill_words.specs.Hash.{hash_digits, hex_digit, hex_from};
 ghost use Rattle.drill.specs.Text.{entering_text};
 ghost use Rattle.drill.specs.Text.{reported_text, leaving_text, tick_text, outcome_text};
-ghost use Rattle.drill.specs.Text.{event_line, cash_text};
+ghost use Rattle.drill.specs.Text.{outcome_line, cash_text};
 ghost use Rattle.drill.specs.Text.{world_text, column_line, peer_head, server_head, alarm_line};
 ghost use Rattle.drill.specs.Text.{end_line};
 
 use crate::entering::Entering;
 use crate::outcome::Outcome;
 use base::NoMemory;
+use drill_words::HASH_DIGITS;
 use frame_core::{Leaving, Sim, TickAnswer};
 use peer_core::SealFault;
 use server_core::{Alarm, Reported};
 use std::fmt::Write;
 
 /// Adds the line of the event of this number.
-#[tactic(auto, unfolding(crate::specs::Text::event_line))]
-pub(crate) fn add_event_line(
+#[tactic(auto, unfolding(crate::specs::Text::outcome_line))]
+pub(crate) fn add_outcome_line(
     text: &mut String,
     number: u32,
     outcome: &Outcome,
 ) -> Result<(), NoMemory>
     ensures { OnOk result (string_bytes text.new
-        ≡ string_bytes text.old ++ event_line number outcome.now) }
+        ≡ string_bytes text.old ++ outcome_line number outcome.now) }
 {
     write!(text, "{number} ")?;
     add_outcome(text, outcome)?;
@@ -220,15 +222,15 @@ fn add_cash(text: &mut String, each: &[u32]) -> Result<(), NoMemory>
 }
 
 /// Adds a hash, as 16 hexadecimal digits.
-#[tactic(auto, unfolding(crate::specs::Text::hash_text))]
+#[tactic(auto, unfolding(drill_words::specs::Hash::hash_digits))]
 fn add_hash(text: &mut String, hash: u64) -> Result<(), NoMemory>
-    ensures { OnOk result (string_bytes text.new ≡ string_bytes text.old ++ hash_text hash) }
+    ensures { OnOk result (string_bytes text.new ≡ string_bytes text.old ++ hash_digits hash) }
 {
-    add_hex(text, 16, hash)
+    add_hex(text, HASH_DIGITS, hash)
 }
 
 /// Adds the last so many hexadecimal digits of a number.
-fn add_hex(text: &mut String, digits: u8, n: u64) -> Result<(), NoMemory>
+fn add_hex(text: &mut String, digits: usize, n: u64) -> Result<(), NoMemory>
     ensures { OnOk result (string_bytes text.new ≡ string_bytes text.old ++ hex_from digits n) }
 {
     if digits == 0 {

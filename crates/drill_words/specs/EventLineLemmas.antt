@@ -26,7 +26,7 @@ use Rattle.drill_words.specs.KeptLine.{is_kept}
 use Rattle.drill_words.specs.Read.{Read, after_word, number_at, client_of, client_at, hash_at}
 use Rattle.drill_words.specs.Read.{none_left, at_end}
 use Rattle.drill_words.specs.MatchLine.{match_line_of}
-use Rattle.drill_words.specs.OrderList.{order_word, order_word_at, order_at, after_order}
+use Rattle.drill_words.specs.OrderList.{order_word, order_word_at, order_at, further_orders}
 use Rattle.drill_words.specs.OrderList.{orders_from, orders_at, u32_at, u8_at, cell_at}
 use Rattle.drill_words.specs.EventLine.{event_word, event_word_at, ticker_of, ticker_at, event_at}
 use Rattle.drill_words.specs.EventLine.{event_of}
@@ -70,7 +70,7 @@ with_order order read = read >>= λ others. Ok (order ∷ others.0, others.1)
 
 abbrev with_others : (List (List ℕ) → Read (List Order)) → (Order × List (List ℕ)) →
     Read (List Order)
-with_others further order = with_order order.0 (after_order further order.1)
+with_others further order = with_order order.0 (further_orders further order.1)
 
 orders_from-one :
     (room : ℕ) (words : List (List ℕ)) → orders_from (suc room) words
@@ -175,7 +175,7 @@ orders_from-back :
     (order : Order) (orders : List Order) (room : ℕ) → length orders ≤ room →
     list_all order_in_range (order ∷ orders) ≡ true →
     orders_from (suc room) (orders_words (order ∷ orders)) ≡ Ok (order ∷ orders, [])
-unfolding after_order
+unfolding further_orders
 orders_from-back order [] room few fits =
     let parts = and_parts (order_in_range order) (list_all order_in_range []) fits in
     orders_from-one room (order_words order ++ [])

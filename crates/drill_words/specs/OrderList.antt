@@ -81,9 +81,9 @@ order_at order_of.Pace words = do
   Ok (Pace ticks.0, ticks.1)
 
 -- After an order the line ends, or `;` and further orders follow.
-unfoldable pub after_order : (List (List ℕ) → Read (List Order)) → List (List ℕ) → Read (List Order)
-after_order further [] = Ok ([], [])
-after_order further (word ∷ rest) = if bytes_eq word (codes ";") then further rest else Err BadWord
+unfoldable pub further_orders : (List (List ℕ) → Read (List Order)) → List (List ℕ) → Read (List Order)
+further_orders further [] = Ok ([], [])
+further_orders further (word ∷ rest) = if bytes_eq word (codes ";") then further rest else Err BadWord
 
 -- One order or several, where there is room for so many. One too many is found at its first word.
 unfoldable pub orders_from : ℕ → List (List ℕ) → Read (List Order)
@@ -93,7 +93,7 @@ orders_from zero words = do
 orders_from (suc room) words = do
   word ← order_word_at words
   order ← order_at word.0 word.1
-  others ← after_order (orders_from room) order.1
+  others ← further_orders (orders_from room) order.1
   Ok (order.0 ∷ others.0, others.1)
 
 -- Orders with `;` between them, or none.

@@ -1,8 +1,8 @@
 ghost use Rattle.std.specs.Prelude.{◌≡◌, ◌<◌, true};
 ghost use Rattle.drill_words.specs.Hash.{is_hex_digit, hex_digit_value, hash_of_word};
 
-/// The digits of a hash.
-const HASH_DIGITS: usize = 16;
+/// How many hexadecimal digits a hash is written with.
+pub const HASH_DIGITS: usize = 16;
 
 /// The hash that a word writes. None where it isn't exactly 16 lower-case hexadecimal digits.
 pub(crate) fn read_hash(word: &[u8]) -> Option<u64>

@@ -34,6 +34,7 @@ pub use drill_fault::DrillFault;
 pub use event::Event;
 pub use event_list::EventList;
 pub use event_view::EventView;
+pub use hash::HASH_DIGITS;
 pub use law::lines_read_back;
 pub use limits::{MAX_DRILL_BYTES, MAX_EVENTS};
 pub use reading::read_drill;

@@ -2,12 +2,12 @@
 use Rattle.std.proofs.Common.{◌≡◌, ◌-◌, length}
 use Rattle.game_orders.specs.declared.limits.TheConstants.{MAX_ORDERS}
 use Rattle.drill_words.specs.OrderList.{orders_from}
-use Rattle.drill_words.proofs.OrderListLemmas.{after_orders}
+use Rattle.drill_words.proofs.OrderListLemmas.{prefixed_orders}
 use Rattle.drill_words.proofs.order_list.take_orders.Given as goal
 
 abbrev pub invariant-loop-room : goal.invariant-loop-room
 invariant-loop-room l =
     record {
-      whole : after_orders l.orders (orders_from (MAX_ORDERS - l._room) l.cursor) ≡ orders_from MAX_ORDERS l.fn.cursor;
+      whole : prefixed_orders l.orders (orders_from (MAX_ORDERS - l._room) l.cursor) ≡ orders_from MAX_ORDERS l.fn.cursor;
       count : length l.orders ≡ l._room;
     }
