@@ -8,7 +8,7 @@ ghost use Rattle.std.specs.Rc.{rc_str_bytes};
 ghost use Rattle.std.specs.Str.{IsCharBoundary};
 
 use base::NoMemory;
-use std::alloc::AllocError;
+use std::alloc::{AllocError, Global};
 use std::hash::{Hash, Hasher};
 use std::marker::Model;
 use std::rc::RcStr;
@@ -103,6 +103,19 @@ impl Text {
             start,
             end,
         }))
+    }
+
+    /// A text that reads like this one. Where the text ends with it, its bytes are not copied.
+    pub fn ending(&self, alloc: Global, part: &str) -> Result<Text, NoMemory>
+        ensures { IfOk result (λ text. text ≡ part.now) }
+    {
+        if let Some(whole) = &self.whole {
+            let start = (self.end as usize).saturating_sub(part.len());
+            if let Some(text) = Text::find_in(whole, start, part)? {
+                return Ok(text);
+            }
+        }
+        Text::from_string(String::from_str(alloc, part)?)
     }
 
     /// The text as a `&str`.

@@ -1,5 +1,8 @@
 pub mod LevelLaws
 pub mod LevelSteps
+pub mod SlotSteps
+pub mod IndexSteps
+pub mod GrowingSteps
 pub mod JoinSteps
 pub mod SizeSteps
 pub mod StepSteps

@@ -9,7 +9,7 @@ ghost use Rattle.yaml_merge.specs.declared.resolved.Resolved.{Resolved};
 use crate::MAX_LIST_NODES;
 use crate::fault::MergeFault;
 use crate::keeping::held_at;
-use crate::level::Level;
+use crate::growing_list::GrowingList;
 use crate::resolved::Resolved;
 use crate::scene::Scene;
 use crate::steps::{in_path, inherit, inherits, removal, remove, within};
@@ -40,9 +40,9 @@ fn inherit_node(
     scene: &Scene<'_>,
     node: &Node,
     room: usize,
-    list: Level,
+    list: GrowingList,
     high: &mut usize,
-) -> Result<Level, Stop>
+) -> Result<GrowingList, Stop>
     requires are_kept { AreKept (trees_of scene.now.tops.now.forest) scene.now.kept.now }
     ensures taken { IfOk result (Gives (trees_of scene.now.tops.now.forest) scene.now.kept.now high.new (λ free path. inherit_step free room (out-Node node.now).place (out-Node node.now).value path (parents free (trees_of scene.now.tops.now.forest) path (out-Node node.now).value) list (parent_of (out-Node node.now).value (trees_of scene.now.tops.now.forest)))) }
     ensures rises { high.old ≤ high.new }
@@ -51,7 +51,7 @@ fn inherit_node(
 {
     let place = node.place;
     let name = node.value.as_str();
-    let Some(at) = scene.tops.place_of(name) else {
+    let Some(at) = scene.tops.place_of(&node.value) else {
         return Err(Stop::Fault(MergeFault::NoParent { place }));
     };
     if in_path(name.as_bytes(), scene.path) {
@@ -61,7 +61,7 @@ fn inherit_node(
         return Err(Stop::Fault(MergeFault::TooDeep { place }));
     }
     match served(scene, at) {
-        Some(parent) => match inherit(alloc, room, place, list, parent) {
+        Some(parent) => match inherit(alloc, scene.keyed, room, place, list, parent) {
             Ok(level) => {
                 *high = (*high).max(parent.height + 1);
                 Ok(level)
@@ -79,9 +79,9 @@ fn join_node(
     scene: &Scene<'_>,
     node: &Node,
     room: usize,
-    list: Level,
+    list: GrowingList,
     high: &mut usize,
-) -> Result<Level, Stop>
+) -> Result<GrowingList, Stop>
     requires are_kept { AreKept (trees_of scene.now.tops.now.forest) scene.now.kept.now }
     ensures taken { IfOk result (Gives (trees_of scene.now.tops.now.forest) scene.now.kept.now high.new (λ free path. join_step (out-Node node.now).key (out-Node node.now).value (out-Node node.now).place (λ old. resolved_list free (trees_of (out-Node node.now).children) (room - 1) (trees_of scene.now.tops.now.forest) path old) list)) }
     ensures rises { high.old ≤ high.new }
@@ -92,7 +92,14 @@ fn join_node(
     let children = list.take(alloc, &node.key);
     let room = room.saturating_sub(1);
     let children = resolve_list(alloc, scene, &node.children, room, children, high)?;
-    list.join(alloc, &node.key, &node.value, node.place, children)?;
+    list.join(
+        alloc,
+        scene.keyed,
+        &node.key,
+        &node.value,
+        node.place,
+        children,
+    )?;
     Ok(list)
 }
 
@@ -103,9 +110,9 @@ fn take_in(
     scene: &Scene<'_>,
     node: &Node,
     room: usize,
-    list: Level,
+    list: GrowingList,
     high: &mut usize,
-) -> Result<Level, Stop>
+) -> Result<GrowingList, Stop>
     requires are_kept { AreKept (trees_of scene.now.tops.now.forest) scene.now.kept.now }
     ensures taken { IfOk result (Gives (trees_of scene.now.tops.now.forest) scene.now.kept.now high.new (λ free path. taken_in free room (trees_of scene.now.tops.now.forest) path (out-Node node.now).key (out-Node node.now).value (out-Node node.now).place (trees_of (out-Node node.now).children) list)) }
     ensures rises { high.old ≤ high.new }
@@ -117,8 +124,8 @@ fn take_in(
         return inherit_node(alloc, scene, node, room, list, high);
     }
     match removal(key) {
-        Some(removed) => match remove(removed, node.place, list) {
-            Ok(level) => Ok(level),
+        Some(removed) => match remove(alloc, &node.key, removed, node.place, list) {
+            Ok(left) => Ok(left),
             Err(fault) => Err(Stop::Fault(fault)),
         },
         None => join_node(alloc, scene, node, room, list, high),
@@ -133,9 +140,9 @@ pub fn resolve_list(
     scene: &Scene<'_>,
     list: &Forest,
     room: usize,
-    start: Level,
+    start: GrowingList,
     high: &mut usize,
-) -> Result<Level, Stop>
+) -> Result<GrowingList, Stop>
     requires are_kept { AreKept (trees_of scene.now.tops.now.forest) scene.now.kept.now }
     ensures done { IfOk result (Gives (trees_of scene.now.tops.now.forest) scene.now.kept.now high.new (λ free path. resolved_list free (trees_of list.now) room (trees_of scene.now.tops.now.forest) path start)) }
     ensures rises { high.old ≤ high.new }

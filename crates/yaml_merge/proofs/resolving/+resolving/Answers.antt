@@ -1,7 +1,9 @@
-use Rattle.std.proofs.Common.{◌≡◌, ◌∙◌, ap, drop, sym, inr, arith, true, false}
+use Rattle.std.proofs.Common.{◌≡◌, ◌∙◌, ap, drop, sym, subst, inr, arith, true, false}
 use Rattle.std.proofs.lemmas.List.{drop_all}
 use Rattle.std.proofs.lemmas.Result.{err_from_is_err_and}
 use Rattle.yaml_lines.specs.declared.forest.Forest.TheViews.{out-Node}
+use Rattle.base.specs.Steps.{IsFault}
+use Rattle.yaml_merge.specs.declared.fault.MergeFault.TheVariants.{NoMemory}
 use Rattle.yaml_lines.specs.Trees.{trees_of, trees_of_nodes}
 use Rattle.yaml_merge.specs.Merging.{joined, without}
 use Rattle.yaml_merge.specs.Resolving.{inherits, removes, removed, taken_in, resolved_list}
@@ -120,10 +122,11 @@ take_in-returns-in-Err-clause-stop t c = λ b.
     let o = out-Node c.args.node.now in
     let i : inherits o.key ≡ false = sym (c.inherits.ensures ∙ ap inherits (c.as_bytes.ensures.value ∙ c.as_str-key.ensures)) ∙ c.if-inherits.false in
     let gone = c.in-Some.ensures {u = tt} in
-    inr
+    subst (IsFault NoMemory c.in-Err.fault)
+    (sym
     (took_removes scene.free c.args.room tops scene.path.now o.key o.value o.place (trees_of o.children) c.args.list i (sym (ap removes c.as_str-key.ensures) ∙ gone.0)
-    ∙ ap (λ k. removed o.place (without k c.args.list)) (sym (gone.1 ∙ ap (drop 1) c.as_str-key.ensures))
-    ∙ (c.in-Err.ensures {u = tt}).fault)
+    ∙ ap (λ k. removed o.place (without k c.args.list)) (sym (gone.1 ∙ ap (drop 1) c.as_str-key.ensures))))
+    (c.in-Err.ensures {u = tt}).fault
 
 pub take_in-returns-in-None-clause-taken : goal.take_in-returns-in-None-clause-taken
 take_in-returns-in-None-clause-taken t c =
