@@ -8,6 +8,7 @@ pub mod SizeSteps
 pub mod StepSteps
 pub mod KeptSteps
 pub mod TwiceLemmas
+pub mod AgainSteps
 pub mod DescentSteps
 pub mod TopSteps
 pub mod NodeSteps

@@ -1,7 +1,8 @@
 ghost use Rattle.std.specs.Prelude.{◌≡◌, ◌≤◌, ◌+◌, ◌-◌, IfOk, IfErr, MatchOption, Some};
+ghost use Rattle.std.specs.Bool.{OnTrue};
 ghost use Rattle.yaml_lines.specs.Trees.{trees_of};
 ghost use Rattle.yaml_lines.specs.declared.forest.Forest.TheViews.{out-Node};
-ghost use Rattle.yaml_merge.specs.Kept.{AreKept, Gives, Stops, slot};
+ghost use Rattle.yaml_merge.specs.Kept.{AreKept, Gives, Repeats, Stops, slot};
 ghost use Rattle.yaml_merge.specs.Resolving.{parent_of, inherit_step, join_step, parents, taken_in};
 ghost use Rattle.yaml_merge.specs.Resolving.{resolved_list};
 ghost use Rattle.yaml_merge.specs.declared.resolved.Resolved.{Resolved};
@@ -132,6 +133,20 @@ fn take_in(
     }
 }
 
+/// Whether a node inherits what the one before it inherits. Then it changes nothing.
+fn repeats(before: Option<&Node>, node: &Node) -> bool
+    ensures { OnTrue result (Repeats before.entry node.now) }
+{
+    match before {
+        Some(before) => {
+            inherits(before.key.as_str().as_bytes())
+                && inherits(node.key.as_str().as_bytes())
+                && before.value == node.value
+        }
+        None => false,
+    }
+}
+
 /// Takes the nodes of a list, in order, into a list that is there. The nodes may take up `room`
 /// levels. `high` rises to the greatest number of names that this adds to the path.
 #[cycle(resolving)]
@@ -150,12 +165,17 @@ pub fn resolve_list(
     ensures stop { high.old ≤ scene.now.free → IfErr result (λ stop. Stops (trees_of scene.now.tops.now.forest) scene.now.kept.now scene.now.free scene.now.path.now stop (resolved_list scene.now.free (trees_of list.now) room (trees_of scene.now.tops.now.forest) scene.now.path.now start)) }
 {
     let mut done = start;
+    let mut before: Option<&Node> = None;
     for node in &list.nodes {
+        if repeats(before, node) {
+            continue;
+        }
         let next = take_in(alloc, scene, node, room, done, high)?;
         match within(MAX_LIST_NODES, node.place, next) {
             Ok(kept) => done = kept,
             Err(fault) => return Err(Stop::Fault(fault)),
         }
+        before = Some(node);
     }
     Ok(done)
 }
