@@ -15,6 +15,7 @@ mod found;
 mod grow;
 mod growing;
 mod line;
+mod origin;
 mod parsing;
 mod place;
 mod printing;

@@ -9,6 +9,7 @@ ghost use Rattle.yaml_lines.specs.Reading.{unguarded_end, unescape, key_of, valu
 
 use crate::fault::LineFault;
 use crate::found::Found;
+use crate::origin::Origin;
 use crate::place::Place;
 use crate::text::Text;
 use crate::{MAX_LEVELS, MAX_LINE_BYTES, MAX_LINES, blanks};
@@ -87,7 +88,7 @@ fn unguarded_end(text: &str) -> &str
 
 /// Where the first `\#` stands.
 #[tactic(auto, using(crate::proofs::Escapes::unescape_at_end))]
-fn find_escape(text: &[u8]) -> Option<usize>
+pub fn find_escape(text: &[u8]) -> Option<usize>
     ensures { MatchOption result (unescape text.now ≡ text.now)
         (λ at. (at + 1 < length text.now) × (slice_index text.now at ≡ 92) × (slice_index text.now (at + 1) ≡ 35)
         × (unescape text.now ≡ take at text.now ++ unescape (drop (at + 1) text.now))) }
@@ -101,7 +102,7 @@ fn find_escape(text: &[u8]) -> Option<usize>
 }
 
 /// The text with each `\#` made a `#`.
-fn unescape(alloc: Global, text: &str) -> Result<String, NoMemory>
+pub fn unescape(alloc: Global, text: &str) -> Result<String, NoMemory>
     ensures { IfOk result (λ made. string_bytes made ≡ unescape text.now) }
 {
     let mut made = String::with_capacity(alloc, text.len())?;
@@ -116,22 +117,36 @@ fn unescape(alloc: Global, text: &str) -> Result<String, NoMemory>
 
 /// The key and the value of what stands after an indent.
 #[tactic(auto, unfolding(crate::specs::Reading::key_of, crate::specs::Reading::value_of))]
-fn read_words(alloc: Global, text: &str) -> Result<(Text, Text), NoMemory>
+fn read_words(
+    alloc: Global,
+    origin: Origin<'_>,
+    text: &str,
+) -> Result<(Text, Text), NoMemory>
     ensures { IfOk result (λ words. (words.0 ≡ key_of text.now) × (words.1 ≡ value_of text.now)) }
 {
     let (key, value) = split_colon(text);
-    let key = unescape(alloc, blanks::trim(key))?;
-    let value = unescape(alloc, unguarded_end(unguarded_start(blanks::trim(value))))?;
-    Ok((Text::from_string(key)?, Text::from_string(value)?))
+    let key_start = blanks::trim_start(key);
+    let key_origin = origin.of_rest(key.as_bytes(), key_start.as_bytes());
+    let key = key_origin.words(alloc, blanks::trim_end(key_start))?;
+    let value_start = blanks::trim_start(value);
+    let trimmed = blanks::trim_end(value_start);
+    let unguarded = unguarded_start(trimmed);
+    let value_origin = origin
+        .of_rest(text.as_bytes(), value_start.as_bytes())
+        .of_rest(trimmed.as_bytes(), unguarded.as_bytes());
+    let value = value_origin.words(alloc, unguarded_end(unguarded))?;
+    Ok((key, value))
 }
 
 /// Reads one line by itself: what it says, or nothing where only blanks and a comment stand in it.
-/// Levels up to `allowed` may follow the lines before it.
+/// Levels up to `allowed` may follow the lines before it. Its words share the text of the file, if
+/// the line begins at `origin`.
 #[tactic(auto, using(crate::proofs::Utf8Tests::utf8_tests), unfolding(crate::specs::Kept::line_fault, crate::specs::Reading::words_of))]
 pub fn read_line(
     alloc: Global,
     place: Place,
     allowed: usize,
+    origin: Origin<'_>,
     line: &[u8],
 ) -> Result<Option<Found>, LineFault>
     ensures sound { OnOk result (line_fault place allowed line.now ≡ None) }
@@ -148,8 +163,8 @@ pub fn read_line(
     if line.len() > MAX_LINE_BYTES {
         return Err(LineFault::LineTooLong { place });
     }
-    let (level, text) = split_indent(line);
-    let text = without_comment(text);
+    let (level, indented) = split_indent(line);
+    let text = without_comment(indented);
     if blanks::trim_start(text).is_empty() {
         return Ok(None);
     }
@@ -159,6 +174,7 @@ pub fn read_line(
     if level >= MAX_LEVELS {
         return Err(LineFault::TooDeep { place });
     }
-    let (key, value) = read_words(alloc, text)?;
+    let origin = origin.of_rest(line.as_bytes(), indented.as_bytes());
+    let (key, value) = read_words(alloc, origin, text)?;
     Ok(Some(Found { level, key, value }))
 }

@@ -16,6 +16,7 @@ use crate::forest::Forest;
 use crate::grow;
 use crate::growing::Growing;
 use crate::line::read_line;
+use crate::origin::{Origin, whole_text};
 use crate::place::Place;
 use std::alloc::Global;
 
@@ -39,13 +40,19 @@ fn next_line(bytes: &[u8]) -> Option<(&[u8], &[u8])>
 
 /// Reads a line, and adds its node where it is kept.
 #[tactic(auto, unfolding(crate::specs::Kept::line_fault))]
-fn add_line(alloc: Global, grown: &mut Growing, place: Place, line: &[u8]) -> Result<(), LineFault>
+fn add_line(
+    alloc: Global,
+    grown: &mut Growing,
+    place: Place,
+    origin: Origin<'_>,
+    line: &[u8],
+) -> Result<(), LineFault>
     ensures sound { OnOk result (line_fault place (height grown.old) line.now ≡ None) }
     ensures added { OnOk result (flat_grown grown.new ≡ flat_grown grown.old ++ kept_of place (words_of line.now)) }
     ensures level { OnOk result (height grown.new ≡ allowed_after (height grown.old) (words_of line.now)) }
     ensures fault { IfErr result (λ fault. IsLineFault fault (line_fault place (height grown.old) line.now)) }
 {
-    match read_line(alloc, place, grown.open.len(), line)? {
+    match read_line(alloc, place, grown.open.len(), origin, line)? {
         Some(found) => Ok(grow::add(alloc, grown, place, found)?),
         None => Ok(()),
     }
@@ -67,11 +74,17 @@ pub fn parse(alloc: Global, file: u16, bytes: &[u8]) -> Result<Forest, LineFault
     ensures low { IfOk result IsLowForest }
     ensures fault { IfErr result (λ fault. IsLineFault fault (first_line_fault file bytes.now)) }
 {
+    let whole = whole_text(alloc, bytes)?;
+    let origin = Origin {
+        whole: whole.as_ref(),
+        start: 0,
+    };
     let mut grown = grow::start(alloc);
     let mut rest = bytes;
     let mut line = 1;
     while let Some((text, after)) = next_line(rest) {
-        add_line(alloc, &mut grown, Place { file, line }, text)?;
+        let place = Place { file, line };
+        add_line(alloc, &mut grown, place, origin.of_rest(bytes, rest), text)?;
         line += 1;
         rest = after;
     }

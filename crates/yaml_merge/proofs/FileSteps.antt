@@ -22,7 +22,7 @@ use Rattle.yaml_merge.specs.Merging.{merged_into, merged_files, count}
 use Rattle.yaml_merge.specs.Resolving.{Outcome, within, removes, resolved_list, added}
 use Rattle.yaml_merge.specs.Resolving.{resolved_tops}
 use Rattle.yaml_merge.proofs.DescentSteps.{node_key}
-use Rattle.yaml_merge.proofs.LevelSteps.{count_added}
+use Rattle.yaml_merge.proofs.SlotSteps.{count_added}
 use Rattle.yaml_merge.proofs.StepSteps.{within_small, within_large}
 use Rattle.yaml_merge.proofs.TopSteps.{SoFar, children_nodes, key_nodes, kept_top, width_forest}
 

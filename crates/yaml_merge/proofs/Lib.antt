@@ -1,10 +1,14 @@
 pub mod LevelLaws
 pub mod LevelSteps
+pub mod SlotSteps
+pub mod IndexSteps
+pub mod GrowingSteps
 pub mod JoinSteps
 pub mod SizeSteps
 pub mod StepSteps
 pub mod KeptSteps
 pub mod TwiceLemmas
+pub mod AgainSteps
 pub mod DescentSteps
 pub mod TopSteps
 pub mod NodeSteps

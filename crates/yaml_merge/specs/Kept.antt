@@ -1,7 +1,11 @@
 -- Resolved top-level nodes that are kept, by their places at the top level, and where one serves.
 use Rattle.std.specs.Prelude.{◌≡◌, ℕ, zero, suc, ◌+◌, ◌-◌, ◌<◌, ◌≤◌, false, List, [], ◌∷◌, ◌++◌}
 use Rattle.std.specs.Prelude.{Option, Some, None, Ok, Err, IsSome, slice_get, unwrap_or}
+use Rattle.std.specs.Prelude.{true}
+use Rattle.std.proofs.Common.{Bor}
 use Rattle.base.specs.Steps.{IsFault}
+use Rattle.yaml_lines.specs.declared.forest.Node.{Node}
+use Rattle.yaml_lines.specs.declared.forest.Forest.TheViews.{out-Node}
 use Rattle.yaml_lines.specs.declared.TheConstants.{MAX_LEVELS}
 use Rattle.yaml_lines.specs.Trees.{Trees, none, more, trees_of}
 use Rattle.yaml_merge.specs.declared.fault.MergeFault.{MergeFault}
@@ -11,7 +15,7 @@ use Rattle.yaml_merge.specs.declared.stop.Stop.{Stop}
 use Rattle.yaml_merge.specs.declared.stop.Stop.TheVariants.{Fault, Parent}
 use Rattle.yaml_merge.specs.declared.TheConstants.{MAX_PATH}
 use Rattle.yaml_merge.specs.Levels.{width, children_from}
-use Rattle.yaml_merge.specs.Resolving.{Outcome, in_path, removes, resolved_list}
+use Rattle.yaml_merge.specs.Resolving.{Outcome, in_path, inherits, removes, resolved_list}
 
 -- The key of the node at a place.
 abbrev pub key_from : ℕ → Trees → List ℕ
@@ -72,3 +76,10 @@ abbrev pub weight : List (Option Resolved) → ℕ
 weight [] = 0
 weight (None ∷ rest) = MAX_PATH + weight rest
 weight (Some held ∷ rest) = held.height + weight rest
+
+-- The node is an `Inherits` of the same name as the one before it.
+abbrev pub Repeats : Option (Bor Node) → Node → Type 0
+Repeats None node = ⊥
+Repeats (Some before) node =
+    (inherits (out-Node before.now).key ≡ true) × (inherits (out-Node node).key ≡ true)
+    × ((out-Node before.now).value ≡ (out-Node node).value)

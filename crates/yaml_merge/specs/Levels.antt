@@ -1,19 +1,10 @@
--- A list of nodes as the code holds it while it grows: the keys in order, and beside each key what
--- else its node has.
-use Rattle.std.specs.Prelude.{◌≡◌, ℕ, zero, suc, true, false, List, [], ◌∷◌, if◌then◌else◌, String}
-use Rattle.std.specs.Prelude.{string_bytes}
-use Rattle.std.proofs.Common.{Global}
+-- The places of nodes in a list.
+use Rattle.std.specs.Prelude.{◌≡◌, ℕ, zero, suc, true, false, List, [], ◌∷◌, if◌then◌else◌}
+use Rattle.std.specs.Prelude.{Option, Some, None, option_map}
 use Rattle.std.specs.Str.{bytes_eq}
 use Rattle.yaml_lines.specs.declared.place.Place.{Place}
 use Rattle.yaml_lines.specs.Trees.{Trees, none, more}
-use Rattle.yaml_merge.specs.declared.level.Body.{Body}
 use Rattle.yaml_merge.specs.Merging.{newer_value}
-
--- Keys and bodies side by side, as plain trees.
-abbrev pub zipped : List (String Global) → List Body → Trees
-zipped [] bodies = none
-zipped (key ∷ keys) [] = none
-zipped (key ∷ keys) (body ∷ bodies) = more (string_bytes key) body.value body.place body.children (zipped keys bodies)
 
 -- How many nodes the list has, without those below them.
 abbrev pub width : Trees → ℕ
@@ -60,3 +51,9 @@ abbrev pub removed_from : ℕ → Trees → Trees
 removed_from at none = none
 removed_from zero (more key value place children rest) = rest
 removed_from (suc at) (more key value place children rest) = more key value place children (removed_from at rest)
+
+-- The place of the first node with this key.
+abbrev pub place_in : List ℕ → Trees → Option ℕ
+place_in key none = None
+place_in key (more first value place children rest) =
+    if bytes_eq first key then Some zero else option_map suc (place_in key rest)

@@ -6,5 +6,6 @@ pub mod Laws
 pub mod Nodes
 pub mod Codes
 pub mod Levels
-pub mod LevelFalls
+pub mod Slots
+pub mod SlotFalls
 pub mod Kept

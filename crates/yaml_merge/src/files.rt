@@ -16,7 +16,8 @@ ghost use Rattle.yaml_merge.specs.declared.TheConstants.{MAX_FOREST_NODES};
 use crate::MAX_FOREST_NODES;
 use crate::fault::MergeFault;
 use crate::keeping::{keep, keep_parents, node_at, total_at};
-use crate::level::Level;
+use crate::growing_list::GrowingList;
+use crate::keyed::Keyed;
 use crate::merging::merge;
 use crate::removing::remove_node;
 use crate::resolved::Resolved;
@@ -41,7 +42,12 @@ fn top_node(node: &Node, children: Forest) -> Result<Node, NoMemory>
 }
 
 /// Keeps all top-level nodes that are no removals, or finds the first fault of their resolving.
-fn keep_tops(alloc: Global, tops: &Tops, kept: &mut Vec<Option<Resolved>>) -> Result<(), MergeFault>
+fn keep_tops(
+    alloc: Global,
+    keyed: &Keyed,
+    tops: &Tops,
+    kept: &mut Vec<Option<Resolved>>,
+) -> Result<(), MergeFault>
     requires once { IsOnce (trees_of tops.now.forest) }
     requires are_kept { AreKept (trees_of tops.now.forest) kept.old.items }
     requires long { length kept.old.items ≡ width (trees_of tops.now.forest) }
@@ -58,8 +64,8 @@ fn keep_tops(alloc: Global, tops: &Tops, kept: &mut Vec<Option<Resolved>>) -> Re
             continue;
         }
         let order = walked.parents_first(alloc, tops, at)?;
-        keep_parents(alloc, tops, kept, order);
-        keep(alloc, tops, kept, at)?;
+        keep_parents(alloc, keyed, tops, kept, order);
+        keep(alloc, keyed, tops, kept, at)?;
         total = total
             .saturating_add(total_at(kept.as_slice(), at))
             .saturating_add(1);
@@ -110,13 +116,13 @@ fn take_at(kept: &mut Vec<Option<Resolved>>, at: usize) -> Resolved
 }
 
 /// Resolves the top-level nodes that are no removals, in order.
-fn resolve_tops(alloc: Global, tops: &Tops) -> Result<Forest, MergeFault>
+fn resolve_tops(alloc: Global, keyed: &Keyed, tops: &Tops) -> Result<Forest, MergeFault>
     requires once { IsOnce (trees_of tops.now.forest) }
     ensures done { IfOk result (λ forest. resolved_tops (trees_of tops.now.forest) (trees_of tops.now.forest) none ≡ Ok (trees_of forest)) }
     ensures fault { IfErr result (λ fault. IsFault NoMemory fault (resolved_tops (trees_of tops.now.forest) (trees_of tops.now.forest) none)) }
 {
     let mut kept = vacant(alloc, tops)?;
-    keep_tops(alloc, tops, &mut kept)?;
+    keep_tops(alloc, keyed, tops, &mut kept)?;
     take_tops(alloc, tops, &mut kept)
 }
 
@@ -150,12 +156,16 @@ fn remove_tops(tops: &Forest, list: Forest) -> Result<Forest, MergeFault>
 }
 
 /// All files as one list.
-fn merge_files(alloc: Global, files: &[Forest]) -> Result<Level, NoMemory>
+fn merge_files(
+    alloc: Global,
+    keyed: &Keyed,
+    files: &[Forest],
+) -> Result<GrowingList, NoMemory>
     ensures { IfOk result (λ level. merged_files (map trees_of files.now) none ≡ level) }
 {
-    let mut list = Level::new(alloc);
+    let mut list = GrowingList::new(alloc);
     for file in files {
-        list = merge(alloc, file, list)?;
+        list = merge(alloc, keyed, file, list)?;
     }
     Ok(list)
 }
@@ -184,8 +194,9 @@ pub fn resolve(alloc: Global, files: &[Forest]) -> Result<Forest, MergeFault>
     ensures low { All IsLowForest files.now → IfOk result IsLowForest }
     ensures fault { IfErr result (λ fault. IsFault NoMemory fault (resolved_files (map trees_of files.now))) }
 {
-    let list = merge_files(alloc, files)?;
-    let tops = Tops::of(alloc, list)?;
-    let done = resolve_tops(alloc, &tops)?;
+    let keyed = Keyed::of(files);
+    let list = merge_files(alloc, &keyed, files)?;
+    let tops = Tops::of(alloc, &keyed, list)?;
+    let done = resolve_tops(alloc, &keyed, &tops)?;
     remove_tops(&tops.forest, done)
 }

@@ -13,26 +13,27 @@ ghost use Rattle.yaml_merge.specs.Settled.{IsOnce};
 
 use crate::MAX_PATH;
 use crate::fault::MergeFault;
-use crate::level::Level;
+use crate::growing_list::GrowingList;
+use crate::keyed::Keyed;
 use crate::resolved::Resolved;
 use crate::resolving::resolve_list;
 use crate::scene::Scene;
 use crate::stop::Stop;
-use crate::tops::Tops;
+use crate::tops::{Tops, complete};
 use base::NoMemory;
 use std::alloc::Global;
 use yaml_lines::{Forest, MAX_LEVELS, Node, Text};
 
 /// A complete list as it is kept.
-fn resolved_of(alloc: Global, level: Level, height: usize) -> Result<Resolved, NoMemory>
+fn resolved_of(alloc: Global, level: GrowingList, height: usize) -> Result<Resolved, NoMemory>
     requires { height < MAX_PATH }
     ensures children { IfOk result (λ made. trees_of made.children ≡ level) }
     ensures height { IfOk result (λ made. made.height ≡ height) }
 {
     let total = level.total();
-    let Tops { forest, names: _ } = Tops::of(alloc, level)?;
+    let children = complete(alloc, level)?;
     Ok(Resolved {
-        children: forest,
+        children,
         height,
         total,
     })
@@ -46,7 +47,7 @@ fn resolve_top(alloc: Global, scene: &Scene<'_>, node: &Node) -> Result<Resolved
     ensures stop { IfErr result (λ stop. Stops (trees_of scene.now.tops.now.forest) scene.now.kept.now scene.now.free scene.now.path.now stop (resolved_list scene.now.free (trees_of (out-Node node.now).children) (MAX_LEVELS - 1) (trees_of scene.now.tops.now.forest) scene.now.path.now none)) }
 {
     let mut high = 0usize;
-    let start = Level::new(alloc);
+    let start = GrowingList::new(alloc);
     let level = resolve_list(
         alloc,
         scene,
@@ -70,6 +71,7 @@ pub fn node_at(forest: &Forest, at: usize) -> &Node
 /// and returns its place with it.
 fn next_made(
     alloc: Global,
+    keyed: &Keyed,
     tops: &Tops,
     kept: &[Option<Resolved>],
     root: usize,
@@ -92,6 +94,7 @@ fn next_made(
             tops,
             kept,
             path: path.as_slice(),
+            keyed,
             free,
         };
         match resolve_top(alloc, &scene, node) {
@@ -138,6 +141,7 @@ fn set_at(kept: &mut Vec<Option<Resolved>>, at: usize, made: Resolved)
 /// Keeps a top-level node, and what has to be resolved before it.
 pub fn keep(
     alloc: Global,
+    keyed: &Keyed,
     tops: &Tops,
     kept: &mut Vec<Option<Resolved>>,
     root: usize,
@@ -153,14 +157,20 @@ pub fn keep(
     ensures fault { IfErr result (λ fault. IsFault NoMemory fault (resolved_at (trees_of tops.now.forest) root (MAX_PATH - 1) [])) }
 {
     'vacant: while !is_kept(kept.as_slice(), root) {
-        let (at, made) = next_made(alloc, tops, kept.as_slice(), root)?;
+        let (at, made) = next_made(alloc, keyed, tops, kept.as_slice(), root)?;
         set_at(kept, at, made);
     }
     Ok(())
 }
 
 /// Keeps top-level nodes, in order, up to the first that has a fault.
-pub fn keep_parents(alloc: Global, tops: &Tops, kept: &mut Vec<Option<Resolved>>, order: Vec<usize>)
+pub fn keep_parents(
+    alloc: Global,
+    keyed: &Keyed,
+    tops: &Tops,
+    kept: &mut Vec<Option<Resolved>>,
+    order: Vec<usize>,
+)
     requires once { IsOnce (trees_of tops.now.forest) }
     requires are_kept { AreKept (trees_of tops.now.forest) kept.old.items }
     requires long { length kept.old.items ≡ width (trees_of tops.now.forest) }
@@ -172,7 +182,7 @@ pub fn keep_parents(alloc: Global, tops: &Tops, kept: &mut Vec<Option<Resolved>>
         if at >= kept.len() {
             continue;
         }
-        if keep(alloc, tops, kept, at).is_err() {
+        if keep(alloc, keyed, tops, kept, at).is_err() {
             return;
         }
     }

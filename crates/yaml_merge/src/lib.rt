@@ -8,9 +8,11 @@
 
 mod fault;
 mod files;
+mod growing_list;
+mod index;
 mod keeping;
+mod keyed;
 mod laws;
-mod level;
 mod merging;
 mod removing;
 mod resolved;

@@ -1,7 +1,8 @@
 ghost use Rattle.std.specs.Prelude.{◌≡◌, ◌≤◌, ◌+◌, ◌-◌, IfOk, IfErr, MatchOption, Some};
+ghost use Rattle.std.specs.Bool.{OnTrue};
 ghost use Rattle.yaml_lines.specs.Trees.{trees_of};
 ghost use Rattle.yaml_lines.specs.declared.forest.Forest.TheViews.{out-Node};
-ghost use Rattle.yaml_merge.specs.Kept.{AreKept, Gives, Stops, slot};
+ghost use Rattle.yaml_merge.specs.Kept.{AreKept, Gives, Repeats, Stops, slot};
 ghost use Rattle.yaml_merge.specs.Resolving.{parent_of, inherit_step, join_step, parents, taken_in};
 ghost use Rattle.yaml_merge.specs.Resolving.{resolved_list};
 ghost use Rattle.yaml_merge.specs.declared.resolved.Resolved.{Resolved};
@@ -9,7 +10,7 @@ ghost use Rattle.yaml_merge.specs.declared.resolved.Resolved.{Resolved};
 use crate::MAX_LIST_NODES;
 use crate::fault::MergeFault;
 use crate::keeping::held_at;
-use crate::level::Level;
+use crate::growing_list::GrowingList;
 use crate::resolved::Resolved;
 use crate::scene::Scene;
 use crate::steps::{in_path, inherit, inherits, removal, remove, within};
@@ -40,9 +41,9 @@ fn inherit_node(
     scene: &Scene<'_>,
     node: &Node,
     room: usize,
-    list: Level,
+    list: GrowingList,
     high: &mut usize,
-) -> Result<Level, Stop>
+) -> Result<GrowingList, Stop>
     requires are_kept { AreKept (trees_of scene.now.tops.now.forest) scene.now.kept.now }
     ensures taken { IfOk result (Gives (trees_of scene.now.tops.now.forest) scene.now.kept.now high.new (λ free path. inherit_step free room (out-Node node.now).place (out-Node node.now).value path (parents free (trees_of scene.now.tops.now.forest) path (out-Node node.now).value) list (parent_of (out-Node node.now).value (trees_of scene.now.tops.now.forest)))) }
     ensures rises { high.old ≤ high.new }
@@ -51,7 +52,7 @@ fn inherit_node(
 {
     let place = node.place;
     let name = node.value.as_str();
-    let Some(at) = scene.tops.place_of(name) else {
+    let Some(at) = scene.tops.place_of(&node.value) else {
         return Err(Stop::Fault(MergeFault::NoParent { place }));
     };
     if in_path(name.as_bytes(), scene.path) {
@@ -61,7 +62,7 @@ fn inherit_node(
         return Err(Stop::Fault(MergeFault::TooDeep { place }));
     }
     match served(scene, at) {
-        Some(parent) => match inherit(alloc, room, place, list, parent) {
+        Some(parent) => match inherit(alloc, scene.keyed, room, place, list, parent) {
             Ok(level) => {
                 *high = (*high).max(parent.height + 1);
                 Ok(level)
@@ -79,9 +80,9 @@ fn join_node(
     scene: &Scene<'_>,
     node: &Node,
     room: usize,
-    list: Level,
+    list: GrowingList,
     high: &mut usize,
-) -> Result<Level, Stop>
+) -> Result<GrowingList, Stop>
     requires are_kept { AreKept (trees_of scene.now.tops.now.forest) scene.now.kept.now }
     ensures taken { IfOk result (Gives (trees_of scene.now.tops.now.forest) scene.now.kept.now high.new (λ free path. join_step (out-Node node.now).key (out-Node node.now).value (out-Node node.now).place (λ old. resolved_list free (trees_of (out-Node node.now).children) (room - 1) (trees_of scene.now.tops.now.forest) path old) list)) }
     ensures rises { high.old ≤ high.new }
@@ -92,7 +93,14 @@ fn join_node(
     let children = list.take(alloc, &node.key);
     let room = room.saturating_sub(1);
     let children = resolve_list(alloc, scene, &node.children, room, children, high)?;
-    list.join(alloc, &node.key, &node.value, node.place, children)?;
+    list.join(
+        alloc,
+        scene.keyed,
+        &node.key,
+        &node.value,
+        node.place,
+        children,
+    )?;
     Ok(list)
 }
 
@@ -103,9 +111,9 @@ fn take_in(
     scene: &Scene<'_>,
     node: &Node,
     room: usize,
-    list: Level,
+    list: GrowingList,
     high: &mut usize,
-) -> Result<Level, Stop>
+) -> Result<GrowingList, Stop>
     requires are_kept { AreKept (trees_of scene.now.tops.now.forest) scene.now.kept.now }
     ensures taken { IfOk result (Gives (trees_of scene.now.tops.now.forest) scene.now.kept.now high.new (λ free path. taken_in free room (trees_of scene.now.tops.now.forest) path (out-Node node.now).key (out-Node node.now).value (out-Node node.now).place (trees_of (out-Node node.now).children) list)) }
     ensures rises { high.old ≤ high.new }
@@ -117,11 +125,25 @@ fn take_in(
         return inherit_node(alloc, scene, node, room, list, high);
     }
     match removal(key) {
-        Some(removed) => match remove(removed, node.place, list) {
-            Ok(level) => Ok(level),
+        Some(removed) => match remove(alloc, &node.key, removed, node.place, list) {
+            Ok(left) => Ok(left),
             Err(fault) => Err(Stop::Fault(fault)),
         },
         None => join_node(alloc, scene, node, room, list, high),
+    }
+}
+
+/// Whether a node inherits what the one before it inherits. Then it changes nothing.
+fn repeats(before: Option<&Node>, node: &Node) -> bool
+    ensures { OnTrue result (Repeats before.entry node.now) }
+{
+    match before {
+        Some(before) => {
+            inherits(before.key.as_str().as_bytes())
+                && inherits(node.key.as_str().as_bytes())
+                && before.value == node.value
+        }
+        None => false,
     }
 }
 
@@ -133,9 +155,9 @@ pub fn resolve_list(
     scene: &Scene<'_>,
     list: &Forest,
     room: usize,
-    start: Level,
+    start: GrowingList,
     high: &mut usize,
-) -> Result<Level, Stop>
+) -> Result<GrowingList, Stop>
     requires are_kept { AreKept (trees_of scene.now.tops.now.forest) scene.now.kept.now }
     ensures done { IfOk result (Gives (trees_of scene.now.tops.now.forest) scene.now.kept.now high.new (λ free path. resolved_list free (trees_of list.now) room (trees_of scene.now.tops.now.forest) path start)) }
     ensures rises { high.old ≤ high.new }
@@ -143,12 +165,17 @@ pub fn resolve_list(
     ensures stop { high.old ≤ scene.now.free → IfErr result (λ stop. Stops (trees_of scene.now.tops.now.forest) scene.now.kept.now scene.now.free scene.now.path.now stop (resolved_list scene.now.free (trees_of list.now) room (trees_of scene.now.tops.now.forest) scene.now.path.now start)) }
 {
     let mut done = start;
+    let mut before: Option<&Node> = None;
     for node in &list.nodes {
+        if repeats(before, node) {
+            continue;
+        }
         let next = take_in(alloc, scene, node, room, done, high)?;
         match within(MAX_LIST_NODES, node.place, next) {
             Ok(kept) => done = kept,
             Err(fault) => return Err(Stop::Fault(fault)),
         }
+        before = Some(node);
     }
     Ok(done)
 }

@@ -3,6 +3,7 @@ ghost use Rattle.yaml_lines.specs.Trees.{trees_of};
 ghost use Rattle.yaml_merge.specs.Kept.{IsClear};
 ghost use Rattle.yaml_merge.specs.declared.TheConstants.{MAX_PATH};
 
+use crate::keyed::Keyed;
 use crate::resolved::Resolved;
 use crate::tops::Tops;
 use yaml_lines::Text;
@@ -16,6 +17,8 @@ pub struct Scene<'a> {
     pub kept: &'a [Option<Resolved>],
     /// The names that are being resolved.
     pub path: &'a [Text],
+    /// What makes the hashers of indexes.
+    pub keyed: &'a Keyed,
     /// How many more names the path may get.
     pub free: usize,
     ghost low: { free < MAX_PATH },

@@ -8,7 +8,8 @@ ghost use Rattle.yaml_merge.specs.Resolving.{inherits, removes, in_path, within,
 ghost use Rattle.yaml_merge.specs.Resolving.{removed};
 
 use crate::fault::MergeFault;
-use crate::level::Level;
+use crate::growing_list::GrowingList;
+use crate::keyed::Keyed;
 use crate::merging::merge;
 use crate::resolved::Resolved;
 use crate::sizes::has_levels;
@@ -61,7 +62,7 @@ pub fn in_path(name: &[u8], path: &[Text]) -> bool
 
 /// The list, where it isn't too large.
 #[tactic(auto, using(crate::proofs::StepSteps::within_steps))]
-pub fn within(limit: usize, place: Place, list: Level) -> Result<Level, MergeFault>
+pub fn within(limit: usize, place: Place, list: GrowingList) -> Result<GrowingList, MergeFault>
     ensures kept { IfOk result (λ level. within limit place list ≡ Ok level) }
     ensures fault { IfErr result (λ fault. within limit place list ≡ Err fault) }
 {
@@ -71,13 +72,20 @@ pub fn within(limit: usize, place: Place, list: Level) -> Result<Level, MergeFau
     Ok(list)
 }
 
-/// The list without the node of a key.
-pub fn remove(key: &str, place: Place, list: Level) -> Result<Level, MergeFault>
+/// The list without the node of a key, which may be the end of a removal's key.
+pub fn remove(
+    alloc: Global,
+    removal: &Text,
+    key: &str,
+    place: Place,
+    list: GrowingList,
+) -> Result<GrowingList, MergeFault>
     ensures left { IfOk result (λ level. removed place (without key.now list) ≡ Ok level) }
-    ensures fault { IfErr result (λ fault. removed place (without key.now list) ≡ Err fault) }
+    ensures fault { IfErr result (λ fault. IsFault NoMemory fault (removed place (without key.now list))) }
 {
+    let key = removal.ending(alloc, key)?;
     let mut list = list;
-    if list.remove(key) {
+    if list.remove(alloc, &key) {
         Ok(list)
     } else {
         Err(MergeFault::NothingToRemove { place })
@@ -88,16 +96,17 @@ pub fn remove(key: &str, place: Place, list: Level) -> Result<Level, MergeFault>
 #[tactic(auto, using(crate::proofs::StepSteps::within_steps))]
 pub fn inherit(
     alloc: Global,
+    keyed: &Keyed,
     room: usize,
     place: Place,
-    list: Level,
+    list: GrowingList,
     parent: &Resolved,
-) -> Result<Level, MergeFault>
+) -> Result<GrowingList, MergeFault>
     ensures taken { IfOk result (λ level. inherited room place list (trees_of parent.now.children) ≡ Ok level) }
     ensures fault { IfErr result (λ fault. IsFault NoMemory fault (inherited room place list (trees_of parent.now.children))) }
 {
     if !has_levels(&parent.children, room) {
         return Err(MergeFault::TooDeep { place });
     }
-    Ok(merge(alloc, &parent.children, list)?)
+    Ok(merge(alloc, keyed, &parent.children, list)?)
 }

@@ -1,13 +1,16 @@
-ghost use Rattle.std.specs.Prelude.{◌≡◌, IfOk, IfSome, MatchOption, map, string_bytes, None, Some};
-ghost use Rattle.yaml_lines.specs.Trees.{trees_of};
-ghost use Rattle.yaml_merge.specs.Levels.{keys_of, Stands, children_from};
+ghost use Rattle.std.specs.Prelude.{◌≡◌, List, ℕ, IfOk, IfSome, MatchOption, None, Some};
+ghost use Rattle.std.specs.HashMap.{get};
+ghost use Rattle.std.specs.Str.{bytes_eq};
+ghost use Rattle.yaml_lines.specs.Trees.{trees_of, trees_of_nodes};
+ghost use Rattle.yaml_merge.specs.Levels.{Stands, children_from, place_in};
 ghost use Rattle.yaml_merge.specs.Resolving.{parent_of};
 
-use crate::level::{Body, Level};
+use crate::growing_list::{GrowingList, Slot};
+use crate::keyed::Keyed;
 use crate::steps::removes;
 use base::NoMemory;
-use indexmap::IndexSet;
 use std::alloc::Global;
+use std::collections::HashMap;
 use yaml_lines::{Forest, Node, Text};
 
 /// A complete list of nodes, whose nodes are found by their keys.
@@ -15,49 +18,77 @@ use yaml_lines::{Forest, Node, Text};
 pub struct Tops {
     /// The nodes, in order.
     pub forest: Forest,
-    pub(crate) names: IndexSet<String>,
-    ghost named: { map string_bytes names.keys ≡ keys_of (trees_of forest) },
+    pub(crate) names: HashMap<Text, usize, Keyed>,
+    ghost named: { (name : List ℕ) → get bytes_eq names name ≡ place_in name (trees_of forest) },
+}
+
+/// The nodes of a list that grows no more.
+pub fn complete(alloc: Global, list: GrowingList) -> Result<Forest, NoMemory>
+    ensures { IfOk result (λ forest. trees_of forest ≡ list) }
+{
+    let GrowingList {
+        slots,
+        index: _,
+        total: _,
+    } = list;
+    let mut nodes = Vec::with_capacity(alloc, slots.len())?;
+    for slot in slots {
+        let Slot {
+            key,
+            value,
+            place,
+            children,
+            live,
+        } = slot;
+        if live {
+            let children = complete(alloc, children)?;
+            nodes.push(Node {
+                key,
+                value,
+                place,
+                children,
+            })?;
+        }
+    }
+    Ok(Forest { nodes })
+}
+
+/// Where the first node of each key stands.
+fn names_of(
+    alloc: Global,
+    keyed: &Keyed,
+    nodes: &[Node],
+) -> Result<HashMap<Text, usize, Keyed>, NoMemory>
+    ensures { IfOk result (λ names. (name : List ℕ) → get bytes_eq names name ≡ place_in name (trees_of_nodes nodes.now)) }
+{
+    let mut names = HashMap::with_hasher(alloc, *keyed);
+    for (at, node) in nodes.iter().enumerate() {
+        if names.contains_key(&node.key) {
+            continue;
+        }
+        names.insert(node.key.copy()?, at)?;
+    }
+    Ok(names)
 }
 
 impl Tops {
     /// The nodes of a list that grows no more.
-    pub fn of(alloc: Global, level: Level) -> Result<Tops, NoMemory>
-        ensures { IfOk result (λ tops. trees_of tops.forest ≡ level) }
+    pub fn of(alloc: Global, keyed: &Keyed, list: GrowingList) -> Result<Tops, NoMemory>
+        ensures { IfOk result (λ tops. trees_of tops.forest ≡ list) }
     {
-        let Level {
-            keys,
-            bodies,
-            total: _,
-        } = level;
-        let mut nodes = Vec::with_capacity(alloc, bodies.len())?;
-        for (key, body) in keys.iter().zip(bodies) {
-            let Body {
-                value,
-                place,
-                children,
-            } = body;
-            let Tops { forest, names: _ } = Tops::of(alloc, children)?;
-            nodes.push(Node {
-                key: Text::from_string(String::from_str(alloc, key.as_str())?)?,
-                value,
-                place,
-                children: forest,
-            })?;
-        }
-        Ok(Tops {
-            forest: Forest { nodes },
-            names: keys,
-        })
+        let forest = complete(alloc, list)?;
+        let names = names_of(alloc, keyed, forest.nodes.as_slice())?;
+        Ok(Tops { forest, names })
     }
 
     /// The place of the node that a name names.
-    pub fn place_of(&self, name: &str) -> Option<usize>
+    pub fn place_of(&self, name: &Text) -> Option<usize>
         ensures parent { MatchOption result (parent_of name.now (trees_of self.now.forest) ≡ None) (λ at. parent_of name.now (trees_of self.now.forest) ≡ Some (children_from at (trees_of self.now.forest))) }
         ensures stands { IfSome result (λ at. Stands name.now at (trees_of self.now.forest)) }
     {
-        if removes(name.as_bytes()) {
+        if removes(name.as_str().as_bytes()) {
             return None;
         }
-        self.names.get_index_of(name)
+        self.names.get(name).copied()
     }
 }

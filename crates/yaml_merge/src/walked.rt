@@ -18,7 +18,7 @@ fn push_parents(tops: &Tops, list: &Forest, walk: &mut Vec<Walk>) -> Result<(), 
     for node in list.nodes.iter().rev() {
         let key = node.key.as_str().as_bytes();
         if inherits(key) {
-            if let Some(parent) = tops.place_of(node.value.as_str()) {
+            if let Some(parent) = tops.place_of(&node.value) {
                 walk.push(Walk::Enter(parent))?;
             }
         } else if !removes(key) {

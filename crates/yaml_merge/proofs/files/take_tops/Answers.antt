@@ -12,7 +12,7 @@ use Rattle.yaml_merge.proofs.DescentSteps.{node_key}
 use Rattle.yaml_merge.specs.Merging.{count}
 use Rattle.yaml_merge.specs.Resolving.{within, removes, added, resolved_tops}
 use Rattle.yaml_merge.proofs.KeptSteps.{slot_other}
-use Rattle.yaml_merge.proofs.LevelSteps.{count_added}
+use Rattle.yaml_merge.proofs.SlotSteps.{count_added}
 use Rattle.yaml_merge.proofs.NodeSteps.{added_last}
 use Rattle.yaml_merge.proofs.StepSteps.{within_small, within_large}
 use Rattle.yaml_merge.proofs.TopSteps.{width_forest}

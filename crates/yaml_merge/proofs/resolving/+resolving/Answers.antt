@@ -1,15 +1,20 @@
-use Rattle.std.proofs.Common.{◌≡◌, ◌∙◌, ap, drop, sym, inr, arith, true, false}
+use Rattle.std.proofs.Common.{◌≡◌, ◌≤◌, Ok, ◌∙◌, ap, drop, sym, subst, inr, arith, true, false}
 use Rattle.std.proofs.lemmas.List.{drop_all}
 use Rattle.std.proofs.lemmas.Result.{err_from_is_err_and}
 use Rattle.yaml_lines.specs.declared.forest.Forest.TheViews.{out-Node}
+use Rattle.base.specs.Steps.{IsFault}
+use Rattle.yaml_merge.specs.declared.fault.MergeFault.TheVariants.{NoMemory}
 use Rattle.yaml_lines.specs.Trees.{trees_of, trees_of_nodes}
-use Rattle.yaml_merge.specs.Merging.{joined, without}
+use Rattle.yaml_merge.specs.Merging.{count, joined, without}
+use Rattle.yaml_merge.specs.declared.TheConstants.{MAX_LIST_NODES}
 use Rattle.yaml_merge.specs.Resolving.{inherits, removes, removed, taken_in, resolved_list}
 use Rattle.yaml_merge.proofs.LevelLaws.{joined_emptied}
 use Rattle.yaml_merge.proofs.KeptSteps.{clear_less, stops_on, gives_same, stops_same, took_inherits}
 use Rattle.yaml_merge.proofs.KeptSteps.{took_removes, took_joins}
 use Rattle.yaml_merge.proofs.ListSteps.{join_done, resolved_none, resolved_step, resolved_fault}
 use Rattle.yaml_merge.proofs.ListSteps.{resolved_large}
+use Rattle.yaml_merge.proofs.AgainSteps.{taken_again, kept_within, repeated}
+use Rattle.yaml_merge.proofs.StepSteps.{within_small}
 use Rattle.yaml_merge.proofs.resolving.+resolving.Goals as goal
 
 pub join_node-returns-clause-taken : goal.join_node-returns-clause-taken
@@ -40,6 +45,7 @@ resolve_list-loop-node-preserved t c =
     let scene = c.args.scene.now in
     let tops = trees_of scene.tops.now.forest in
     let node = c.node-item.result in
+    let o = out-Node node in
     let taken = c.in_ok-next.ensures {u = tt} in
     let kept = c.in-Ok.ensures {u = tt} in
     record {
@@ -47,8 +53,33 @@ resolve_list-loop-node-preserved t c =
           resolved_step free c.args.room tops path c.deref-node-items.result.now c.loop-node.node-index node c.loop-node.done c.in_ok-next.next c.in-Ok.kept _
           (omega arith) c.node-item.is (taken.taken free path h clear) kept.kept
           (told.rest free path (omega (arith, h, taken.rises)) (clear_less tops scene.kept.now _ _ path taken.rises clear));
+      again = (
+        subst (λ l. count l ≤ MAX_LIST_NODES) (kept_within MAX_LIST_NODES o.place c.in_ok-next.next c.in-Ok.kept kept.kept).0 (kept_within MAX_LIST_NODES o.place c.in_ok-next.next c.in-Ok.kept kept.kept).1,
+        λ i free path h clear.
+        taken_again free c.args.room tops path o.key o.key o.value o.place o.place (trees_of o.children) (trees_of o.children) c.loop-node.done c.in-Ok.kept i i
+        (taken.taken free path h clear ∙ ap Ok (kept_within MAX_LIST_NODES o.place c.in_ok-next.next c.in-Ok.kept kept.kept).0),
+      );
       rises = omega (arith, told.rises, taken.rises);
       bound = λ b. taken.bound (told.bound b);
+    }
+
+pub resolve_list-loop-node-preserved-then-repeats : goal.resolve_list-loop-node-preserved-then-repeats
+resolve_list-loop-node-preserved-then-repeats t c =
+    let told = c.loop-node.invariant in
+    let scene = c.args.scene.now in
+    let tops = trees_of scene.tops.now.forest in
+    let node = c.node-item.result in
+    let o = out-Node node in
+    let done = c.loop-node.done in
+    let same = repeated tops scene.kept.now c.loop-node.high c.args.room done c.loop-node.before node told.again (c.if-repeats.ensures {u = tt}) in
+    record {
+      rest = λ free path h clear.
+          resolved_step free c.args.room tops path c.deref-node-items.result.now c.loop-node.node-index node done done done _
+          (omega arith) c.node-item.is (same.1 free path h clear) (within_small MAX_LIST_NODES o.place done same.0)
+          (told.rest free path h clear);
+      again = told.again;
+      rises = told.rises;
+      bound = told.bound;
     }
 
 pub resolve_list-returns-in-Err-clause-stop : goal.resolve_list-returns-in-Err-clause-stop
@@ -120,10 +151,11 @@ take_in-returns-in-Err-clause-stop t c = λ b.
     let o = out-Node c.args.node.now in
     let i : inherits o.key ≡ false = sym (c.inherits.ensures ∙ ap inherits (c.as_bytes.ensures.value ∙ c.as_str-key.ensures)) ∙ c.if-inherits.false in
     let gone = c.in-Some.ensures {u = tt} in
-    inr
+    subst (IsFault NoMemory c.in-Err.fault)
+    (sym
     (took_removes scene.free c.args.room tops scene.path.now o.key o.value o.place (trees_of o.children) c.args.list i (sym (ap removes c.as_str-key.ensures) ∙ gone.0)
-    ∙ ap (λ k. removed o.place (without k c.args.list)) (sym (gone.1 ∙ ap (drop 1) c.as_str-key.ensures))
-    ∙ (c.in-Err.ensures {u = tt}).fault)
+    ∙ ap (λ k. removed o.place (without k c.args.list)) (sym (gone.1 ∙ ap (drop 1) c.as_str-key.ensures))))
+    (c.in-Err.ensures {u = tt}).fault
 
 pub take_in-returns-in-None-clause-taken : goal.take_in-returns-in-None-clause-taken
 take_in-returns-in-None-clause-taken t c =

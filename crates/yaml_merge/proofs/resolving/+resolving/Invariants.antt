@@ -4,6 +4,7 @@ use Rattle.yaml_lines.specs.declared.forest.Node.{size-Node}
 use Rattle.yaml_lines.specs.Trees.{trees_of, trees_of_nodes}
 use Rattle.yaml_merge.specs.Kept.{IsClear}
 use Rattle.yaml_merge.specs.Resolving.{resolved_list}
+use Rattle.yaml_merge.proofs.AgainSteps.{IsAgain}
 use Rattle.yaml_merge.proofs.resolving.+resolving.Given as goal
 
 abbrev pub decreases-resolve_list : goal.decreases-resolve_list
@@ -20,6 +21,7 @@ invariant-resolve_list-loop-node l = record {
   rest : (free : ℕ) (path : List (List ℕ)) → l.high ≤ free → IsClear (trees_of l.scene.tops.now.forest) l.scene.kept.now l.high path →
       resolved_list free (trees_of_nodes (drop l.node-index l.node-items)) l.room (trees_of l.scene.tops.now.forest) path l.done
       ≡ resolved_list free (trees_of l.list) l.room (trees_of l.scene.tops.now.forest) path l.initial.done;
+  again : IsAgain (trees_of l.scene.tops.now.forest) l.scene.kept.now l.high l.room l.done l.before;
   rises : l.initial.high ≤ l.high;
   bound : l.initial.high ≤ l.scene.free → l.high ≤ l.scene.free;
 }

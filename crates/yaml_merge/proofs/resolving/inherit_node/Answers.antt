@@ -16,8 +16,8 @@ returns-in-None-clause-stop c =
     let value = (out-Node c.args.node.now).value in
     let at = c.in-Some.at in
     let found = c.in-Some.ensures {u = tt} in
-    let stands : Stands value at tops = subst (λ n. Stands n at tops) c.as_str-name.ensures found.stands in
-    let parent : parent_of value tops ≡ Some (children_from at tops) = subst (λ n. parent_of n tops ≡ Some (children_from at tops)) c.as_str-name.ensures found.parent in
+    let stands : Stands value at tops = found.stands in
+    let parent : parent_of value tops ≡ Some (children_from at tops) = found.parent in
     let absent : in_path value scene.path.now ≡ false =
     sym (c.in_path.ensures ∙ ap (λ n. in_path n scene.path.now) (c.as_bytes.ensures.value ∙ c.as_str-name.ensures)) ∙ c.if-in_path.false in (
       stands_within value at tops stands,
@@ -33,8 +33,8 @@ returns-in-Ok-clause-taken c = λ free path h clear.
     let value = (out-Node c.args.node.now).value in
     let at = c.in-Some.at in
     let found = c.in-Some.ensures {u = tt} in
-    let stands : Stands value at tops = subst (λ n. Stands n at tops) c.as_str-name.ensures found.stands in
-    let parent : parent_of value tops ≡ Some (children_from at tops) = subst (λ n. parent_of n tops ≡ Some (children_from at tops)) c.as_str-name.ensures found.parent in
+    let stands : Stands value at tops = found.stands in
+    let parent : parent_of value tops ≡ Some (children_from at tops) = found.parent in
     let held = c.in-Some-served.ensures {u = tt} in
     kept_serves tops scene.kept.now at c.in-Some-served.parent.now value _ free c.args.room path c.args.list c.requires.are_kept held.0 parent (stands_key value at tops stands)
     (omega (arith, h, c.max.ensures)) (clear_less tops scene.kept.now _ _ path (omega (arith, c.max.ensures)) clear)
@@ -47,8 +47,8 @@ returns-in-Err-clause-stop c =
     let value = (out-Node c.args.node.now).value in
     let at = c.in-Some.at in
     let found = c.in-Some.ensures {u = tt} in
-    let stands : Stands value at tops = subst (λ n. Stands n at tops) c.as_str-name.ensures found.stands in
-    let parent : parent_of value tops ≡ Some (children_from at tops) = subst (λ n. parent_of n tops ≡ Some (children_from at tops)) c.as_str-name.ensures found.parent in
+    let stands : Stands value at tops = found.stands in
+    let parent : parent_of value tops ≡ Some (children_from at tops) = found.parent in
     let held = c.in-Some-served.ensures {u = tt} in
     subst (IsFault NoMemory c.in-Err.fault)
     (sym (kept_serves tops scene.kept.now at c.in-Some-served.parent.now value _ scene.free c.args.room scene.path.now c.args.list c.requires.are_kept held.0 parent (stands_key value at tops stands)
