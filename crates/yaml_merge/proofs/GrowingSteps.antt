@@ -16,7 +16,7 @@ use Rattle.yaml_merge.specs.Resolving.{added}
 use Rattle.yaml_merge.specs.Slots.{standing, holds, LacksKey, StandsAt, IsFound, IsWhole, Finds, Forgets}
 use Rattle.yaml_merge.specs.Slots.{NoneLeft}
 use Rattle.yaml_merge.proofs.LevelLaws.{stands_children, emptied_stands, put_joined, added_joined}
-use Rattle.yaml_merge.proofs.LevelLaws.{without_at}
+use Rattle.yaml_merge.proofs.LevelLaws.{without_at, lacks_children, joined_below}
 use Rattle.yaml_merge.proofs.SlotSteps.{rank, refilled, is_live, stands_within, stands_holds}
 use Rattle.yaml_merge.proofs.SlotSteps.{stands_standing, lacks_standing, children_standing, put_standing}
 use Rattle.yaml_merge.proofs.SlotSteps.{emptied_standing, removed_standing, added_standing}
@@ -237,3 +237,19 @@ pub gone_list : (key : List ℕ) (at : ℕ) (slots others : List Slot) (slot : S
 gone_list key at slots others slot total n index next last dead list i w d b c f r v =
     let whole = dead_whole key at slots slot total n index next dead i w d b c f in
     dead_left key at slots slot dead list i d v ∙ ap Some (sym (dropped_list (total - (1 + n)) (set slots at dead) others next last r whole.1))
+
+-- A node without children joins the list.
+leaf_joined : (key value : List ℕ) (place : Place) (children list : Trees) → children ≡ children_at key list → joined key value place (λ _. children) list ≡ joined key value place (λ below. below) list
+leaf_joined key value place children list c = ap (λ x. joined key value place (λ _. x) list) c ∙ joined_below key value place (λ below. below) list
+
+pub filled_leaf : (key : List ℕ) (at : ℕ) (slots : List Slot) (slot : Slot) (fresh value : List ℕ) (place : Place) (list : Trees) → IsAt key at slots slot → fresh ≡ newer_value slot.value value →
+    standing slots ≡ list → standing (set slots at (refilled slot fresh place slot.children)) ≡ joined key value place (λ below. below) list
+filled_leaf key at slots slot fresh value place list i f v =
+    filled_joined key at slots slot fresh value place slot.children list i f v
+    ∙ leaf_joined key value place slot.children list (taken_children key at slots slot list i v)
+
+pub added_leaf : (key value : List ℕ) (slots more_slots : List Slot) (slot : Slot) (list : Trees) → more_slots ≡ slots ++ slot ∷ [] → slot.live ≡ true → LacksKey key slots → slot.key ≡ key → slot.value ≡ value →
+    slot.children ≡ none → standing slots ≡ list → standing more_slots ≡ joined key value slot.place (λ below. below) list
+added_leaf key value slots more_slots slot list m y l k v c s =
+    added_list key value slots more_slots slot list m y l k v s
+    ∙ leaf_joined key value slot.place slot.children list (c ∙ lacks_children key list (subst (Lacks key) s (lacks_standing key slots l)))

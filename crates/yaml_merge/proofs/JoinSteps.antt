@@ -4,7 +4,7 @@ use Rattle.std.proofs.lemmas.List.{drop_more}
 use Rattle.yaml_lines.specs.declared.forest.Node.{Node}
 use Rattle.yaml_lines.specs.declared.forest.Forest.TheViews.{out-Node}
 use Rattle.yaml_lines.specs.declared.place.Place.{Place}
-use Rattle.yaml_lines.specs.Trees.{Trees, trees_of, before, trees_of_nodes}
+use Rattle.yaml_lines.specs.Trees.{Trees, none, trees_of, before, trees_of_nodes}
 use Rattle.yaml_lines.proofs.TreeSteps.{before_out}
 use Rattle.yaml_merge.specs.Levels.{emptied}
 use Rattle.yaml_merge.specs.Merging.{joined, children_at, merged_into}
@@ -20,6 +20,11 @@ joined_back key value place old left taken children next below l t c n =
     ∙ joined_emptied key value place children old
     ∙ ap (λ x. joined key value place (λ _. x) old) (c ∙ ap below t)
     ∙ joined_below key value place below old
+
+-- A node without children.
+pub leaf_merged : (key value : List ℕ) (place : Place) (children old next : Trees) → children ≡ none → next ≡ joined key value place (λ below. below) old →
+    next ≡ joined key value place (merged_into children) old
+leaf_merged key value place children old next c n = n ∙ ap (λ t. joined key value place (merged_into t) old) (sym c)
 
 -- One more node of the first list taken into the second.
 pub merge_step : (nodes : List Node) (at : ℕ) (node : Node) (list next all : Trees) → at < length nodes → node ≡ get_or nodes at node →

@@ -14,6 +14,7 @@ use Rattle.yaml_merge.specs.declared.fault.MergeFault.TheVariants.{NoMemory}
 use Rattle.yaml_merge.specs.declared.TheConstants.{MAX_LIST_NODES}
 use Rattle.yaml_merge.specs.Merging.{joined, children_at}
 use Rattle.yaml_merge.specs.Resolving.{Outcome, within, taken_in, resolved_list}
+use Rattle.yaml_merge.proofs.LevelLaws.{joined_below}
 
 -- The measure falls where a parent is looked into.
 pub falls : (free s c n : ℕ) → 0 < free → c < s → 4 * ((free - 1) * (s + 1) + c) + 3 < 4 * (free * (s + 1) + n) + 1
@@ -94,3 +95,13 @@ pub join_done : (free room : ℕ) (tops : Trees) (path : List (List ℕ)) (key v
 join_done free room tops path key value place children list old below next c r n =
     let f : Trees → Outcome = λ b. Ok (joined key value place (λ _. b) list) in
     ap (λ o. resolved_list free children (room - 1) tops path o >>= f) c ∙ ap (λ o. o >>= f) r ∙ ap Ok (sym n)
+
+-- A node without children joined to the list.
+pub leaf_done : (free room : ℕ) (tops : Trees) (path : List (List ℕ)) (key value : List ℕ) (place : Place) (children list next : Trees) → children ≡ none →
+    next ≡ joined key value place (λ below. below) list →
+    (resolved_list free children (room - 1) tops path (children_at key list) >>= λ (b : Trees). Ok (joined key value place (λ _. b) list)) ≡ Ok next
+leaf_done free room tops path key value place children list next c n =
+    let f : Trees → Outcome = λ b. Ok (joined key value place (λ _. b) list) in
+    ap (λ l. resolved_list free l (room - 1) tops path (children_at key list) >>= f) c
+    ∙ ap (λ o. o >>= f) (resolved_none free (room - 1) tops path (children_at key list))
+    ∙ ap Ok (joined_below key value place (λ below. below) list ∙ sym n)

@@ -10,9 +10,9 @@ use Rattle.std.specs.Str.{bytes_eq}
 use Rattle.yaml_lines.specs.declared.place.Place.{Place}
 use Rattle.yaml_lines.specs.declared.forest.Forest.{Forest}
 use Rattle.yaml_lines.specs.declared.forest.Node.{Node}
-use Rattle.yaml_lines.specs.declared.forest.Forest.TheViews.{roll-Node, out-Node}
+use Rattle.yaml_lines.specs.declared.forest.Forest.TheViews.{roll-Node, out-Node, out-Forest}
 use Rattle.yaml_lines.specs.Trees.{Trees, none, more, trees_of, before, trees_of_nodes}
-use Rattle.yaml_lines.proofs.TreeSteps.{before_out, before_roll}
+use Rattle.yaml_lines.proofs.TreeSteps.{before_out, before_roll, trees_out}
 use Rattle.yaml_merge.specs.Levels.{Stands, place_in, width}
 use Rattle.yaml_merge.specs.Merging.{Lacks}
 use Rattle.yaml_merge.specs.Resolving.{added}
@@ -124,3 +124,13 @@ names_old nodes at node old h n f k name =
     kept_first (old name) (bytes_eq key name) at (λ y. sym (ap (λ x. is_some (old x)) ((bytes_eq-Decides key name).0 y)) ∙ f)
     ∙ ap (λ o. or_last o (bytes_eq key name) at) (k name)
     ∙ sym (place_more name nodes at node h n)
+
+-- A list without nodes.
+pub no_nodes : (list : Forest) (nodes : List Node) → nodes ≡ (out-Forest list).nodes.items → nodes ≡ [] → trees_of list ≡ none
+no_nodes list nodes n e = trees_out list ∙ ap trees_of_nodes (sym n ∙ e)
+
+pub no_nodes_long : (list : Forest) (nodes : List Node) → nodes ≡ (out-Forest list).nodes.items → length nodes ≡ 0 → trees_of list ≡ none
+no_nodes_long list [] n e = no_nodes list [] n refl
+no_nodes_long list (node ∷ nodes) n e = absurd (omega (arith, e))
+
+pub ruleset leaf_steps = (no_nodes, no_nodes_long)

@@ -147,6 +147,47 @@ impl GrowingList {
         }
     }
 
+    /// Joins a node without children to the list: the node with its key keeps the children that it
+    /// has.
+    pub fn join_leaf(
+        &mut self,
+        alloc: Global,
+        keyed: &Keyed,
+        key: &Text,
+        value: &Text,
+        place: Place,
+    ) -> Result<(), NoMemory>
+        ensures { OnOk result (self.new ≡ joined key.now value.now place (λ below. below) self.old) }
+    {
+        let value = value.copy()?;
+        match self.index.find(self.slots.as_slice(), key) {
+            Some(at) => {
+                let slot = &mut self.slots[at];
+                renew(&mut slot.value, value);
+                slot.place = place;
+                Ok(())
+            }
+            None => {
+                let Some(total) = self.total.checked_add(1) else {
+                    return Err(AllocError);
+                };
+                let key = key.copy()?;
+                self.slots.reserve(1)?;
+                self.index.add(alloc, keyed, self.slots.as_slice(), &key)?;
+                let children = GrowingList::new(alloc);
+                self.slots.push_reserved(Slot {
+                    key,
+                    value,
+                    place,
+                    children,
+                    live: true,
+                });
+                self.total = total;
+                Ok(())
+            }
+        }
+    }
+
     /// Removes the node with this key, and says whether there was one.
     pub fn remove(&mut self, alloc: Global, key: &Text) -> bool
         ensures { without key.now self.old ≡ (if result then Some self.new else None) }

@@ -4,6 +4,7 @@ ghost use Rattle.yaml_merge.specs.Merging.{merged_into};
 
 use crate::growing_list::GrowingList;
 use crate::keyed::Keyed;
+use crate::sizes::is_leaf;
 use base::NoMemory;
 use std::alloc::Global;
 use yaml_lines::Forest;
@@ -19,6 +20,10 @@ pub fn merge(
 {
     let mut list = old;
     for node in &new.nodes {
+        if is_leaf(&node.children) {
+            list.join_leaf(alloc, keyed, &node.key, &node.value, node.place)?;
+            continue;
+        }
         let children = list.take(alloc, &node.key);
         let children = merge(alloc, keyed, &node.children, children)?;
         list.join(alloc, keyed, &node.key, &node.value, node.place, children)?;

@@ -13,6 +13,7 @@ use crate::keeping::held_at;
 use crate::growing_list::GrowingList;
 use crate::resolved::Resolved;
 use crate::scene::Scene;
+use crate::sizes::is_leaf;
 use crate::steps::{in_path, inherit, inherits, removal, remove, within};
 use crate::stop::Stop;
 use std::alloc::Global;
@@ -90,6 +91,10 @@ fn join_node(
     ensures stop { high.old ≤ scene.now.free → IfErr result (λ stop. Stops (trees_of scene.now.tops.now.forest) scene.now.kept.now scene.now.free scene.now.path.now stop (join_step (out-Node node.now).key (out-Node node.now).value (out-Node node.now).place (λ old. resolved_list scene.now.free (trees_of (out-Node node.now).children) (room - 1) (trees_of scene.now.tops.now.forest) scene.now.path.now old) list)) }
 {
     let mut list = list;
+    if is_leaf(&node.children) {
+        list.join_leaf(alloc, scene.keyed, &node.key, &node.value, node.place)?;
+        return Ok(list);
+    }
     let children = list.take(alloc, &node.key);
     let room = room.saturating_sub(1);
     let children = resolve_list(alloc, scene, &node.children, room, children, high)?;

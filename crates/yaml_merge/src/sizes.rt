@@ -1,8 +1,20 @@
 ghost use Rattle.std.specs.Prelude.{◌≡◌, nat_le};
-ghost use Rattle.yaml_lines.specs.Trees.{trees_of};
+ghost use Rattle.std.specs.Bool.{OnTrue};
+ghost use Rattle.yaml_lines.specs.Trees.{none, trees_of};
 ghost use Rattle.yaml_merge.specs.Merging.{levels};
 
 use yaml_lines::Forest;
+
+/// Whether the list has no nodes.
+#[tactic(auto, using(crate::proofs::NodeSteps::leaf_steps))]
+pub fn is_leaf(list: &Forest) -> bool
+    ensures { OnTrue result (trees_of list.now ≡ none) }
+{
+    match list.nodes.as_slice() {
+        [] => true,
+        _ => false,
+    }
+}
 
 /// Whether the list has no more than this many levels.
 #[tactic(auto, using(crate::proofs::SizeSteps::size_steps))]

@@ -11,7 +11,7 @@ use Rattle.yaml_merge.specs.Resolving.{inherits, removes, removed, taken_in, res
 use Rattle.yaml_merge.proofs.LevelLaws.{joined_emptied}
 use Rattle.yaml_merge.proofs.KeptSteps.{clear_less, stops_on, gives_same, stops_same, took_inherits}
 use Rattle.yaml_merge.proofs.KeptSteps.{took_removes, took_joins}
-use Rattle.yaml_merge.proofs.ListSteps.{join_done, resolved_none, resolved_step, resolved_fault}
+use Rattle.yaml_merge.proofs.ListSteps.{join_done, leaf_done, resolved_none, resolved_step, resolved_fault}
 use Rattle.yaml_merge.proofs.ListSteps.{resolved_large}
 use Rattle.yaml_merge.proofs.AgainSteps.{taken_again, kept_within, repeated}
 use Rattle.yaml_merge.proofs.StepSteps.{within_small}
@@ -176,3 +176,9 @@ take_in-returns-in-None-clause-stop t c = λ b.
     let r : removes o.key ≡ false = sym (ap removes c.as_str-key.ensures) ∙ c.in-None.ensures {u = tt} in
     stops_same tops scene.kept.now scene.free scene.path.now _ _ _
     (sym (took_joins scene.free c.args.room tops scene.path.now o.key o.value o.place (trees_of o.children) c.args.list i r)) (c.join_node.ensures.stop b)
+
+pub join_node-returns-then-is_leaf-clause-taken : goal.join_node-returns-then-is_leaf-clause-taken
+join_node-returns-then-is_leaf-clause-taken t c = λ free path h clear.
+    let node = out-Node c.args.node.now in
+    leaf_done free c.args.room (trees_of c.args.scene.now.tops.now.forest) path node.key node.value node.place (trees_of node.children) c.args.list c.join_leaf.new.self
+    (c.if-is_leaf.ensures {u = tt}) (c.in_ok-join_leaf.ensures {u = tt})
