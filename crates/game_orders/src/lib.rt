@@ -10,12 +10,18 @@ mod entry;
 mod frame;
 mod limits;
 mod order;
+mod order_fault;
+mod order_reading;
 mod orders;
+mod orders_fault;
 mod per_client;
 
 pub use entry::Entry;
 pub use frame::Frame;
 pub use limits::{MAX_CLIENTS, MAX_FRAMES, MAX_LAG, MAX_ORDERS};
 pub use order::Order;
+pub use order_fault::OrderFault;
+pub use order_reading::read_order;
 pub use orders::Orders;
+pub use orders_fault::OrdersFault;
 pub use per_client::PerClient;
