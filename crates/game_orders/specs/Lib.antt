@@ -4,3 +4,5 @@ pub mod Entry
 pub mod EntryLemmas
 pub mod OrderBytes
 pub mod OrderReading
+pub mod OrderBytesLemmas
+pub mod OrdersLemmas

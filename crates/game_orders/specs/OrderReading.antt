@@ -1,6 +1,6 @@
 -- Orders read from bytes, from the left: the value and the bytes after it, or the first fault.
 use Rattle.std.specs.Prelude.{◌≡◌, ℕ, zero, suc, ◌==◌, nat_lt, Bool, true, false, if◌then◌else◌}
-use Rattle.std.specs.Prelude.{List, [], ◌∷◌, Result, Ok, Err}
+use Rattle.std.specs.Prelude.{List, [], ◌∷◌, ◌++◌, Result, Ok, Err}
 use Rattle.base.specs.Steps.{◌>>=◌}
 use Rattle.wire_bytes.specs.Read.{number_at}
 use Rattle.world_units.specs.declared.cell.CPos.{CPos}
@@ -92,16 +92,14 @@ abbrev pub in_list : OrderRead Order → Result (Order × List ℕ) OrdersFault
 in_list (Ok read) = Ok read
 in_list (Err fault) = Err (list_fault fault)
 
--- So many orders, one after the other.
-unfoldable pub orders_from : ℕ → List ℕ → OrdersRead
-orders_from zero bytes = Ok ([], bytes)
-orders_from (suc more) bytes = do
-  first ← in_list (order_at bytes)
-  others ← orders_from more first.1
-  Ok (first.0 ∷ others.0, others.1)
+-- So many more orders after those that are held.
+unfoldable pub orders_after : List Order → ℕ → List ℕ → OrdersRead
+orders_after held zero bytes = Ok (held, bytes)
+orders_after held (suc more) bytes =
+    in_list (order_at bytes) >>= λ next. orders_after (held ++ next.0 ∷ []) more next.1
 
 -- The orders of one client for one frame: their number, at most `MAX_ORDERS`, then each of them.
 unfoldable pub orders_at : List ℕ → OrdersRead
 orders_at bytes = do
   count ← number_at orders_fault.Short 1 bytes
-  if nat_lt MAX_ORDERS count.0 then Err orders_fault.TooMany else orders_from count.0 count.1
+  if nat_lt MAX_ORDERS count.0 then Err orders_fault.TooMany else orders_after [] count.0 count.1

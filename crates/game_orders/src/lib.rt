@@ -8,20 +8,28 @@
 
 mod entry;
 mod frame;
+mod law;
 mod limits;
 mod order;
 mod order_fault;
 mod order_reading;
+mod order_writing;
 mod orders;
 mod orders_fault;
+mod orders_reading;
+mod orders_writing;
 mod per_client;
 
 pub use entry::Entry;
 pub use frame::Frame;
+pub use law::{order_is_read_back, orders_are_read_back};
 pub use limits::{MAX_CLIENTS, MAX_FRAMES, MAX_LAG, MAX_ORDERS};
 pub use order::Order;
 pub use order_fault::OrderFault;
 pub use order_reading::read_order;
+pub use order_writing::{order_fits, write_order};
 pub use orders::Orders;
 pub use orders_fault::OrdersFault;
+pub use orders_reading::read_orders;
+pub use orders_writing::write_orders;
 pub use per_client::PerClient;

@@ -5,7 +5,7 @@ use Rattle.std.proofs.lemmas.Bool.{lt-ltb, le-ltb}
 use Rattle.std.proofs.lemmas.List.{take-append-drop, length-take-le, length-append, drop_at}
 use Rattle.wire_bytes.specs.declared.short.Short.{Short}
 use Rattle.wire_bytes.specs.Field.{field_bytes, field_number}
-use Rattle.wire_bytes.specs.Read.{field_at, ReadsField, TakesField}
+use Rattle.wire_bytes.specs.Read.{field_at, number_at, with_fault, ReadsField, TakesField}
 use Rattle.wire_bytes.specs.FieldLemmas.{field_of_prefix, field_bytes_back, field_length}
 use Rattle.wire_bytes.specs.FieldLemmas.{field_reads_back}
 
@@ -61,3 +61,10 @@ written_is_read width number rest fits =
     le-ltb (length (bytes ++ rest)) width enough in
     rw (some, field_reads_back width number rest fits,
     drop_at bytes rest width (field_length width number)) refl
+
+-- The same with the fault of another reader.
+pub number_again :
+    {F : Type 0} (short : F) (width number : ℕ) (rest : List ℕ) → number < 256 ^ width →
+    number_at short width (field_bytes width number ++ rest) ≡ Ok (number, rest)
+number_again short width number rest fits =
+    ap (with_fault short) (written_is_read width number rest fits)

@@ -1,0 +1,113 @@
+-- Lists of orders that are read one by one.
+use Rattle.std.specs.Prelude.{◌≡◌, ℕ, zero, suc, ◌+◌, ◌-◌, ◌<◌, ◌≤◌, nat_lt, List, [], ◌∷◌, ◌++◌}
+use Rattle.std.specs.Prelude.{length, take, Ok, Err, false}
+use Rattle.std.specs.List.{AllByRecursion}
+use Rattle.std.proofs.Common.{refl, sym, ap, ◌∙◌, arith, append_assoc, get_or}
+use Rattle.std.proofs.lemmas.Bool.{le-ltb}
+use Rattle.std.proofs.lemmas.List.{append-nil, take_more}
+use Rattle.wire_bytes.specs.Field.{field_bytes}
+use Rattle.wire_bytes.specs.ReadLemmas.{written_is_read}
+use Rattle.wire_bytes.specs.WriteLemmas.{extends_once}
+use Rattle.game_orders.specs.declared.limits.TheConstants.{MAX_ORDERS}
+use Rattle.game_orders.specs.declared.order.Order.{Order}
+use Rattle.game_orders.specs.declared.order_fault.OrderFault.{OrderFault}
+use Rattle.game_orders.specs.declared.orders_fault.OrdersFault.{OrdersFault}
+use Rattle.game_orders.specs.declared.orders_fault.OrdersFault.TheVariants as orders_fault
+use Rattle.game_orders.specs.OrderBytes.{order_bytes, each_order, orders_bytes, FitsOrder, FitsOrders}
+use Rattle.game_orders.specs.OrderBytesLemmas.{order_again}
+use Rattle.game_orders.specs.OrderReading.{OrdersRead, list_fault, order_at, orders_after, orders_at}
+
+-- One more order was read of so many.
+pub next_is_held :
+    (held : List Order) (count done : ℕ) (bytes after : List ℕ) (order : Order)
+    (total : OrdersRead) → done < count → order_at bytes ≡ Ok (order, after) →
+    orders_after held (count - done) bytes ≡ total →
+    orders_after (held ++ order ∷ []) (count - (done + 1)) after ≡ total
+unfolding orders_after
+next_is_held held count done bytes after order total some read so_far =
+    let left : count - done ≡ suc (count - (done + 1)) = omega arith in
+    let step : orders_after held (count - done) bytes
+    ≡ orders_after (held ++ order ∷ []) (count - (done + 1)) after = rw (left, read) refl in
+    sym step ∙ so_far
+
+-- The next order is none.
+pub next_is_bad :
+    (held : List Order) (count done : ℕ) (bytes : List ℕ) (fault : OrderFault)
+    (total : OrdersRead) → done < count → order_at bytes ≡ Err fault →
+    orders_after held (count - done) bytes ≡ total → total ≡ Err (list_fault fault)
+unfolding orders_after
+next_is_bad held count done bytes fault total some read so_far =
+    let left : count - done ≡ suc (count - (done + 1)) = omega arith in
+    let step : orders_after held (count - done) bytes ≡ Err (list_fault fault) =
+    rw (left, read) refl in
+    sym so_far ∙ step
+
+-- All were read.
+pub all_are_held :
+    (held : List Order) (count done : ℕ) (bytes : List ℕ) (total : OrdersRead) → count ≤ done →
+    orders_after held (count - done) bytes ≡ total → total ≡ Ok (held, bytes)
+unfolding orders_after
+all_are_held held count done bytes total all so_far =
+    let none : count - done ≡ 0 = omega arith in
+    let end : orders_after held (count - done) bytes ≡ Ok (held, bytes) = rw none refl in
+    sym so_far ∙ end
+
+-- The spellings of orders read as the orders, whatever follows them.
+each_again :
+    (held orders : List Order) (rest : List ℕ) → AllByRecursion FitsOrder orders →
+    orders_after held (length orders) (each_order orders ++ rest) ≡ Ok (held ++ orders, rest)
+unfolding orders_after
+each_again held [] rest fits = ap (λ (all : List Order). Ok (all, rest)) (sym (append-nil held))
+each_again held (order ∷ orders) rest fits =
+    ap (orders_after held (suc (length orders)))
+    (append_assoc (order_bytes order) (each_order orders) rest)
+    ∙ rw (order_again order (each_order orders ++ rest) fits.0)
+    (each_again (held ++ order ∷ []) orders rest fits.1
+    ∙ ap (λ (all : List Order). Ok (all, rest)) (append_assoc held (order ∷ []) orders))
+
+-- The spelling of a client's orders reads as the orders, whatever follows it.
+pub orders_again : (orders : List Order) (rest : List ℕ) → FitsOrders orders →
+    orders_at (orders_bytes orders ++ rest) ≡ Ok (orders, rest)
+unfolding orders_at orders_bytes
+orders_again orders rest fits =
+    let few : nat_lt MAX_ORDERS (length orders) ≡ false =
+    le-ltb MAX_ORDERS (length orders) fits.0 in
+    ap orders_at (append_assoc (field_bytes 1 (length orders)) (each_order orders) rest)
+    ∙ rw (written_is_read 1 (length orders) (each_order orders ++ rest)
+    (omega (arith, fits.0)), few)
+    (each_again [] orders rest fits.1)
+
+-- The spelling of one order more.
+pub each_more : (held : List Order) (order : Order) →
+    each_order (held ++ order ∷ []) ≡ each_order held ++ order_bytes order
+each_more [] order = append-nil (order_bytes order)
+each_more (first ∷ held) order =
+    ap (λ (bytes : List ℕ). order_bytes first ++ bytes) (each_more held order)
+    ∙ sym (append_assoc (order_bytes first) (each_order held) (order_bytes order))
+
+-- The bytes of one order more.
+pub each_spelled :
+    (held : List Order) (order : Order) (all bytes after : List ℕ) →
+    all ≡ each_order held ++ bytes → bytes ≡ order_bytes order ++ after →
+    all ≡ each_order (held ++ order ∷ []) ++ after
+each_spelled held order all bytes after so_far spelled =
+    so_far ∙ ap (λ (rest : List ℕ). each_order held ++ rest) spelled
+    ∙ sym (append_assoc (each_order held) (order_bytes order) after)
+    ∙ ap (λ (front : List ℕ). front ++ after) (sym (each_more held order))
+
+pub ruleset reading_steps = (next_is_held, next_is_bad, all_are_held, each_spelled)
+
+-- One order more was written.
+pub each_written :
+    (orders : List Order) (i : ℕ) (order : Order) (old mid new : List ℕ) → i < length orders →
+    order ≡ get_or orders i order → mid ≡ old ++ each_order (take i orders) →
+    new ≡ mid ++ order_bytes order → new ≡ old ++ each_order (take (i + 1) orders)
+each_written orders i order old mid new within at so_far is =
+    let more : take (i + 1) orders ≡ take i orders ++ order ∷ [] =
+    take_more orders i order within
+    ∙ ap (λ (last : Order). take i orders ++ last ∷ []) (sym at) in
+    rw more (is ∙ ap (λ (front : List ℕ). front ++ order_bytes order) so_far
+    ∙ append_assoc old (each_order (take i orders)) (order_bytes order)
+    ∙ ap (λ (tail : List ℕ). old ++ tail) (sym (each_more (take i orders) order)))
+
+pub ruleset writing_steps = (extends_once, each_written)
