@@ -1,8 +1,10 @@
 -- What an order's spelling reads as, whatever follows it.
 use Rattle.std.specs.Prelude.{◌≡◌, ℕ, ◌<◌, ◌^◌, Bool, true, false, List, ◌++◌, Ok}
-use Rattle.std.proofs.Common.{refl, ap, ◌∙◌, arith, append_assoc}
+use Rattle.std.proofs.Common.{refl, ap, ◌∙◌, arith, append_assoc, length, ◌+◌}
 use Rattle.world_units.specs.declared.cell.CPos.{CPos}
+use Rattle.std.proofs.lemmas.List.{length-append}
 use Rattle.wire_bytes.specs.Field.{field_bytes}
+use Rattle.wire_bytes.specs.FieldLemmas.{field_length}
 use Rattle.wire_bytes.specs.ReadLemmas.{written_is_read}
 use Rattle.game_orders.specs.declared.order.Order.{Order}
 use Rattle.game_orders.specs.declared.order.Order.TheVariants.{Move, Attack, Harvest, Stop}
@@ -115,3 +117,54 @@ order_again order rest fits =
     ap order_at (regroup_2 (field_bytes 1 (tag_of order)) (fields_bytes order) rest)
     ∙ rw (written_is_read 1 (tag_of order) (fields_bytes order ++ rest) (tag_fits order))
     (fields_again order rest fits)
+
+-- How many bytes an order's spelling has.
+abbrev pub order_size : Order → ℕ
+order_size (Move actor cell queued) = 8
+order_size (Attack actor target queued) = 10
+order_size (Harvest actor cell queued) = 8
+order_size (Stop actor) = 5
+order_size (Produce actor kind) = 7
+order_size (Cancel actor) = 5
+order_size (Donate to amount) = 6
+order_size (Pace ticks) = 2
+
+length_2 : (a b : List ℕ) → length (a ++ b) ≡ length a + length b
+length_2 a b = length-append a b
+
+length_3 : (a b c : List ℕ) → length (a ++ b ++ c) ≡ length a + length b + length c
+length_3 a b c = length-append (a ++ b) c ∙ ap (λ (n : ℕ). n + length c) (length-append a b)
+
+length_4 : (a b c d : List ℕ) → length (a ++ b ++ c ++ d) ≡ length a + length b + length c + length d
+length_4 a b c d =
+    length-append (a ++ b ++ c) d ∙ ap (λ (n : ℕ). n + length d) (length_3 a b c)
+
+way_size : (actor : ℕ) (cell : CPos) (queued : Bool) → length (way_bytes actor cell queued) ≡ 7
+way_size actor cell queued =
+    length_4 (field_bytes 4 actor) (field_bytes 1 cell.x) (field_bytes 1 cell.y)
+    (field_bytes 1 (flag_number queued))
+    ∙ rw (field_length 4 actor, field_length 1 cell.x, field_length 1 cell.y,
+    field_length 1 (flag_number queued)) refl
+
+fields_size : (order : Order) → length (fields_bytes order) + 1 ≡ order_size order
+fields_size (Move actor cell queued) = rw (way_size actor cell queued) refl
+fields_size (Attack actor target queued) =
+    ap (λ (n : ℕ). n + 1) (length_3 (field_bytes 4 actor) (field_bytes 4 target)
+    (field_bytes 1 (flag_number queued)))
+    ∙ rw (field_length 4 actor, field_length 4 target, field_length 1 (flag_number queued)) refl
+fields_size (Harvest actor cell queued) = rw (way_size actor cell queued) refl
+fields_size (Stop actor) = rw (field_length 4 actor) refl
+fields_size (Produce actor kind) =
+    ap (λ (n : ℕ). n + 1) (length_2 (field_bytes 4 actor) (field_bytes 2 kind))
+    ∙ rw (field_length 4 actor, field_length 2 kind) refl
+fields_size (Cancel actor) = rw (field_length 4 actor) refl
+fields_size (Donate to amount) =
+    ap (λ (n : ℕ). n + 1) (length_2 (field_bytes 1 to) (field_bytes 4 amount))
+    ∙ rw (field_length 1 to, field_length 4 amount) refl
+fields_size (Pace ticks) = rw (field_length 1 ticks) refl
+
+pub order_bytes_size : (order : Order) → length (order_bytes order) ≡ order_size order
+unfolding order_bytes
+order_bytes_size order =
+    length_2 (field_bytes 1 (tag_of order)) (fields_bytes order)
+    ∙ rw (field_length 1 (tag_of order)) (omega (arith, fields_size order))

@@ -4,8 +4,9 @@ use Rattle.std.specs.Prelude.{length, take, Ok, Err, false}
 use Rattle.std.specs.List.{AllByRecursion}
 use Rattle.std.proofs.Common.{refl, sym, ap, ◌∙◌, arith, append_assoc, get_or}
 use Rattle.std.proofs.lemmas.Bool.{le-ltb}
-use Rattle.std.proofs.lemmas.List.{append-nil, take_more}
+use Rattle.std.proofs.lemmas.List.{append-nil, length-append, take_more, take_all}
 use Rattle.wire_bytes.specs.Field.{field_bytes}
+use Rattle.wire_bytes.specs.FieldLemmas.{field_length}
 use Rattle.wire_bytes.specs.ReadLemmas.{written_is_read}
 use Rattle.wire_bytes.specs.WriteLemmas.{extends_once}
 use Rattle.game_orders.specs.declared.limits.TheConstants.{MAX_ORDERS}
@@ -14,7 +15,7 @@ use Rattle.game_orders.specs.declared.order_fault.OrderFault.{OrderFault}
 use Rattle.game_orders.specs.declared.orders_fault.OrdersFault.{OrdersFault}
 use Rattle.game_orders.specs.declared.orders_fault.OrdersFault.TheVariants as orders_fault
 use Rattle.game_orders.specs.OrderBytes.{order_bytes, each_order, orders_bytes, FitsOrder, FitsOrders}
-use Rattle.game_orders.specs.OrderBytesLemmas.{order_again}
+use Rattle.game_orders.specs.OrderBytesLemmas.{order_again, order_bytes_size}
 use Rattle.game_orders.specs.OrderReading.{OrdersRead, list_fault, order_at, orders_after, orders_at}
 
 -- One more order was read of so many.
@@ -111,3 +112,37 @@ each_written orders i order old mid new within at so_far is =
     ∙ ap (λ (tail : List ℕ). old ++ tail) (sym (each_more (take i orders) order)))
 
 pub ruleset writing_steps = (extends_once, each_written)
+
+-- The length of one order more.
+pub each_longer :
+    (orders : List Order) (i : ℕ) (order : Order) (before now more : ℕ) → i < length orders →
+    order ≡ get_or orders i order → before ≡ 1 + length (each_order (take i orders)) →
+    more ≡ length (order_bytes order) → now ≡ before + more →
+    now ≡ 1 + length (each_order (take (i + 1) orders))
+each_longer orders i order before now more within at so_far more_is is =
+    let taken : take (i + 1) orders ≡ take i orders ++ order ∷ [] =
+    take_more orders i order within
+    ∙ ap (λ (last : Order). take i orders ++ last ∷ []) (sym at) in
+    let whole : each_order (take (i + 1) orders)
+    ≡ each_order (take i orders) ++ order_bytes order =
+    ap each_order taken ∙ each_more (take i orders) order in
+    let size = length-append (each_order (take i orders)) (order_bytes order) in
+    rw whole (omega (arith, size, so_far, more_is, is))
+
+-- The length of the count and all orders.
+pub all_long : (orders : List Order) →
+    length (field_bytes 1 (length orders) ++ each_order orders) ≡ 1 + length (each_order orders)
+all_long orders =
+    length-append (field_bytes 1 (length orders)) (each_order orders)
+    ∙ rw (field_length 1 (length orders)) refl
+
+pub ruleset length_steps = (order_bytes_size, each_longer, all_long)
+
+-- The length of the count and of all orders that were gone over.
+pub all_counted :
+    (orders items : List Order) (i count : ℕ) → items ≡ orders → length items ≤ i →
+    count ≡ 1 + length (each_order (take i items)) → count ≡ length (orders_bytes orders)
+unfolding orders_bytes
+all_counted orders items i count same past is =
+    is ∙ ap (λ (all : List Order). 1 + length (each_order all)) (take_all i items past ∙ same)
+    ∙ sym (all_long orders)
