@@ -1,2 +1,4 @@
 pub mod Up
 pub mod UpLemmas
+pub mod PacketBytes
+pub mod PacketReading

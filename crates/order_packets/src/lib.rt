@@ -5,8 +5,18 @@
 //! are the same.
 #![tactic(auto)]
 
+mod down;
+mod down_reading;
+mod feed_fault;
+mod limits;
+mod packet;
 mod up;
+mod up_reading;
 
+pub use down::Down;
+pub use feed_fault::FeedFault;
+pub use limits::MAX_PAYLOAD;
+pub use packet::Packet;
 pub use up::Up;
 
 #[cfg(test)]
