@@ -8,16 +8,27 @@
 mod down;
 mod down_reading;
 mod feed_fault;
+mod feeder;
+mod first_packet;
 mod limits;
 mod packet;
 mod up;
 mod up_reading;
+mod writing;
 
 pub use down::Down;
 pub use feed_fault::FeedFault;
+pub use feeder::Feeder;
 pub use limits::MAX_PAYLOAD;
 pub use packet::Packet;
 pub use up::Up;
+pub use writing::{write_down, write_up};
+
+/// The packets that a server gets from a client's link.
+pub type UpFeeder = Feeder<Up>;
+
+/// The packets that a client gets from the server's link.
+pub type DownFeeder = Feeder<Down>;
 
 #[cfg(test)]
 mod tests {

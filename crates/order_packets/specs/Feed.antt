@@ -1,0 +1,52 @@
+-- What a feeder is, and what its calls give and leave.
+use Rattle.std.specs.Prelude.{◌≡◌, ℕ, ◌+◌, ◌-◌, List, [], ◌∷◌, ◌++◌, length, drop}
+use Rattle.std.specs.Prelude.{Option, Some, None, Result, Ok, Err, IfSome, IfNone}
+use Rattle.std.specs.List.{flat_map}
+use Rattle.order_packets.specs.declared.feed_fault.FeedFault.{FeedFault}
+use Rattle.order_packets.specs.PacketReading.{PacketRead, FirstPacket, packet_at}
+use Rattle.order_packets.specs.PacketBytes.{framed}
+
+-- A feeder: the place of its next packet in the stream, the bytes from there on that it was fed,
+-- and the fault that it has answered.
+pub record Fed : Type 0 where
+  pub at : ℕ
+  pub rest : List ℕ
+  pub fault : Option FeedFault
+
+-- Before the first byte.
+abbrev pub unfed : Fed
+unfed = record { at = 0; rest = []; fault = None }
+
+-- After a piece of the stream. A feeder that has answered a fault stays.
+abbrev pub more_fed : Option FeedFault → Fed → List ℕ → Fed
+more_fed None fed piece = record { at = fed.at; rest = fed.rest ++ piece; fault = None }
+more_fed (Some fault) fed piece = fed
+
+-- The answer to a question for the next packet, and the feeder after it.
+abbrev pub Answer : Type 0 → Type 0
+Answer P = Result (Option P) FeedFault × Fed
+
+abbrev pub answer_of : {P : Type 0} → Fed → FirstPacket P → Answer P
+answer_of fed (Ok None) = (Ok None, fed)
+answer_of fed (Ok (Some first)) =
+    (Ok (Some first.0),
+    record { at = fed.at + (length fed.rest - length first.1); rest = first.1; fault = None })
+answer_of fed (Err fault) =
+    (Err fault, record { at = fed.at; rest = fed.rest; fault = Some fault })
+
+-- The first fault is the answer for ever. Before it, the packet that the rest begins with is given
+-- and taken away.
+abbrev pub next_answer :
+    {P : Type 0} → (List ℕ → PacketRead P) → Option FeedFault → Fed → Answer P
+next_answer at (Some fault) fed = (Err fault, fed)
+next_answer at None fed = answer_of fed (packet_at at fed.rest)
+
+-- All bytes that a feeder was fed are the spellings of the packets that it gave, one after another,
+-- then its rest, and then what came after a fault was answered, which it did not keep. Its place is
+-- behind these spellings.
+pub record HasGiven
+    {P : Type 0} (payload : P → List ℕ) (all : List ℕ) (given : List P) (fed : Fed) : Type 0 where
+  pub late : List ℕ
+  pub spelled : all ≡ flat_map (λ packet. framed (payload packet)) given ++ fed.rest ++ late
+  pub kept : IfNone fed.fault (late ≡ [])
+  pub place : fed.at ≡ length (flat_map (λ packet. framed (payload packet)) given)
