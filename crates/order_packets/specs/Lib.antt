@@ -5,3 +5,4 @@ pub mod PacketReading
 pub mod PacketLemmas
 pub mod First
 pub mod Feed
+pub mod FirstLemmas

@@ -24,6 +24,7 @@ fn read_payload<P: Packet>(payload: &[u8]) -> Result<P, FeedFault>
 
 /// The packet that the bytes begin with, and the length of its spelling. None exactly where they are
 /// less than a whole packet, with no fault so far.
+#[tactic(auto, unfolding(crate::specs::PacketReading::packet_at, crate::specs::PacketReading::sized_at))]
 pub(crate) fn first_packet<P: Packet>(bytes: &[u8]) -> Result<Option<(P, usize)>, FeedFault>
     ensures reads { GivesFirst bytes.now result (packet_at P.at bytes.now) }
     ensures spelled { IfFound result (λ packet taken. bytes.now ≡ framed (P.payload packet)
