@@ -50,3 +50,21 @@ pub record HasGiven
   pub spelled : all ≡ flat_map (λ packet. framed (payload packet)) given ++ fed.rest ++ late
   pub kept : IfNone fed.fault (late ≡ [])
   pub place : fed.at ≡ length (flat_map (λ packet. framed (payload packet)) given)
+
+-- The packets of an answer: one or none.
+abbrev pub given_by : {P : Type 0} → Result (Option P) FeedFault → List P
+given_by (Ok (Some packet)) = packet ∷ []
+given_by (Ok None) = []
+given_by (Err fault) = []
+
+-- The fact holds of the packet of an answer, if there is one.
+abbrev pub IfGiven : {P : Type 0} → Result (Option P) FeedFault → (P → Type 0) → Type 0
+IfGiven (Ok (Some packet)) fact = fact packet
+IfGiven (Ok None) fact = Unit {0}
+IfGiven (Err fault) fact = Unit {0}
+
+-- The fact holds where the answer is None.
+abbrev pub IfOpen : {P : Type 0} → Result (Option P) FeedFault → Type 0 → Type 0
+IfOpen (Ok (Some packet)) fact = Unit {0}
+IfOpen (Ok None) fact = fact
+IfOpen (Err fault) fact = Unit {0}

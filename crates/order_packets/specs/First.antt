@@ -17,3 +17,9 @@ abbrev pub IfFound :
 IfFound (Ok None) fact = Unit {0}
 IfFound (Ok (Some found)) fact = fact found.0 found.1
 IfFound (Err fault) fact = Unit {0}
+
+-- The fact holds where nothing was found, and no fault.
+abbrev pub IfNotFound : {P : Type 0} → Result (Option (P × ℕ)) FeedFault → Type 0 → Type 0
+IfNotFound (Ok None) fact = fact
+IfNotFound (Ok (Some found)) fact = Unit {0}
+IfNotFound (Err fault) fact = Unit {0}

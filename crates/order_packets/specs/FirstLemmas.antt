@@ -1,10 +1,11 @@
 -- The first packet and its length, found behind the two bytes of the length.
-use Rattle.std.specs.Prelude.{◌≡◌, ℕ, ◌+◌, ◌≤◌, nat_lt, false, List, ◌++◌, length, take, drop}
-use Rattle.std.specs.Prelude.{Some, Ok}
-use Rattle.std.proofs.Common.{refl, sym, ap, subst, ◌∙◌, arith, append_assoc}
-use Rattle.std.proofs.lemmas.Bool.{le-ltb}
+use Rattle.std.specs.Prelude.{◌≡◌, ℕ, ◌+◌, ◌≤◌, ◌<◌, nat_lt, Bool, true, false, List, ◌++◌, length, take, drop}
+use Rattle.std.specs.Prelude.{Some, Result, Ok, Err, if◌then◌else◌}
+use Rattle.std.proofs.Common.{refl, sym, ap, ◌∙◌, arith, append_assoc, inl, inr}
+use Rattle.std.proofs.lemmas.Bool.{le-ltb, cases_lt}
 use Rattle.std.proofs.lemmas.List.{take-append-drop, drop_at, drop-drop, length-append, length-take-le}
-use Rattle.wire_bytes.specs.Field.{field_bytes}
+use Rattle.wire_bytes.specs.declared.short.Short.{Short}
+use Rattle.wire_bytes.specs.Field.{field_bytes, field_number}
 use Rattle.wire_bytes.specs.FieldLemmas.{field_length}
 use Rattle.wire_bytes.specs.Read.{field_at}
 use Rattle.order_packets.specs.declared.limits.TheConstants.{MAX_PAYLOAD}
@@ -58,3 +59,31 @@ first_spelled bytes rest payload size spelled enough is =
     spelled ∙ ap (λ (last : List ℕ). field_bytes 2 size ++ last) parts
     ∙ sym (append_assoc (field_bytes 2 size) payload left)
     ∙ ap (λ (n : ℕ). field_bytes 2 n ++ payload ++ left) size_is
+
+-- Bytes without a length are few, and so are a length and less than its payload.
+no_failure :
+    (test : Bool) (some : ℕ × List ℕ) (short failure : Short) → test ≡ false →
+    if◌then◌else◌ {A = Result (ℕ × List ℕ) Short} test (Err failure) (Ok some) ≡ Err short → ⊥
+no_failure true some short failure never read = absurd cc
+no_failure false some short failure is read = absurd cc
+
+pub few_without_length :
+    (bytes : List ℕ) (short : Short) → field_at 2 bytes ≡ Err short → length bytes ≤ 257
+unfolding field_at
+few_without_length bytes short field =
+    elim (cases_lt (length bytes) 2) [
+      | inl few ↦ omega (arith, few)
+      | inr many ↦
+        absurd (no_failure (nat_lt (length bytes) 2) (field_number 2 bytes, drop 2 bytes) short
+        (record { need = 2; have = length bytes }) (le-ltb (length bytes) 2 many) field)
+    ]
+
+pub few_with_length :
+    (bytes rest : List ℕ) (size : ℕ) → bytes ≡ field_bytes 2 size ++ rest → size ≤ 256 →
+    length rest < size → length bytes ≤ 257
+few_with_length bytes rest size spelled small few =
+    let all : length bytes ≡ length (field_bytes 2 size) + length rest =
+    ap length spelled ∙ length-append (field_bytes 2 size) rest in
+    omega (arith, all, field_length 2 size, small, few)
+
+pub ruleset few_steps = (few_without_length, few_with_length)

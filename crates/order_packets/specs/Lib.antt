@@ -6,3 +6,4 @@ pub mod PacketLemmas
 pub mod First
 pub mod Feed
 pub mod FirstLemmas
+pub mod FeedLemmas

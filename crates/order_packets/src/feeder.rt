@@ -1,5 +1,7 @@
-ghost use Rattle.std.specs.Prelude.{◌≡◌, ◌+◌, ◌<◌, ◌≤◌, ◌^◌, ◌++◌, List, ℕ, length, OnOk, OnErr, IfOk};
+ghost use Rattle.std.specs.Prelude.{◌≡◌, ◌+◌, ◌<◌, ◌≤◌, ◌^◌, ◌++◌, [], List, ℕ, length, OnOk, OnErr, IfOk};
 ghost use Rattle.order_packets.specs.Feed.{unfed, more_fed, next_answer, HasGiven};
+ghost use Rattle.order_packets.specs.Feed.{given_by, IfGiven, IfOpen};
+ghost use Rattle.order_packets.specs.PacketBytes.{framed};
 
 use crate::feed_fault::FeedFault;
 use crate::first_packet::first_packet;
@@ -42,7 +44,8 @@ impl<P> Model for Feeder<P> {
 impl<P: Packet> Feeder<P> {
     /// A feeder at the beginning of a stream, with room for the longest packet.
     pub fn create(alloc: Global) -> Result<Feeder<P>, NoMemory>
-        ensures { IfOk result (λ feeder. feeder ≡ unfed) }
+        ensures start { IfOk result (λ feeder. feeder ≡ unfed) }
+        ensures stream { IfOk result (λ feeder. HasGiven P.payload [] [] feeder) }
     {
         Ok(Feeder {
             bytes: Vec::with_capacity(alloc, LONGEST_PACKET)?,
@@ -57,6 +60,17 @@ impl<P: Packet> Feeder<P> {
     /// piece have a sum below 2^64. After a fault was answered nothing changes, and neither where
     /// memory runs out.
     pub fn feed(&mut self, piece: &[u8]) -> Result<(), NoMemory>
+        requires { self.old.at + length self.old.rest + length piece.now < 2 ^ 64 }
+        ensures ok { OnOk result (self.new ≡ more_fed self.old.fault self.old piece.now) }
+        ensures stream { (all : List ℕ) (given : List P) → HasGiven P.payload all given self.old →
+            OnOk result (HasGiven P.payload (all ++ piece.now) given self.new) }
+        ensures err { OnErr result (self.new ≡ self.old) }
+    {
+        self.append(piece)
+    }
+
+    /// Takes the next piece of the stream, unless a fault was answered.
+    fn append(&mut self, piece: &[u8]) -> Result<(), NoMemory>
         requires { self.old.at + length self.old.rest + length piece.now < 2 ^ 64 }
         ensures ok { OnOk result (self.new ≡ more_fed self.old.fault self.old piece.now) }
         ensures err { OnErr result (self.new ≡ self.old) }
@@ -86,6 +100,11 @@ impl<P: Packet> Feeder<P> {
     /// that stands in the packet's place is the answer from then on.
     pub fn next(&mut self) -> Result<Option<P>, FeedFault>
         ensures answer { (result, self.new) ≡ next_answer P.at self.old.fault self.old }
+        ensures spelled { IfGiven result (λ packet. self.old.rest ≡ framed (P.payload packet)
+            ++ self.new.rest) }
+        ensures stream { (all : List ℕ) (given : List P) → HasGiven P.payload all given self.old →
+            HasGiven P.payload all (given ++ given_by result) self.new }
+        ensures few { IfOpen result (length self.new.rest ≤ 257) }
     {
         if let Some(fault) = self.fault {
             return Err(fault);
