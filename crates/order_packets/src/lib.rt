@@ -1,8 +1,15 @@
-//! Packets between the clients of a match and its server.
+//! Packets between the clients of a match and its server, and the streams that carry them.
 //!
 //! [`Up`] is what a client sends: its greeting, the orders that it sealed for a frame, a report of
-//! its world's hash, and its farewell. Packets are plain values. Two are equal exactly where they
-//! are the same.
+//! its world's hash, and its farewell. [`Down`] is what the server sends: that the client is in the
+//! match or not, and what each client did for a frame. Packets are plain values. Two of a client are
+//! equal by `==` exactly where they are the same.
+//!
+//! Each packet has one spelling, which [`write_up`] and [`write_down`] append: the length of its
+//! payload in two bytes, at most [`MAX_PAYLOAD`], and the payload, a tag and the packet's fields
+//! (`specs/PacketBytes.antt`). No spelling begins another. A [`Feeder`] takes a stream in pieces and
+//! gives the packets whose spellings stand in it one after another, then that the stream is open or
+//! the fault in a packet's place, however the stream was cut.
 #![tactic(auto)]
 
 mod down;
@@ -12,6 +19,8 @@ mod feeder;
 mod first_packet;
 mod limits;
 mod packet;
+#[cfg(test)]
+mod tests;
 mod up;
 mod up_reading;
 mod writing;
@@ -29,33 +38,3 @@ pub type UpFeeder = Feeder<Up>;
 
 /// The packets that a client gets from the server's link.
 pub type DownFeeder = Feeder<Down>;
-
-#[cfg(test)]
-mod tests {
-    use super::*;
-    use game_orders::{Order, Orders};
-
-    #[test]
-    fn equal_exactly_where_the_same(rt: HostRuntime) {
-        let mut orders = Orders::empty();
-        assert!(rt; orders.try_push(Order::Donate { to: 1, amount: 50 }));
-        let packets = [
-            Up::Hello {
-                version: 1,
-                rules: 0,
-            },
-            Up::Orders { frame: 0, orders },
-            Up::Orders {
-                frame: 0,
-                orders: Orders::empty(),
-            },
-            Up::Sync { frame: 0, hash: 0 },
-            Up::Bye,
-        ];
-        for (i, packet) in packets.iter().enumerate() {
-            for (j, other) in packets.iter().enumerate() {
-                assert_eq!(rt; packet.copy() == *other, i == j, "packets {i} and {j}");
-            }
-        }
-    }
-}
