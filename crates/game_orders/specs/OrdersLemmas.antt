@@ -1,5 +1,5 @@
 -- Lists of orders that are read one by one.
-use Rattle.std.specs.Prelude.{◌≡◌, ℕ, zero, suc, ◌+◌, ◌-◌, ◌<◌, ◌≤◌, nat_lt, List, [], ◌∷◌, ◌++◌}
+use Rattle.std.specs.Prelude.{◌≡◌, ℕ, zero, suc, ◌+◌, ◌-◌, ◌*◌, ◌<◌, ◌≤◌, nat_lt, List, [], ◌∷◌, ◌++◌}
 use Rattle.std.specs.Prelude.{length, take, Ok, Err, false}
 use Rattle.std.specs.List.{AllByRecursion}
 use Rattle.std.proofs.Common.{refl, sym, ap, ◌∙◌, arith, append_assoc, get_or}
@@ -11,11 +11,13 @@ use Rattle.wire_bytes.specs.ReadLemmas.{written_is_read}
 use Rattle.wire_bytes.specs.WriteLemmas.{extends_once}
 use Rattle.game_orders.specs.declared.limits.TheConstants.{MAX_ORDERS}
 use Rattle.game_orders.specs.declared.order.Order.{Order}
+use Rattle.game_orders.specs.declared.order.Order.TheVariants.{Move, Attack, Harvest, Stop}
+use Rattle.game_orders.specs.declared.order.Order.TheVariants.{Produce, Cancel, Donate, Pace}
 use Rattle.game_orders.specs.declared.order_fault.OrderFault.{OrderFault}
 use Rattle.game_orders.specs.declared.orders_fault.OrdersFault.{OrdersFault}
 use Rattle.game_orders.specs.declared.orders_fault.OrdersFault.TheVariants as orders_fault
 use Rattle.game_orders.specs.OrderBytes.{order_bytes, each_order, orders_bytes, FitsOrder, FitsOrders}
-use Rattle.game_orders.specs.OrderBytesLemmas.{order_again, order_bytes_size}
+use Rattle.game_orders.specs.OrderBytesLemmas.{order_again, order_size, order_bytes_size}
 use Rattle.game_orders.specs.OrderReading.{OrdersRead, list_fault, order_at, orders_after, orders_at}
 
 -- One more order was read of so many.
@@ -146,3 +148,30 @@ unfolding orders_bytes
 all_counted orders items i count same past is =
     is ∙ ap (λ (all : List Order). 1 + length (each_order all)) (take_all i items past ∙ same)
     ∙ sym (all_long orders)
+
+-- No order's spelling has more than ten bytes.
+order_is_short : (order : Order) → length (order_bytes order) ≤ 10
+order_is_short order = rw (order_bytes_size order) (short order)
+  where
+    short : (order : Order) → order_size order ≤ 10
+    short (Move actor cell queued) = omega arith
+    short (Attack actor target queued) = omega arith
+    short (Harvest actor cell queued) = omega arith
+    short (Stop actor) = omega arith
+    short (Produce actor kind) = omega arith
+    short (Cancel actor) = omega arith
+    short (Donate to amount) = omega arith
+    short (Pace ticks) = omega arith
+
+each_is_short : (orders : List Order) → length (each_order orders) ≤ 10 * length orders
+each_is_short [] = omega arith
+each_is_short (order ∷ orders) =
+    omega (arith, length-append (order_bytes order) (each_order orders), order_is_short order,
+    each_is_short orders)
+
+-- The spelling of a client's orders has at most 161 bytes.
+pub orders_are_short : (orders : List Order) → length orders ≤ MAX_ORDERS →
+    length (orders_bytes orders) ≤ 161
+unfolding orders_bytes
+orders_are_short orders few =
+    omega (arith, all_long orders, each_is_short orders, few)

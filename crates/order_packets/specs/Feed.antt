@@ -41,12 +41,21 @@ abbrev pub next_answer :
 next_answer at (Some fault) fed = (Err fault, fed)
 next_answer at None fed = answer_of fed (packet_at at fed.rest)
 
--- All bytes that a feeder was fed are the spellings of the packets that it gave, one after another,
--- then its rest, and then what came after a fault was answered, which it did not keep. Its place is
--- behind these spellings.
+-- Read one after another from these bytes on, `at` gives these packets, and then this rest is left.
+abbrev pub ReadsAll :
+    {P : Type 0} → (List ℕ → PacketRead P) → List ℕ → List P → List ℕ → Type 0
+ReadsAll at bytes [] rest = bytes ≡ rest
+ReadsAll at bytes (packet ∷ others) rest =
+    (mid : List ℕ) × (packet_at at bytes ≡ Ok (Some (packet, mid))) × ReadsAll at mid others rest
+
+-- All bytes that a feeder was fed give the packets that it gave, whatever pieces they came in. They
+-- are the spellings of these packets, one after another, then the feeder's rest, and then what came
+-- after a fault was answered, which it did not keep. Its place is behind the spellings.
 pub record HasGiven
-    {P : Type 0} (payload : P → List ℕ) (all : List ℕ) (given : List P) (fed : Fed) : Type 0 where
+    {P : Type 0} (at : List ℕ → PacketRead P) (payload : P → List ℕ) (all : List ℕ)
+    (given : List P) (fed : Fed) : Type 0 where
   pub late : List ℕ
+  pub reads : ReadsAll at all given (fed.rest ++ late)
   pub spelled : all ≡ flat_map (λ packet. framed (payload packet)) given ++ fed.rest ++ late
   pub kept : IfNone fed.fault (late ≡ [])
   pub place : fed.at ≡ length (flat_map (λ packet. framed (payload packet)) given)

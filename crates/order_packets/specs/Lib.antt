@@ -7,3 +7,4 @@ pub mod First
 pub mod Feed
 pub mod FirstLemmas
 pub mod FeedLemmas
+pub mod StreamLemmas

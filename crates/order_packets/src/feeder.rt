@@ -45,7 +45,7 @@ impl<P: Packet> Feeder<P> {
     /// A feeder at the beginning of a stream, with room for the longest packet.
     pub fn create(alloc: Global) -> Result<Feeder<P>, NoMemory>
         ensures start { IfOk result (λ feeder. feeder ≡ unfed) }
-        ensures stream { IfOk result (λ feeder. HasGiven P.payload [] [] feeder) }
+        ensures stream { IfOk result (λ feeder. HasGiven P.at P.payload [] [] feeder) }
     {
         Ok(Feeder {
             bytes: Vec::with_capacity(alloc, LONGEST_PACKET)?,
@@ -62,8 +62,9 @@ impl<P: Packet> Feeder<P> {
     pub fn feed(&mut self, piece: &[u8]) -> Result<(), NoMemory>
         requires { self.old.at + length self.old.rest + length piece.now < 2 ^ 64 }
         ensures ok { OnOk result (self.new ≡ more_fed self.old.fault self.old piece.now) }
-        ensures stream { (all : List ℕ) (given : List P) → HasGiven P.payload all given self.old →
-            OnOk result (HasGiven P.payload (all ++ piece.now) given self.new) }
+        ensures stream { (all : List ℕ) (given : List P) →
+            HasGiven P.at P.payload all given self.old →
+            OnOk result (HasGiven P.at P.payload (all ++ piece.now) given self.new) }
         ensures err { OnErr result (self.new ≡ self.old) }
     {
         self.append(piece)
@@ -102,8 +103,19 @@ impl<P: Packet> Feeder<P> {
         ensures answer { (result, self.new) ≡ next_answer P.at self.old.fault self.old }
         ensures spelled { IfGiven result (λ packet. self.old.rest ≡ framed (P.payload packet)
             ++ self.new.rest) }
-        ensures stream { (all : List ℕ) (given : List P) → HasGiven P.payload all given self.old →
-            HasGiven P.payload all (given ++ given_by result) self.new }
+        ensures stream { (all : List ℕ) (given : List P) →
+            HasGiven P.at P.payload all given self.old →
+            HasGiven P.at P.payload all (given ++ given_by result) self.new }
+        ensures few { IfOpen result (length self.new.rest ≤ 257) }
+    {
+        self.take_next()
+    }
+
+    /// Takes the next packet from what is held.
+    fn take_next(&mut self) -> Result<Option<P>, FeedFault>
+        ensures answer { (result, self.new) ≡ next_answer P.at self.old.fault self.old }
+        ensures spelled { IfGiven result (λ packet. self.old.rest ≡ framed (P.payload packet)
+            ++ self.new.rest) }
         ensures few { IfOpen result (length self.new.rest ≤ 257) }
     {
         if let Some(fault) = self.fault {

@@ -17,6 +17,7 @@ mod down_reading;
 mod feed_fault;
 mod feeder;
 mod first_packet;
+mod law;
 mod limits;
 mod packet;
 #[cfg(test)]
@@ -28,6 +29,9 @@ mod writing;
 pub use down::Down;
 pub use feed_fault::FeedFault;
 pub use feeder::Feeder;
+pub use law::{
+    down_is_read_back, no_down_begins_another, no_up_begins_another, up_is_read_back,
+};
 pub use limits::MAX_PAYLOAD;
 pub use packet::Packet;
 pub use up::Up;
