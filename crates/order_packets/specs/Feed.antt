@@ -48,6 +48,12 @@ ReadsAll at bytes [] rest = bytes ≡ rest
 ReadsAll at bytes (packet ∷ others) rest =
     (mid : List ℕ) × (packet_at at bytes ≡ Ok (Some (packet, mid))) × ReadsAll at mid others rest
 
+-- No packet is read there: the stream is open, or there is a fault.
+abbrev pub IsEnd : {P : Type 0} → FirstPacket P → Type 0
+IsEnd (Ok (Some first)) = ⊥
+IsEnd (Ok None) = Unit {0}
+IsEnd (Err fault) = Unit {0}
+
 -- All bytes that a feeder was fed give the packets that it gave, whatever pieces they came in. They
 -- are the spellings of these packets, one after another, then the feeder's rest, and then what came
 -- after a fault was answered, which it did not keep. Its place is behind the spellings.

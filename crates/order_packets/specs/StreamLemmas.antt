@@ -13,7 +13,7 @@ use Rattle.order_packets.specs.declared.limits.TheConstants.{MAX_PAYLOAD}
 use Rattle.order_packets.specs.PacketReading.{PacketRead, FirstPacket, payload_at, sized_at}
 use Rattle.order_packets.specs.PacketReading.{behind_length, packet_at}
 use Rattle.order_packets.specs.PacketLemmas.{same_first}
-use Rattle.order_packets.specs.Feed.{ReadsAll}
+use Rattle.order_packets.specs.Feed.{ReadsAll, IsEnd}
 
 -- What a stream begins with, with more bytes at its end.
 abbrev pub extended : {P : Type 0} → List ℕ → FirstPacket P → FirstPacket P
@@ -117,12 +117,6 @@ one_more at bytes rest after [] packet reads is =
     (after, ap (packet_at at) reads ∙ is, refl)
 one_more at bytes rest after (first ∷ packets) packet reads is =
     (reads.0, reads.1, one_more at reads.0 rest after packets packet reads.2 is)
-
--- No packet is read there: the stream is open, or there is a fault.
-abbrev pub IsEnd : {P : Type 0} → FirstPacket P → Type 0
-IsEnd (Ok (Some first)) = ⊥
-IsEnd (Ok None) = Unit {0}
-IsEnd (Err fault) = Unit {0}
 
 no_end :
     {P : Type 0} (at : List ℕ → PacketRead P) (bytes rest mid : List ℕ) (packet : P) →

@@ -30,7 +30,8 @@ pub use down::Down;
 pub use feed_fault::FeedFault;
 pub use feeder::Feeder;
 pub use law::{
-    down_is_read_back, no_down_begins_another, no_up_begins_another, up_is_read_back,
+    a_fault_stands_in_its_place, a_stream_is_read_one_way, down_is_read_back,
+    no_down_begins_another, no_up_begins_another, up_is_read_back,
 };
 pub use limits::MAX_PAYLOAD;
 pub use packet::Packet;
