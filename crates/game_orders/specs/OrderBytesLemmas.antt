@@ -25,8 +25,10 @@ cell_again : (cell : CPos) (rest : List ℕ) → cell.x < 256 → cell.y < 256 �
     cell_at (field_bytes 1 cell.x ++ (field_bytes 1 cell.y ++ rest)) ≡ Ok (cell, rest)
 unfolding cell_at
 cell_again cell rest x_fits y_fits =
-    rw (written_is_read 1 cell.x (field_bytes 1 cell.y ++ rest) x_fits,
-    written_is_read 1 cell.y rest y_fits) refl
+    rw (
+      written_is_read 1 cell.x (field_bytes 1 cell.y ++ rest) x_fits,
+      written_is_read 1 cell.y rest y_fits,
+    ) refl
 
 -- Parts in a row, and what follows them.
 regroup_4 : (a b c d rest : List ℕ) →
@@ -48,9 +50,12 @@ way_again order actor cell queued rest fits x_fits y_fits =
     let flag = field_bytes 1 (flag_number queued) in
     ap (way_at order)
     (regroup_4 (field_bytes 4 actor) (field_bytes 1 cell.x) (field_bytes 1 cell.y) flag rest)
-    ∙ rw (written_is_read 4 actor
-    (field_bytes 1 cell.x ++ (field_bytes 1 cell.y ++ (flag ++ rest))) fits,
-    cell_again cell (flag ++ rest) x_fits y_fits, flag_again queued rest) refl
+    ∙ rw (
+      written_is_read 4 actor
+          (field_bytes 1 cell.x ++ (field_bytes 1 cell.y ++ (flag ++ rest))) fits,
+      cell_again cell (flag ++ rest) x_fits y_fits,
+      flag_again queued rest,
+    ) refl
 
 attack_again :
     (actor target : ℕ) (queued : Bool) (rest : List ℕ) → actor < 2 ^ 32 → target < 2 ^ 32 →
@@ -60,8 +65,11 @@ unfolding attack_at
 attack_again actor target queued rest fits target_fits =
     let flag = field_bytes 1 (flag_number queued) in
     ap attack_at (regroup_3 (field_bytes 4 actor) (field_bytes 4 target) flag rest)
-    ∙ rw (written_is_read 4 actor (field_bytes 4 target ++ (flag ++ rest)) fits,
-    written_is_read 4 target (flag ++ rest) target_fits, flag_again queued rest) refl
+    ∙ rw (
+      written_is_read 4 actor (field_bytes 4 target ++ (flag ++ rest)) fits,
+      written_is_read 4 target (flag ++ rest) target_fits,
+      flag_again queued rest,
+    ) refl
 
 pair_again :
     (order : ℕ → ℕ → Order) (width next_width first second : ℕ) (rest : List ℕ) →
@@ -73,8 +81,10 @@ unfolding pair_at
 pair_again order width next_width first second rest fits next_fits =
     ap (pair_at order width next_width)
     (regroup_2 (field_bytes width first) (field_bytes next_width second) rest)
-    ∙ rw (written_is_read width first (field_bytes next_width second ++ rest) fits,
-    written_is_read next_width second rest next_fits) refl
+    ∙ rw (
+      written_is_read width first (field_bytes next_width second ++ rest) fits,
+      written_is_read next_width second rest next_fits,
+    ) refl
 
 single_again :
     (order : ℕ → Order) (width number : ℕ) (rest : List ℕ) → number < 256 ^ width →
@@ -143,8 +153,12 @@ way_size : (actor : ℕ) (cell : CPos) (queued : Bool) → length (way_bytes act
 way_size actor cell queued =
     length_4 (field_bytes 4 actor) (field_bytes 1 cell.x) (field_bytes 1 cell.y)
     (field_bytes 1 (flag_number queued))
-    ∙ rw (field_length 4 actor, field_length 1 cell.x, field_length 1 cell.y,
-    field_length 1 (flag_number queued)) refl
+    ∙ rw (
+      field_length 4 actor,
+      field_length 1 cell.x,
+      field_length 1 cell.y,
+      field_length 1 (flag_number queued),
+    ) refl
 
 fields_size : (order : Order) → length (fields_bytes order) + 1 ≡ order_size order
 fields_size (Move actor cell queued) = rw (way_size actor cell queued) refl

@@ -2,7 +2,7 @@
 use Rattle.std.specs.Prelude.{◌≡◌, ℕ, zero, suc, ◌+◌, ◌-◌, ◌*◌, ◌<◌, ◌≤◌, nat_lt, List, [], ◌∷◌, ◌++◌}
 use Rattle.std.specs.Prelude.{length, take, Ok, Err, false}
 use Rattle.std.specs.List.{AllByRecursion}
-use Rattle.std.proofs.Common.{refl, sym, ap, ◌∙◌, arith, append_assoc, get_or}
+use Rattle.std.proofs.Common.{refl, sym, ap, subst, ◌∙◌, arith, append_assoc, get_or}
 use Rattle.std.proofs.lemmas.Bool.{le-ltb}
 use Rattle.std.proofs.lemmas.List.{append-nil, length-append, take_more, take_all}
 use Rattle.wire_bytes.specs.Field.{field_bytes}
@@ -76,8 +76,11 @@ orders_again orders rest fits =
     let few : nat_lt MAX_ORDERS (length orders) ≡ false =
     le-ltb MAX_ORDERS (length orders) fits.0 in
     ap orders_at (append_assoc (field_bytes 1 (length orders)) (each_order orders) rest)
-    ∙ rw (written_is_read 1 (length orders) (each_order orders ++ rest)
-    (omega (arith, fits.0)), few)
+    ∙ rw (
+      written_is_read 1 (length orders) (each_order orders ++ rest)
+          (omega (arith, fits.0)),
+      few,
+    )
     (each_again [] orders rest fits.1)
 
 -- The spelling of one order more.
@@ -166,8 +169,12 @@ order_is_short order = rw (order_bytes_size order) (short order)
 each_is_short : (orders : List Order) → length (each_order orders) ≤ 10 * length orders
 each_is_short [] = omega arith
 each_is_short (order ∷ orders) =
-    omega (arith, length-append (order_bytes order) (each_order orders), order_is_short order,
-    each_is_short orders)
+    omega (
+      arith,
+      length-append (order_bytes order) (each_order orders),
+      order_is_short order,
+      each_is_short orders,
+    )
 
 -- The spelling of a client's orders has at most 161 bytes.
 pub orders_are_short : (orders : List Order) → length orders ≤ MAX_ORDERS →
@@ -175,3 +182,29 @@ pub orders_are_short : (orders : List Order) → length orders ≤ MAX_ORDERS �
 unfolding orders_bytes
 orders_are_short orders few =
     omega (arith, all_long orders, each_is_short orders, few)
+
+all_added : (orders : List Order) (order : Order) → AllByRecursion FitsOrder orders →
+    FitsOrder order → AllByRecursion FitsOrder (orders ++ order ∷ [])
+all_added [] order fit fits = (fits, tt)
+all_added (first ∷ orders) order fit fits = (fit.0, all_added orders order fit.1 fits)
+
+-- One order more fits.
+pub one_more_fits :
+    (orders : List Order) (i : ℕ) (order : Order) → i < length orders →
+    order ≡ get_or orders i order → AllByRecursion FitsOrder (take i orders) → FitsOrder order →
+    AllByRecursion FitsOrder (take (i + 1) orders)
+one_more_fits orders i order within at so_far fits =
+    let more : take (i + 1) orders ≡ take i orders ++ order ∷ [] =
+    take_more orders i order within
+    ∙ ap (λ (last : Order). take i orders ++ last ∷ []) (sym at) in
+    subst (AllByRecursion FitsOrder) (sym more) (all_added (take i orders) order so_far fits)
+
+-- All that were gone over fit.
+pub all_fit :
+    (orders items : List Order) (i : ℕ) → items ≡ orders → length items ≤ i →
+    length items ≤ MAX_ORDERS → AllByRecursion FitsOrder (take i items) → FitsOrders orders
+all_fit orders items i same past few fits =
+    subst FitsOrders same
+    (few, subst (AllByRecursion FitsOrder) (take_all i items past) fits)
+
+pub ruleset fitting_steps = (one_more_fits, all_fit)

@@ -36,12 +36,7 @@ fn append_flag(out: &mut Vec<u8>, flag: bool) -> Result<(), NoMemory>
 
 /// Appends an actor's number, a cell and a flag.
 #[tactic(auto, using(wire_bytes::specs::WriteLemmas::written))]
-fn append_way(
-    out: &mut Vec<u8>,
-    actor: u32,
-    cell: CPos,
-    queued: bool,
-) -> Result<(), NoMemory>
+fn append_way(out: &mut Vec<u8>, actor: u32, cell: CPos, queued: bool) -> Result<(), NoMemory>
     ensures ok { OnOk result (out.new.items ≡ out.old.items ++ way_bytes actor cell queued) }
     ensures err { OnErr result (Extends out.old.items out.new.items) }
 {

@@ -1,9 +1,9 @@
 ghost use Rattle.std.specs.Prelude.{◌≡◌, ◌++◌, OnOk, OnErr, length};
 ghost use Rattle.wire_bytes.specs.Write.{Extends};
-ghost use Rattle.game_orders.specs.OrderBytes.{each_order, orders_bytes};
+ghost use Rattle.game_orders.specs.OrderBytes.{each_order, orders_bytes, FitsOrders};
 
 use crate::order::Order;
-use crate::order_writing::write_order;
+use crate::order_writing::{order_fits, write_order};
 use crate::orders::Orders;
 use base::NoMemory;
 use wire_bytes::write_u8;
@@ -42,4 +42,15 @@ pub fn write_orders(out: &mut Vec<u8>, orders: &Orders) -> Result<(), NoMemory>
         out.truncate(start);
     }
     written
+}
+
+/// The orders of one client for one frame that code holds are at most [`crate::MAX_ORDERS`], and their
+/// numbers fit their fields. The call does nothing.
+#[tactic(auto, using(crate::specs::OrdersLemmas::fitting_steps))]
+pub fn orders_fit(orders: &Orders)
+    ensures { FitsOrders orders.now }
+{
+    for order in orders.as_slice() {
+        order_fits(order);
+    }
 }

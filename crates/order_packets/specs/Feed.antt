@@ -28,9 +28,10 @@ Answer P = Result (Option P) FeedFault × Fed
 
 abbrev pub answer_of : {P : Type 0} → Fed → FirstPacket P → Answer P
 answer_of fed (Ok None) = (Ok None, fed)
-answer_of fed (Ok (Some first)) =
-    (Ok (Some first.0),
-    record { at = fed.at + (length fed.rest - length first.1); rest = first.1; fault = None })
+answer_of fed (Ok (Some first)) = (
+  Ok (Some first.0),
+  record { at = fed.at + (length fed.rest - length first.1); rest = first.1; fault = None },
+)
 answer_of fed (Err fault) =
     (Err fault, record { at = fed.at; rest = fed.rest; fault = Some fault })
 

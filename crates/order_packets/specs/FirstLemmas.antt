@@ -74,8 +74,8 @@ few_without_length bytes short field =
     elim (cases_lt (length bytes) 2) [
       | inl few ↦ omega (arith, few)
       | inr many ↦
-        absurd (no_failure (nat_lt (length bytes) 2) (field_number 2 bytes, drop 2 bytes) short
-        (record { need = 2; have = length bytes }) (le-ltb (length bytes) 2 many) field)
+          absurd (no_failure (nat_lt (length bytes) 2) (field_number 2 bytes, drop 2 bytes) short
+          (record { need = 2; have = length bytes }) (le-ltb (length bytes) 2 many) field)
     ]
 
 pub few_with_length :

@@ -53,8 +53,13 @@ framed_again at payload packet rest short read =
     ap (packet_at at) (append_assoc (field_bytes 2 (length payload)) payload rest)
     ∙ ap (behind_length at)
     (written_is_read 2 (length payload) (payload ++ rest) (omega (arith, short)))
-    ∙ rw (small, whole, take_at payload rest (length payload) refl,
-    drop_at payload rest (length payload) refl, read) refl
+    ∙ rw (
+      small,
+      whole,
+      take_at payload rest (length payload) refl,
+      drop_at payload rest (length payload) refl,
+      read,
+    ) refl
 
 hello_again :
     (version rules : ℕ) (rest : List ℕ) → FitsUp (Hello version rules) →
@@ -62,8 +67,10 @@ hello_again :
     ≡ Ok (Hello version rules, rest)
 unfolding hello_at
 hello_again version rules rest fits =
-    rw (written_is_read 2 version (field_bytes 8 rules ++ rest) fits.0,
-    written_is_read 8 rules rest fits.1) refl
+    rw (
+      written_is_read 2 version (field_bytes 8 rules ++ rest) fits.0,
+      written_is_read 8 rules rest fits.1,
+    ) refl
 
 sealed_again :
     (frame : ℕ) (orders : List Order) (rest : List ℕ) → FitsUp (Orders frame orders) →
@@ -71,16 +78,20 @@ sealed_again :
     ≡ Ok (Orders frame orders, rest)
 unfolding sealed_at
 sealed_again frame orders rest fits =
-    rw (written_is_read 4 frame (orders_bytes orders ++ rest) fits.0,
-    orders_again orders rest fits.1) refl
+    rw (
+      written_is_read 4 frame (orders_bytes orders ++ rest) fits.0,
+      orders_again orders rest fits.1,
+    ) refl
 
 sync_again :
     (frame hash : ℕ) (rest : List ℕ) → FitsUp (Sync frame hash) →
     sync_at (field_bytes 4 frame ++ (field_bytes 8 hash ++ rest)) ≡ Ok (Sync frame hash, rest)
 unfolding sync_at
 sync_again frame hash rest fits =
-    rw (written_is_read 4 frame (field_bytes 8 hash ++ rest) fits.0,
-    written_is_read 8 hash rest fits.1) refl
+    rw (
+      written_is_read 4 frame (field_bytes 8 hash ++ rest) fits.0,
+      written_is_read 8 hash rest fits.1,
+    ) refl
 
 up_payload_again : (packet : Up) (rest : List ℕ) → FitsUp packet →
     up_at (up_payload packet ++ rest) ≡ Ok (packet, rest)
@@ -108,8 +119,14 @@ up_is_short (Hello version rules) fits =
 up_is_short (Orders frame orders) fits =
     let inner = length-append (field_bytes 4 frame) (orders_bytes orders) in
     let outer = length-append (field_bytes 1 2) (field_bytes 4 frame ++ orders_bytes orders) in
-    omega (arith, inner, outer, field_length 1 2, field_length 4 frame,
-    orders_are_short orders fits.1.0)
+    omega (
+      arith,
+      inner,
+      outer,
+      field_length 1 2,
+      field_length 4 frame,
+      orders_are_short orders fits.1.0,
+    )
 up_is_short (Sync frame hash) fits =
     let inner = length-append (field_bytes 4 frame) (field_bytes 8 hash) in
     let outer = length-append (field_bytes 1 3) (field_bytes 4 frame ++ field_bytes 8 hash) in
@@ -132,9 +149,12 @@ welcome_again client clients lag seed rest fits =
     let after_lag = field_bytes 4 seed ++ rest in
     let after_clients = field_bytes 1 lag ++ after_lag in
     let after_client = field_bytes 1 clients ++ after_clients in
-    rw (written_is_read 1 client after_client fits.0,
-    written_is_read 1 clients after_clients fits.1, written_is_read 1 lag after_lag fits.2,
-    written_is_read 4 seed rest fits.3) refl
+    rw (
+      written_is_read 1 client after_client fits.0,
+      written_is_read 1 clients after_clients fits.1,
+      written_is_read 1 lag after_lag fits.2,
+      written_is_read 4 seed rest fits.3,
+    ) refl
 
 refused_again : (code : ℕ) (rest : List ℕ) → FitsDown (Refused code) →
     refused_at (field_bytes 1 code ++ rest) ≡ Ok (Refused code, rest)
@@ -149,8 +169,11 @@ play_again :
 unfolding play_at
 play_again client frame orders rest fits =
     let fields = orders_bytes orders ++ rest in
-    rw (written_is_read 1 client (field_bytes 4 frame ++ fields) fits.0,
-    written_is_read 4 frame fields fits.1, orders_again orders rest fits.2) refl
+    rw (
+      written_is_read 1 client (field_bytes 4 frame ++ fields) fits.0,
+      written_is_read 4 frame fields fits.1,
+      orders_again orders rest fits.2,
+    ) refl
 
 leave_again :
     (client frame : ℕ) (rest : List ℕ) → FitsDown (Entry client frame Leave) →
@@ -158,8 +181,10 @@ leave_again :
     ≡ Ok (Entry client frame Leave, rest)
 unfolding leave_at
 leave_again client frame rest fits =
-    rw (written_is_read 1 client (field_bytes 4 frame ++ rest) fits.0,
-    written_is_read 4 frame rest fits.1) refl
+    rw (
+      written_is_read 1 client (field_bytes 4 frame ++ rest) fits.0,
+      written_is_read 4 frame rest fits.1,
+    ) refl
 
 down_payload_again : (packet : Down) (rest : List ℕ) → FitsDown packet →
     down_at (down_payload packet ++ rest) ≡ Ok (packet, rest)
@@ -192,23 +217,49 @@ down_is_short (Welcome client clients lag seed) fits =
     let cs = field_bytes 1 clients in
     let l = field_bytes 1 lag in
     let s = field_bytes 4 seed in
-    omega (arith, length-append c cs, length-append (c ++ cs) l, length-append (c ++ cs ++ l) s,
-    length-append (field_bytes 1 17) (c ++ cs ++ l ++ s), field_length 1 17,
-    field_length 1 client, field_length 1 clients, field_length 1 lag, field_length 4 seed)
+    omega (
+      arith,
+      length-append c cs,
+      length-append (c ++ cs) l,
+      length-append (c ++ cs ++ l) s,
+      length-append (field_bytes 1 17) (c ++ cs ++ l ++ s),
+      field_length 1 17,
+      field_length 1 client,
+      field_length 1 clients,
+      field_length 1 lag,
+      field_length 4 seed,
+    )
 down_is_short (Refused code) fits =
-    omega (arith, length-append (field_bytes 1 18) (field_bytes 1 code), field_length 1 18,
-    field_length 1 code)
+    omega (
+      arith,
+      length-append (field_bytes 1 18) (field_bytes 1 code),
+      field_length 1 18,
+      field_length 1 code,
+    )
 down_is_short (Entry client frame (Play orders)) fits =
     let c = field_bytes 1 client in
     let f = field_bytes 4 frame in
-    omega (arith, length-append c f, length-append (c ++ f) (orders_bytes orders),
-    length-append (field_bytes 1 19) (c ++ f ++ orders_bytes orders), field_length 1 19,
-    field_length 1 client, field_length 4 frame, orders_are_short orders fits.2.0)
+    omega (
+      arith,
+      length-append c f,
+      length-append (c ++ f) (orders_bytes orders),
+      length-append (field_bytes 1 19) (c ++ f ++ orders_bytes orders),
+      field_length 1 19,
+      field_length 1 client,
+      field_length 4 frame,
+      orders_are_short orders fits.2.0,
+    )
 down_is_short (Entry client frame Leave) fits =
     let c = field_bytes 1 client in
     let f = field_bytes 4 frame in
-    omega (arith, length-append c f, length-append (field_bytes 1 20) (c ++ f),
-    field_length 1 20, field_length 1 client, field_length 4 frame)
+    omega (
+      arith,
+      length-append c f,
+      length-append (field_bytes 1 20) (c ++ f),
+      field_length 1 20,
+      field_length 1 client,
+      field_length 4 frame,
+    )
 
 -- The spelling of a packet to a client reads as the packet, whatever follows it.
 pub down_again : (packet : Down) (rest : List ℕ) → FitsDown packet →

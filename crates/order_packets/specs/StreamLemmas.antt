@@ -39,24 +39,29 @@ unfolding sized_at
 sized_stays at size bytes more =
     elim (cases_lt MAX_PAYLOAD size) [
       | inl large ↦
-        let too_large : nat_lt MAX_PAYLOAD size ≡ true = lt-ltb MAX_PAYLOAD size large in
-        inl (rw too_large refl)
+          let too_large : nat_lt MAX_PAYLOAD size ≡ true = lt-ltb MAX_PAYLOAD size large in
+          inl (rw too_large refl)
       | inr small ↦
-        let fits : nat_lt MAX_PAYLOAD size ≡ false = le-ltb MAX_PAYLOAD size small in
-        elim (cases_lt (length bytes) size) [
-          | inl few ↦
-            let open_still : nat_lt (length bytes) size ≡ true =
-            lt-ltb (length bytes) size few in
-            inr (rw (fits, open_still) refl)
-          | inr enough ↦
-            let whole : nat_lt (length bytes) size ≡ false = le-ltb (length bytes) size enough in
-            let longer : nat_lt (length (bytes ++ more)) size ≡ false =
-            le-ltb (length (bytes ++ more)) size
-            (omega (arith, length-append bytes more, enough)) in
-            inl (rw (fits, whole, longer, take-append-le size bytes more enough,
-            drop-append-le size bytes more enough)
-            (found_stays (payload_at at (take size bytes)) (drop size bytes) more))
-        ]
+          let fits : nat_lt MAX_PAYLOAD size ≡ false = le-ltb MAX_PAYLOAD size small in
+          elim (cases_lt (length bytes) size) [
+            | inl few ↦
+                let open_still : nat_lt (length bytes) size ≡ true =
+                lt-ltb (length bytes) size few in
+                inr (rw (fits, open_still) refl)
+            | inr enough ↦
+                let whole : nat_lt (length bytes) size ≡ false = le-ltb (length bytes) size enough in
+                let longer : nat_lt (length (bytes ++ more)) size ≡ false =
+                le-ltb (length (bytes ++ more)) size
+                (omega (arith, length-append bytes more, enough)) in
+                inl (rw (
+                  fits,
+                  whole,
+                  longer,
+                  take-append-le size bytes more enough,
+                  drop-append-le size bytes more enough,
+                )
+                (found_stays (payload_at at (take size bytes)) (drop size bytes) more))
+          ]
     ]
 
 pub first_stays :
@@ -66,15 +71,19 @@ unfolding packet_at field_at
 first_stays at bytes more =
     elim (cases_lt (length bytes) 2) [
       | inl few ↦
-        let short : nat_lt (length bytes) 2 ≡ true = lt-ltb (length bytes) 2 few in
-        inr (rw short refl)
+          let short : nat_lt (length bytes) 2 ≡ true = lt-ltb (length bytes) 2 few in
+          inr (rw short refl)
       | inr enough ↦
-        let whole : nat_lt (length bytes) 2 ≡ false = le-ltb (length bytes) 2 enough in
-        let longer : nat_lt (length (bytes ++ more)) 2 ≡ false =
-        le-ltb (length (bytes ++ more)) 2 (omega (arith, length-append bytes more, enough)) in
-        rw (whole, longer, field_of_prefix 2 bytes more enough,
-        drop-append-le 2 bytes more enough)
-        (sized_stays at (field_number 2 bytes) (drop 2 bytes) more)
+          let whole : nat_lt (length bytes) 2 ≡ false = le-ltb (length bytes) 2 enough in
+          let longer : nat_lt (length (bytes ++ more)) 2 ≡ false =
+          le-ltb (length (bytes ++ more)) 2 (omega (arith, length-append bytes more, enough)) in
+          rw (
+            whole,
+            longer,
+            field_of_prefix 2 bytes more enough,
+            drop-append-le 2 bytes more enough,
+          )
+          (sized_stays at (field_number 2 bytes) (drop 2 bytes) more)
     ]
 
 -- A packet stays.
@@ -103,9 +112,11 @@ pub all_stay :
     {P : Type 0} (at : List ℕ → PacketRead P) (bytes more rest : List ℕ) (packets : List P) →
     ReadsAll at bytes packets rest → ReadsAll at (bytes ++ more) packets (rest ++ more)
 all_stay at bytes more rest [] reads = ap (λ (all : List ℕ). all ++ more) reads
-all_stay at bytes more rest (packet ∷ others) reads =
-    (reads.0 ++ more, packet_stays at bytes more reads.0 packet reads.1,
-    all_stay at reads.0 more rest others reads.2)
+all_stay at bytes more rest (packet ∷ others) reads = (
+  reads.0 ++ more,
+  packet_stays at bytes more reads.0 packet reads.1,
+  all_stay at reads.0 more rest others reads.2,
+)
 
 -- One packet more was read.
 pub one_more :

@@ -34,8 +34,11 @@ impl<P> Model for Feeder<P> {
 
     ghost Value = { Fed };
 
-    ghost view = { λ feeder. record { at = feeder.at; rest = drop feeder.taken feeder.bytes.items;
-        fault = feeder.fault } };
+    ghost view = { λ feeder. record {
+      at = feeder.at;
+      rest = drop feeder.taken feeder.bytes.items;
+      fault = feeder.fault;
+    } };
 
     ghost invariant = { λ feeder. (feeder.taken ≤ length feeder.bytes.items)
         × (feeder.at + length (drop feeder.taken feeder.bytes.items) < 2 ^ 64) };

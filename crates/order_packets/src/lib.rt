@@ -17,6 +17,7 @@ mod down_reading;
 mod feed_fault;
 mod feeder;
 mod first_packet;
+mod fits;
 mod law;
 mod limits;
 mod packet;
@@ -29,6 +30,7 @@ mod writing;
 pub use down::Down;
 pub use feed_fault::FeedFault;
 pub use feeder::Feeder;
+pub use fits::{down_fits, up_fits};
 pub use law::{
     a_fault_stands_in_its_place, a_stream_is_read_one_way, down_is_read_back,
     no_down_begins_another, no_up_begins_another, up_is_read_back,

@@ -19,6 +19,7 @@ const LONGEST: usize = 10_000;
 /// A packet that is printed in words and written again.
 trait Worded: Packet {
     fn words(&self, out: &mut String) -> Result<(), AllocError>;
+
     fn rewrite(&self, out: &mut Vec<u8>) -> Result<(), AllocError>;
 }
 

@@ -59,8 +59,11 @@ written_is_read width number rest fits =
     rw (length-append bytes rest, field_length width number) (omega arith) in
     let some : nat_lt (length (bytes ++ rest)) width ≡ false =
     le-ltb (length (bytes ++ rest)) width enough in
-    rw (some, field_reads_back width number rest fits,
-    drop_at bytes rest width (field_length width number)) refl
+    rw (
+      some,
+      field_reads_back width number rest fits,
+      drop_at bytes rest width (field_length width number),
+    ) refl
 
 -- The same with the fault of another reader.
 pub number_again :

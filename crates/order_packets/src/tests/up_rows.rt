@@ -1,31 +1,16 @@
 /// Streams of packets to the server, and the lines that they give: the place and the words of each
 /// packet, then how many bytes are left open, or the fault and its place.
 pub(super) static ROWS: [(&[u8], &str); 25] = [
-    (
-        b"\x01",
-        "open 1\n",
-    ),
-    (
-        b"\x01\x01",
-        "fault LengthTooLarge 0\n",
-    ),
-    (
-        b"\x01\x00\x63",
-        "fault BadTag 0\n",
-    ),
+    (b"\x01", "open 1\n"),
+    (b"\x01\x01", "fault LengthTooLarge 0\n"),
+    (b"\x01\x00\x63", "fault BadTag 0\n"),
     (
         b"\x0c\x00\x02\x00\x00\x00\x00\x01\x07\x01\x32\x00\x00\x00",
         "0 orders 0 donate 1 50\n\
          open 0\n",
     ),
-    (
-        b"\x02\x00\x04\x00",
-        "fault TrailingInPacket 0\n",
-    ),
-    (
-        b"\x00\x00",
-        "fault ShortPacket 0\n",
-    ),
+    (b"\x02\x00\x04\x00", "fault TrailingInPacket 0\n"),
+    (b"\x00\x00", "fault ShortPacket 0\n"),
     (
         b"\x0b\x00\x01\x02\x00\xdf\xb7\x01\x86\x4c\xbd\x63\xaf\x06\x00\x02\x00\x00\x01\x00\x00\
           \x0b\x00\x01\x02\x00\xdf\xb7\x01\x86\x4c\xbd\x63\xaf\x6b\x00\x02\x00\x00\x01\x00\x10\

@@ -15,10 +15,11 @@ returns-clause-reads g c =
     let spelled : bytes ≡ field_bytes 2 size ++ rest = search rules in
     let small : size ≤ 256 = search rules in
     let read : payload_at g.P.Packet.at (take size rest) ≡ Ok c.in_ok-packet.packet =
-    search rules in
-    (first_found g.P.Packet.at bytes rest size c.in_ok-packet.packet field spelled small enough
-    read,
-    first_within bytes rest size spelled enough)
+    search rules in (
+      first_found g.P.Packet.at bytes rest size c.in_ok-packet.packet field spelled small enough
+          read,
+      first_within bytes rest size spelled enough,
+    )
 
 pub returns-clause-spelled : goal.returns-clause-spelled
 returns-clause-spelled g c =
