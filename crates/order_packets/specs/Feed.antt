@@ -57,7 +57,8 @@ IsEnd (Err fault) = Unit {0}
 
 -- All bytes that a feeder was fed give the packets that it gave, whatever pieces they came in. They
 -- are the spellings of these packets, one after another, then the feeder's rest, and then what came
--- after a fault was answered, which it did not keep. Its place is behind the spellings.
+-- after a fault was answered, which it did not keep. That fault stands where its rest begins. Its
+-- place is behind the spellings.
 pub record HasGiven
     {P : Type 0} (at : List ℕ → PacketRead P) (payload : P → List ℕ) (all : List ℕ)
     (given : List P) (fed : Fed) : Type 0 where
@@ -65,6 +66,7 @@ pub record HasGiven
   pub reads : ReadsAll at all given (fed.rest ++ late)
   pub spelled : all ≡ flat_map (λ packet. framed (payload packet)) given ++ fed.rest ++ late
   pub kept : IfNone fed.fault (late ≡ [])
+  pub stands : IfSome fed.fault (λ fault. packet_at at fed.rest ≡ Err fault)
   pub place : fed.at ≡ length (flat_map (λ packet. framed (payload packet)) given)
 
 -- The packets of an answer: one or none.

@@ -65,6 +65,7 @@ fed_on at payload all given old piece None none has =
           ∙ append_assoc before old.rest piece
           ∙ sym (append-nil (before ++ (old.rest ++ piece)));
       kept = refl;
+      stands = tt;
       place = has.place;
     }
 fed_on at payload all given old piece (Some fault) some has =
@@ -78,6 +79,7 @@ fed_on at payload all given old piece (Some fault) some has =
           ap (λ (bytes : List ℕ). bytes ++ piece) has.spelled
           ∙ append_assoc (before ++ old.rest) has.late piece;
       kept = subst (λ (f : Option FeedFault). IfNone f (has.late ++ piece ≡ [])) (sym some) tt;
+      stands = has.stands;
       place = has.place;
     }
 
@@ -121,6 +123,7 @@ answered at payload all given old (Err fault) is none has =
       reads = has.reads;
       spelled = has.spelled;
       kept = tt;
+      stands = is;
       place = has.place;
     })
 answered at payload all given old (Ok (Some first)) is none has =
@@ -145,6 +148,7 @@ answered at payload all given old (Ok (Some first)) is none has =
           (sym (append_assoc before packet first.1)
           ∙ ap (λ (bytes : List ℕ). bytes ++ first.1) (sym more));
       kept = refl;
+      stands = tt;
       place = rw more (omega (arith, has.place, longer, length-append before packet));
     }
 
