@@ -9,7 +9,6 @@ use Rattle.wire_bytes.specs.ReadLemmas.{written_is_read}
 use Rattle.game_orders.specs.declared.order.Order.{Order}
 use Rattle.game_orders.specs.declared.order.Order.TheVariants.{Move, Attack, Harvest, Stop}
 use Rattle.game_orders.specs.declared.order.Order.TheVariants.{Produce, Cancel, Donate, Pace}
-use Rattle.game_orders.specs.declared.order_fault.OrderFault.TheVariants.{Short}
 use Rattle.game_orders.specs.Order.{flag_number}
 use Rattle.game_orders.specs.OrderBytes.{tag_of, way_bytes, fields_bytes, order_bytes, FitsOrder}
 use Rattle.game_orders.specs.OrderReading.{flag_at, cell_at, way_at, attack_at, pair_at, single_at}

@@ -1,5 +1,5 @@
 -- Orders read from bytes, from the left: the value and the bytes after it, or the first fault.
-use Rattle.std.specs.Prelude.{◌≡◌, ℕ, zero, suc, ◌==◌, nat_lt, Bool, true, false, if◌then◌else◌}
+use Rattle.std.specs.Prelude.{ℕ, zero, suc, ◌==◌, nat_lt, Bool, true, false, if◌then◌else◌}
 use Rattle.std.specs.Prelude.{List, [], ◌∷◌, ◌++◌, Result, Ok, Err}
 use Rattle.base.specs.Steps.{◌>>=◌}
 use Rattle.wire_bytes.specs.Read.{number_at}

@@ -1,5 +1,5 @@
 -- Lists of orders that are read one by one.
-use Rattle.std.specs.Prelude.{◌≡◌, ℕ, zero, suc, ◌+◌, ◌-◌, ◌*◌, ◌<◌, ◌≤◌, nat_lt, List, [], ◌∷◌, ◌++◌}
+use Rattle.std.specs.Prelude.{◌≡◌, ℕ, suc, ◌+◌, ◌-◌, ◌*◌, ◌<◌, ◌≤◌, nat_lt, List, [], ◌∷◌, ◌++◌}
 use Rattle.std.specs.Prelude.{length, take, Ok, Err, false}
 use Rattle.std.specs.List.{AllByRecursion}
 use Rattle.std.proofs.Common.{refl, sym, ap, subst, ◌∙◌, arith, append_assoc, get_or}
@@ -14,8 +14,6 @@ use Rattle.game_orders.specs.declared.order.Order.{Order}
 use Rattle.game_orders.specs.declared.order.Order.TheVariants.{Move, Attack, Harvest, Stop}
 use Rattle.game_orders.specs.declared.order.Order.TheVariants.{Produce, Cancel, Donate, Pace}
 use Rattle.game_orders.specs.declared.order_fault.OrderFault.{OrderFault}
-use Rattle.game_orders.specs.declared.orders_fault.OrdersFault.{OrdersFault}
-use Rattle.game_orders.specs.declared.orders_fault.OrdersFault.TheVariants as orders_fault
 use Rattle.game_orders.specs.OrderBytes.{order_bytes, each_order, orders_bytes, FitsOrder, FitsOrders}
 use Rattle.game_orders.specs.OrderBytesLemmas.{order_again, order_size, order_bytes_size}
 use Rattle.game_orders.specs.OrderReading.{OrdersRead, list_fault, order_at, orders_after, orders_at}

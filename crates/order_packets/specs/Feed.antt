@@ -1,5 +1,5 @@
 -- What a feeder is, and what its calls give and leave.
-use Rattle.std.specs.Prelude.{◌≡◌, ℕ, ◌+◌, ◌-◌, List, [], ◌∷◌, ◌++◌, length, drop}
+use Rattle.std.specs.Prelude.{◌≡◌, ℕ, ◌+◌, ◌-◌, List, [], ◌∷◌, ◌++◌, length}
 use Rattle.std.specs.Prelude.{Option, Some, None, Result, Ok, Err, IfSome, IfNone}
 use Rattle.std.specs.List.{flat_map}
 use Rattle.order_packets.specs.declared.feed_fault.FeedFault.{FeedFault}

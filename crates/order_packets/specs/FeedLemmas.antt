@@ -1,5 +1,5 @@
 -- What a feeder has given, after each of its calls.
-use Rattle.std.specs.Prelude.{◌≡◌, ℕ, ◌+◌, ◌-◌, List, [], ◌∷◌, ◌++◌, length}
+use Rattle.std.specs.Prelude.{◌≡◌, ℕ, ◌+◌, List, [], ◌∷◌, ◌++◌, length}
 use Rattle.std.specs.Prelude.{Option, Some, None, Result, Ok, Err, IfNone, OnOk}
 use Rattle.std.specs.List.{flat_map}
 use Rattle.std.proofs.Common.{refl, sym, ap, subst, ◌∙◌, arith, append_assoc}
@@ -7,7 +7,7 @@ use Rattle.std.proofs.lemmas.List.{append-nil, length-append}
 use Rattle.order_packets.specs.declared.feed_fault.FeedFault.{FeedFault}
 use Rattle.order_packets.specs.PacketBytes.{framed}
 use Rattle.order_packets.specs.PacketReading.{PacketRead, FirstPacket, packet_at}
-use Rattle.order_packets.specs.Feed.{Fed, unfed, more_fed, Answer, answer_of, next_answer}
+use Rattle.order_packets.specs.Feed.{Fed, more_fed, Answer, answer_of, next_answer}
 use Rattle.order_packets.specs.Feed.{ReadsAll, HasGiven, given_by, IfGiven}
 use Rattle.order_packets.specs.StreamLemmas.{all_stay, one_more}
 

@@ -1,5 +1,5 @@
 -- Packets as bytes. Each packet has one spelling.
-use Rattle.std.specs.Prelude.{◌≡◌, ℕ, ◌<◌, ◌^◌, List, ◌++◌, length}
+use Rattle.std.specs.Prelude.{ℕ, ◌<◌, ◌^◌, List, ◌++◌, length}
 use Rattle.wire_bytes.specs.Field.{field_bytes}
 use Rattle.game_orders.specs.declared.entry.Entry.TheVariants.{Play, Leave}
 use Rattle.game_orders.specs.OrderBytes.{orders_bytes, FitsOrders}

@@ -9,7 +9,7 @@ use Rattle.wire_bytes.specs.FieldLemmas.{field_length}
 use Rattle.wire_bytes.specs.ReadLemmas.{written_is_read}
 use Rattle.game_orders.specs.declared.order.Order.{Order}
 use Rattle.game_orders.specs.declared.entry.Entry.TheVariants.{Play, Leave}
-use Rattle.game_orders.specs.OrderBytes.{orders_bytes, FitsOrders}
+use Rattle.game_orders.specs.OrderBytes.{orders_bytes}
 use Rattle.game_orders.specs.OrdersLemmas.{orders_again, orders_are_short}
 use Rattle.order_packets.specs.declared.limits.TheConstants.{MAX_PAYLOAD}
 use Rattle.order_packets.specs.declared.up.Up.{Up}

@@ -1,6 +1,6 @@
 -- Packets read from a stream: the first packet and the bytes after it, that the stream is still
 -- open, or the fault that stands in a packet's place.
-use Rattle.std.specs.Prelude.{◌≡◌, ℕ, ◌==◌, nat_lt, if◌then◌else◌, List, [], ◌∷◌, length}
+use Rattle.std.specs.Prelude.{ℕ, ◌==◌, nat_lt, if◌then◌else◌, List, [], ◌∷◌, length}
 use Rattle.std.specs.Prelude.{take, drop, Option, Some, None, Result, Ok, Err}
 use Rattle.base.specs.Steps.{◌>>=◌}
 use Rattle.wire_bytes.specs.declared.short.Short as short

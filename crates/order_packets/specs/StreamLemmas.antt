@@ -1,5 +1,5 @@
 -- What a stream begins with, however it goes on.
-use Rattle.std.specs.Prelude.{◌≡◌, ◌⊎◌, ℕ, ◌≤◌, ◌<◌, nat_lt, true, false, List, [], ◌∷◌, ◌++◌}
+use Rattle.std.specs.Prelude.{◌≡◌, ◌⊎◌, ℕ, nat_lt, true, false, List, [], ◌∷◌, ◌++◌}
 use Rattle.std.specs.Prelude.{length, take, drop, Some, None, Result, Ok, Err}
 use Rattle.std.proofs.Common.{refl, sym, ap, ap₂, subst, ◌∙◌, arith, inl, inr}
 use Rattle.std.proofs.lemmas.Bool.{le-ltb, lt-ltb, cases_lt}
@@ -11,7 +11,7 @@ use Rattle.wire_bytes.specs.Read.{field_at}
 use Rattle.order_packets.specs.declared.feed_fault.FeedFault.{FeedFault}
 use Rattle.order_packets.specs.declared.limits.TheConstants.{MAX_PAYLOAD}
 use Rattle.order_packets.specs.PacketReading.{PacketRead, FirstPacket, payload_at, sized_at}
-use Rattle.order_packets.specs.PacketReading.{behind_length, packet_at}
+use Rattle.order_packets.specs.PacketReading.{packet_at}
 use Rattle.order_packets.specs.PacketLemmas.{same_first}
 use Rattle.order_packets.specs.Feed.{ReadsAll, IsEnd}
 
