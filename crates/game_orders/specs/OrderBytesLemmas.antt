@@ -144,7 +144,8 @@ length_2 a b = length-append a b
 length_3 : (a b c : List ℕ) → length (a ++ b ++ c) ≡ length a + length b + length c
 length_3 a b c = length-append (a ++ b) c ∙ ap (λ (n : ℕ). n + length c) (length-append a b)
 
-length_4 : (a b c d : List ℕ) → length (a ++ b ++ c ++ d) ≡ length a + length b + length c + length d
+length_4 : (a b c d : List ℕ) →
+    length (a ++ b ++ c ++ d) ≡ length a + length b + length c + length d
 length_4 a b c d =
     length-append (a ++ b ++ c) d ∙ ap (λ (n : ℕ). n + length d) (length_3 a b c)
 

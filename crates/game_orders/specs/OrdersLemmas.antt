@@ -14,9 +14,11 @@ use Rattle.game_orders.specs.declared.order.Order.{Order}
 use Rattle.game_orders.specs.declared.order.Order.TheVariants.{Move, Attack, Harvest, Stop}
 use Rattle.game_orders.specs.declared.order.Order.TheVariants.{Produce, Cancel, Donate, Pace}
 use Rattle.game_orders.specs.declared.order_fault.OrderFault.{OrderFault}
-use Rattle.game_orders.specs.OrderBytes.{order_bytes, each_order, orders_bytes, FitsOrder, FitsOrders}
+use Rattle.game_orders.specs.OrderBytes.{order_bytes, each_order, orders_bytes}
+use Rattle.game_orders.specs.OrderBytes.{FitsOrder, FitsOrders}
 use Rattle.game_orders.specs.OrderBytesLemmas.{order_again, order_size, order_bytes_size}
-use Rattle.game_orders.specs.OrderReading.{OrdersRead, list_fault, order_at, orders_after, orders_at}
+use Rattle.game_orders.specs.OrderReading.{OrdersRead, list_fault, order_at}
+use Rattle.game_orders.specs.OrderReading.{orders_after, orders_at}
 
 -- One more order was read of so many.
 pub next_is_held :

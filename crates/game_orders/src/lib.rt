@@ -6,9 +6,9 @@
 //! orders or entries are equal exactly where they are the same.
 //!
 //! Orders have one spelling as bytes, a tag and the fields (`specs/OrderBytes.antt`), which
-//! [`write_order`] and [`write_orders`] append and [`read_order`] and [`read_orders`] read. What was
-//! written is read back, whatever follows it, and what was read is the spelling of what it gave. Only
-//! these writers take memory.
+//! [`write_order`] and [`write_orders`] append and [`read_order`] and [`read_orders`] read. What
+//! was written is read back, whatever follows it, and what was read is the spelling of what it
+//! gave. Only these writers take memory.
 #![tactic(auto)]
 
 mod entry;

@@ -44,8 +44,8 @@ pub fn write_orders(out: &mut Vec<u8>, orders: &Orders) -> Result<(), NoMemory>
     written
 }
 
-/// The orders of one client for one frame that code holds are at most [`crate::MAX_ORDERS`], and their
-/// numbers fit their fields. The call does nothing.
+/// The orders of one client for one frame that code holds are at most [`crate::MAX_ORDERS`], and
+/// their numbers fit their fields. The call does nothing.
 #[tactic(auto, using(crate::specs::OrdersLemmas::fitting_steps))]
 pub fn orders_fit(orders: &Orders)
     ensures { FitsOrders orders.now }

@@ -1,16 +1,19 @@
 -- The first packet and its length, found behind the two bytes of the length.
-use Rattle.std.specs.Prelude.{◌≡◌, ℕ, ◌+◌, ◌≤◌, ◌<◌, nat_lt, Bool, true, false, List, ◌++◌, length, take, drop}
+use Rattle.std.specs.Prelude.{◌≡◌, ℕ, ◌+◌, ◌≤◌, ◌<◌, nat_lt, Bool, true, false}
+use Rattle.std.specs.Prelude.{List, ◌++◌, length, take, drop}
 use Rattle.std.specs.Prelude.{Some, Result, Ok, Err, if◌then◌else◌}
 use Rattle.std.proofs.Common.{refl, sym, ap, ◌∙◌, arith, append_assoc, inl, inr}
 use Rattle.std.proofs.lemmas.Bool.{le-ltb, cases_lt}
-use Rattle.std.proofs.lemmas.List.{take-append-drop, drop_at, drop-drop, length-append, length-take-le}
+use Rattle.std.proofs.lemmas.List.{take-append-drop, drop_at, drop-drop}
+use Rattle.std.proofs.lemmas.List.{length-append, length-take-le}
 use Rattle.wire_bytes.specs.declared.short.Short.{Short}
 use Rattle.wire_bytes.specs.Field.{field_bytes, field_number}
 use Rattle.wire_bytes.specs.FieldLemmas.{field_length}
 use Rattle.wire_bytes.specs.Read.{field_at}
 use Rattle.order_packets.specs.declared.limits.TheConstants.{MAX_PAYLOAD}
 use Rattle.order_packets.specs.PacketBytes.{framed}
-use Rattle.order_packets.specs.PacketReading.{PacketRead, behind_length, sized_at, payload_at, packet_at}
+use Rattle.order_packets.specs.PacketReading.{PacketRead, behind_length, sized_at}
+use Rattle.order_packets.specs.PacketReading.{payload_at, packet_at}
 
 -- What is left behind a length and so many bytes.
 behind_payload :

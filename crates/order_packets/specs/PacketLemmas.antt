@@ -49,7 +49,8 @@ framed_again at payload packet rest short read =
     let small : nat_lt MAX_PAYLOAD (length payload) ≡ false =
     le-ltb MAX_PAYLOAD (length payload) short in
     let whole : nat_lt (length (payload ++ rest)) (length payload) ≡ false =
-    le-ltb (length (payload ++ rest)) (length payload) (omega (arith, length-append payload rest)) in
+    le-ltb (length (payload ++ rest)) (length payload)
+    (omega (arith, length-append payload rest)) in
     ap (packet_at at) (append_assoc (field_bytes 2 (length payload)) payload rest)
     ∙ ap (behind_length at)
     (written_is_read 2 (length payload) (payload ++ rest) (omega (arith, short)))

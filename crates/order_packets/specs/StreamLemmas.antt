@@ -49,7 +49,8 @@ sized_stays at size bytes more =
                 lt-ltb (length bytes) size few in
                 inr (rw (fits, open_still) refl)
             | inr enough ↦
-                let whole : nat_lt (length bytes) size ≡ false = le-ltb (length bytes) size enough in
+                let whole : nat_lt (length bytes) size ≡ false =
+                le-ltb (length bytes) size enough in
                 let longer : nat_lt (length (bytes ++ more)) size ≡ false =
                 le-ltb (length (bytes ++ more)) size
                 (omega (arith, length-append bytes more, enough)) in

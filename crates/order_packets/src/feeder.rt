@@ -1,4 +1,5 @@
-ghost use Rattle.std.specs.Prelude.{◌≡◌, ◌+◌, ◌<◌, ◌≤◌, ◌^◌, ◌++◌, [], List, ℕ, length, OnOk, OnErr, IfOk};
+ghost use Rattle.std.specs.Prelude.{◌≡◌, ◌+◌, ◌<◌, ◌≤◌, ◌^◌, ◌++◌, [], List, ℕ, length};
+ghost use Rattle.std.specs.Prelude.{OnOk, OnErr, IfOk};
 ghost use Rattle.order_packets.specs.Feed.{unfed, more_fed, next_answer, HasGiven};
 ghost use Rattle.order_packets.specs.Feed.{given_by, IfGiven, IfOpen};
 ghost use Rattle.order_packets.specs.PacketBytes.{framed};

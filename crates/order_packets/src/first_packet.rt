@@ -22,8 +22,8 @@ fn read_payload<P: Packet>(payload: &[u8]) -> Result<P, FeedFault>
     Ok(packet)
 }
 
-/// The packet that the bytes begin with, and the length of its spelling. None exactly where they are
-/// less than a whole packet, with no fault so far.
+/// The packet that the bytes begin with, and the length of its spelling. None exactly where they
+/// are less than a whole packet, with no fault so far.
 #[tactic(auto, using(crate::specs::FirstLemmas::few_steps), unfolding(crate::specs::PacketReading::packet_at, crate::specs::PacketReading::sized_at))]
 pub(crate) fn first_packet<P: Packet>(bytes: &[u8]) -> Result<Option<(P, usize)>, FeedFault>
     ensures reads { GivesFirst bytes.now result (packet_at P.at bytes.now) }

@@ -1,15 +1,15 @@
 //! Packets between the clients of a match and its server, and the streams that carry them.
 //!
 //! [`Up`] is what a client sends: its greeting, the orders that it sealed for a frame, a report of
-//! its world's hash, and its farewell. [`Down`] is what the server sends: that the client is in the
-//! match or not, and what each client did for a frame. Packets are plain values. Two of a client are
-//! equal by `==` exactly where they are the same.
+//! its world's hash, and its farewell. Two are equal by `==` exactly where they are the same.
+//! [`Down`] is what the server sends: that the client is in the match or not, and what each client
+//! did for a frame. Packets are plain values.
 //!
 //! Each packet has one spelling, which [`write_up`] and [`write_down`] append: the length of its
 //! payload in two bytes, at most [`MAX_PAYLOAD`], and the payload, a tag and the packet's fields
-//! (`specs/PacketBytes.antt`). No spelling begins another. A [`Feeder`] takes a stream in pieces and
-//! gives the packets whose spellings stand in it one after another, then that the stream is open or
-//! the fault in a packet's place, however the stream was cut.
+//! (`specs/PacketBytes.antt`). No spelling begins another. A [`Feeder`] takes a stream in pieces
+//! and gives the packets whose spellings stand in it one after another, then that the stream is
+//! open or the fault in a packet's place, however the stream was cut.
 #![tactic(auto)]
 
 mod down;
