@@ -51,6 +51,14 @@ impl Orders {
         }
     }
 
+    /// Adds an order last. Fewer than [`MAX_ORDERS`] are there before.
+    pub fn push(&mut self, o: Order)
+        requires { length self.old < MAX_ORDERS }
+        ensures { self.new ≡ self.old ++ o ∷ [] }
+    {
+        self.held.push(o);
+    }
+
     /// The number of orders, at most [`MAX_ORDERS`].
     pub fn len(&self) -> usize
         ensures value { result ≡ length self.now }
@@ -73,6 +81,15 @@ impl Orders {
         ensures past { IfNone result (length self.now ≤ i) }
     {
         self.held.as_slice().get(i)
+    }
+
+    /// The orders, in the order in which they are applied.
+    pub fn as_slice(&self) -> &[Order]
+        ensures value { result.now ≡ self.now }
+        ensures limit { length result.now ≤ MAX_ORDERS }
+    {
+        let _held = &self.held;
+        self.held.as_slice()
     }
 
     /// The same orders once more.

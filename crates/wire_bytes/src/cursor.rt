@@ -41,6 +41,13 @@ impl<'a> Cursor<'a> {
         self.left.len()
     }
 
+    /// The bytes that are left.
+    pub fn rest(&self) -> &'a [u8]
+        ensures { result.now ≡ self.now }
+    {
+        self.left
+    }
+
     /// The bytes of the next field of this width.
     fn take(&mut self, width: usize) -> Result<&'a [u8], Short>
         ensures ok { IfOk result (λ field. TakesField width self.old self.new field.now) }
@@ -64,6 +71,7 @@ impl<'a> Cursor<'a> {
     /// The next byte.
     ///
     /// `Short` exactly where no byte is left; then the cursor stays.
+    #[tactic(auto, unfolding(crate::specs::Read::field_at))]
     pub fn read_u8(&mut self) -> Result<u8, Short>
         ensures { ReadsField 1 self.old self.new result }
     {
@@ -74,6 +82,7 @@ impl<'a> Cursor<'a> {
     /// The next two bytes as a number, the lowest first.
     ///
     /// `Short` exactly where fewer are left; then the cursor stays.
+    #[tactic(auto, unfolding(crate::specs::Read::field_at))]
     pub fn read_u16(&mut self) -> Result<u16, Short>
         ensures { ReadsField 2 self.old self.new result }
     {
@@ -84,6 +93,7 @@ impl<'a> Cursor<'a> {
     /// The next four bytes as a number, the lowest first.
     ///
     /// `Short` exactly where fewer are left; then the cursor stays.
+    #[tactic(auto, unfolding(crate::specs::Read::field_at))]
     pub fn read_u32(&mut self) -> Result<u32, Short>
         ensures { ReadsField 4 self.old self.new result }
     {
@@ -94,6 +104,7 @@ impl<'a> Cursor<'a> {
     /// The next eight bytes as a number, the lowest first.
     ///
     /// `Short` exactly where fewer are left; then the cursor stays.
+    #[tactic(auto, unfolding(crate::specs::Read::field_at))]
     pub fn read_u64(&mut self) -> Result<u64, Short>
         ensures { ReadsField 8 self.old self.new result }
     {

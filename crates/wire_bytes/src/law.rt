@@ -8,12 +8,12 @@ pub fn field_has_its_width()
     ensures { (width number : ℕ) → length (field_bytes width number) ≡ width }
 {}
 
-/// A law of fields of every width: reading what was written gives it back, whatever follows it. The
-/// call does nothing.
+/// A law of fields of every width: reading what was written gives it back, and then what follows
+/// it. The call does nothing.
 #[tactic(auto, using(crate::specs::ReadLemmas::written_is_read))]
 pub fn number_is_read_back()
     ensures { (width number : ℕ) (rest : List ℕ) → number < 256 ^ width →
-        field_at width (field_bytes width number ++ rest) ≡ Ok number }
+        field_at width (field_bytes width number ++ rest) ≡ Ok (number, rest) }
 {}
 
 /// A law of fields of every width: the bytes of the number that was read are the bytes that were

@@ -1,0 +1,11 @@
+-- What is still read after the held orders is what all of the bytes give.
+use Rattle.std.proofs.Common.{◌≡◌, ◌++◌, ◌-◌, [], length}
+use Rattle.game_orders.specs.OrderBytes.{each_order}
+use Rattle.game_orders.specs.OrderReading.{orders_after}
+use Rattle.game_orders.proofs.orders_reading.read_each.Given as goal
+
+abbrev pub invariant-loop : goal.invariant-loop
+invariant-loop l =
+    (orders_after l.orders (l.count - l.counter) l.c ≡ orders_after [] l.count l.fn.c)
+    × (length l.orders ≡ l.counter)
+    × (l.fn.c ≡ each_order l.orders ++ l.c)
