@@ -1,0 +1,106 @@
+-- What the calls of the table ask of a pass, and what they leave.
+use Rattle.std.specs.Prelude.{◌≡◌, ◌≢◌, ℕ, ◌+◌, ◌<◌, ◌≤◌, ◌⊎◌, ◌&&◌, nat_lt, nat_le, Bool, true, false}
+use Rattle.std.specs.Prelude.{if◌then◌else◌, List, [], ◌∷◌, length, map, Some, None, slice_get}
+use Rattle.atomic_table.specs.Table.{Me}
+use Rattle.game_orders.specs.declared.order.Order.{Order}
+use Rattle.game_orders.specs.declared.entry.Entry.{Entry}
+use Rattle.game_orders.specs.declared.entry.Entry.TheVariants.{Play, Leave}
+use Rattle.frame_core.specs.Column.{Column, length_of}
+use Rattle.frame_core.specs.Grows.{GrowsTo}
+use Rattle.frame_core.specs.declared.input.Input.{Input}
+use Rattle.frame_core.specs.declared.input.Input.TheVariants.{Missing, Played, Departed}
+use Rattle.frame_core.specs.declared.ready.Ready.{Ready}
+use Rattle.frame_core.specs.Input.{ready_of}
+use Rattle.frame_table.specs.declared.seen.Seen.{Seen}
+use Rattle.frame_table.specs.declared.planned.Planned.{Planned}
+use Rattle.frame_table.specs.declared.planned.Planned.TheVariants.{Free, Plays}
+use Rattle.frame_table.specs.declared.view.View.{View}
+use Rattle.frame_table.specs.declared.view.Mark.{Mark}
+use Rattle.frame_table.specs.declared.pass.Pass.{Pass}
+use Rattle.frame_table.specs.declared.table.FrameTable.{FrameTable}
+use Rattle.frame_table.specs.Part.{Part, part_of, OthersStay}
+use Rattle.frame_table.specs.Steps.{Slot, IsFurther, IsFound, holding, published, MayAdd, MayEnd}
+
+-- What is planned for each client's column.
+abbrev pub plan_of : FrameTable → List Planned
+plan_of table = table.inner.shared.key
+
+-- What a pass has seen, knows and may do.
+abbrev pub view_of : Pass → View
+view_of pass = pass.seat.me.0
+
+-- The pass was made by a call of this table, and no call is under way with it.
+pub record IsPassOf (table : FrameTable) (pass : Pass) : Type 0 where
+  pub same : pass.seat.table_id ≡ table.inner.shared.table_id
+  pub free : pass.seat.me.1 ≡ []
+  pub share : 0 < (view_of pass).share
+  pub marks : length (view_of pass).marks ≡ length (plan_of table)
+  pub held : (c : ℕ) → (part_of c (view_of pass)).held ≡ []
+
+-- Frame n was seen: a play at it, or the departure at or before it.
+abbrev pub HasSeen : Seen → ℕ → Type 0
+HasSeen seen n = (n < seen.plays) ⊎ ((seen.left ≡ true) × (seen.plays ≤ n))
+
+-- A play is put into a free column only by the pass that feeds it, or by one that has seen its
+-- frame; into a planned column goes what is planned there, and the departure at the plan's end.
+abbrev pub MayPutPlay : Planned → Part → ℕ → List Order → Type 0
+MayPutPlay Free part n orders = (part.feeds ≡ true) ⊎ HasSeen part.reach n
+MayPutPlay (Plays plays) part n orders = slice_get plays n ≡ Some orders
+
+abbrev pub MayPut : Part → ℕ → Entry → Type 0
+MayPut part n (Play orders) = MayPutPlay part.planned part n orders
+MayPut part n Leave = MayEnd part.planned n
+
+-- A planned column is left only where all its plays were seen.
+abbrev pub MayLeaveBy : Planned → Seen → Type 0
+MayLeaveBy Free seen = Unit {0}
+MayLeaveBy (Plays plays) seen = length plays ≤ seen.plays
+
+-- The lock of column c was taken, and the column is this.
+pub record HasLocked (c : ℕ) (old new : Me Slot View) (columns : List Column) : Type 0 where
+  pub column : Column
+  pub is : columns ≡ column ∷ []
+  pub slots : new.1 ≡ (c, None) ∷ old.1
+  pub others : OthersStay c old.0 new.0
+  pub part : part_of c new.0 ≡ holding (part_of c old.0) column
+  pub found : IsFound (part_of c old.0) column
+
+-- A call found the column so at its own step, and made that of it: now all of it is seen and known.
+pub record Acted (c : ℕ) (old new : View) (before after : Column) : Type 0 where
+  pub found : IsFound (part_of c old) before
+  pub others : OthersStay c old new
+  pub part : part_of c new ≡ published (part_of c old) before after
+
+-- Nothing has changed for the pass.
+pub record Unchanged (old new : View) : Type 0 where
+  pub share : new.share ≡ old.share
+  pub parts : (c : ℕ) → part_of c new ≡ part_of c old
+
+-- What was seen of a column tells for frame n.
+abbrev pub input_seen : Seen → ℕ → Input
+input_seen seen n =
+    if nat_lt n seen.plays then Played else (if seen.left then Departed else Missing)
+
+-- Whether frame n is ready, by what a pass has seen of each column.
+abbrev pub inputs_seen : View → ℕ → List Input
+inputs_seen view n = map (λ (mark : Mark). input_seen mark.reach n) view.marks
+
+abbrev pub ready_seen : View → ℕ → Ready
+ready_seen view n = ready_of (inputs_seen view n)
+
+-- The columns' words may have been loaded: more may have been seen, and nothing else has changed.
+pub record IsLaterPart (old new : Part) : Type 0 where
+  pub further : IsFurther old.reach new.reach
+  pub loads : old.loads ≤ new.loads
+  pub else_same : new ≡ record old { reach = new.reach; loads = new.loads }
+
+-- The lock of column c was given back.
+pub record GaveBack (c : ℕ) (old new : Me Slot View) : Type 0 where
+  pub slots : new.1 ≡ []
+  pub others : OthersStay c old.0 new.0
+
+-- The same of all columns.
+pub record IsLater (old new : View) : Type 0 where
+  pub share : new.share ≡ old.share
+  pub marks : length new.marks ≡ length old.marks
+  pub parts : (c : ℕ) → IsLaterPart (part_of c old) (part_of c new)

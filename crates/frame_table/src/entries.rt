@@ -1,0 +1,84 @@
+//! The calls that take a column's lock.
+ghost use Rattle.std.specs.Prelude.{◌≡◌, ◌<◌, ◌≤◌, length, Some, IfOk, OnErr, ℕ};
+ghost use Rattle.frame_core.specs.Column.{Column, column_of, has_at, put_answer, put_column};
+ghost use Rattle.frame_core.specs.Column.{leave_answer, left_column};
+ghost use Rattle.frame_table.specs.Part.{part_of};
+ghost use Rattle.frame_table.specs.Steps.{IsFound};
+ghost use Rattle.frame_table.specs.Calls.{plan_of, view_of, IsPassOf, HasSeen, MayPut, MayLeaveBy};
+ghost use Rattle.frame_table.specs.Calls.{Acted, Unchanged};
+
+use crate::pass::Pass;
+use crate::table::FrameTable;
+use base::NoMemory;
+use frame_core::{Columns, Leaving, Put};
+use game_orders::Entry;
+use std::sync::Wait;
+
+impl FrameTable {
+    /// Puts an entry of client `c`, which is below the number of clients, at frame `n`. The answer
+    /// is that of `Columns::put` on the column as it is at this call's own step, and afterwards the
+    /// pass has seen, and knows, all of the column. A play is put into a free column only by the
+    /// pass that feeds it, or by one that has seen its frame; into a planned column goes what is
+    /// planned at `n`, and the departure at the plan's end. Out of memory is its one error, and
+    /// then nothing has changed.
+    pub fn put<R: Wait>(
+        &self,
+        rt: &R,
+        pass: &mut Pass,
+        c: u8,
+        n: u32,
+        e: Entry,
+    ) -> Result<Put, NoMemory>
+        requires pass { IsPassOf self.now pass.old }
+        requires client { c < length (plan_of self.now) }
+        requires may { MayPut (part_of c (view_of pass.old)) n e }
+        ensures pass { IsPassOf self.now pass.new }
+        ensures ok { IfOk result (λ answer. (K : Column) × Acted c (view_of pass.old) (view_of pass.new) K (put_column K n e) × (answer ≡ put_answer K n e)) }
+        ensures err { OnErr result (Unchanged (view_of pass.old) (view_of pass.new)) }
+    {
+        let mut column = self.lock(rt, pass, c);
+        match column.put(0, n, e) {
+            Ok(answer) => {
+                self.publish(pass, c, column);
+                Ok(answer)
+            }
+            Err(error) => {
+                self.give_back(pass, c, column);
+                Err(error)
+            }
+        }
+    }
+
+    /// Lets client `c`, which is below the number of clients, leave: its departure stands at the
+    /// frame that is its number of plays. `Already` exactly where it has left, and then nothing
+    /// changes. Afterwards the pass has seen, and knows, all of the column. A planned column is
+    /// left only where the pass has seen all its plays.
+    pub fn leave<R: Wait>(&self, rt: &R, pass: &mut Pass, c: u8) -> Leaving
+        requires pass { IsPassOf self.now pass.old }
+        requires client { c < length (plan_of self.now) }
+        requires may { MayLeaveBy (part_of c (view_of pass.old)).planned (part_of c (view_of pass.old)).reach }
+        ensures pass { IsPassOf self.now pass.new }
+        ensures left { (K : Column) × Acted c (view_of pass.old) (view_of pass.new) K (left_column K) × (result ≡ leave_answer K) }
+    {
+        let mut column = self.lock(rt, pass, c);
+        let answer = column.leave(0);
+        self.publish(pass, c, column);
+        answer
+    }
+
+    /// The entry of client `c`, which is below the number of clients, at frame `n`, which the pass
+    /// has seen: the play there, or the departure at or before it. No column changes. Afterwards
+    /// the pass has seen, and knows, all of the column.
+    pub fn take<R: Wait>(&self, rt: &R, pass: &mut Pass, c: u8, n: u32) -> Entry
+        requires pass { IsPassOf self.now pass.old }
+        requires client { c < length (plan_of self.now) }
+        requires seen { HasSeen (part_of c (view_of pass.old)).reach n }
+        ensures pass { IsPassOf self.now pass.new }
+        ensures taken { (K : Column) × Acted c (view_of pass.old) (view_of pass.new) K K × (has_at K n ≡ Some result) }
+    {
+        let column = self.lock(rt, pass, c);
+        let entry = column.entry(0, n).map_or(Entry::Leave, Entry::copy);
+        self.publish(pass, c, column);
+        entry
+    }
+}
