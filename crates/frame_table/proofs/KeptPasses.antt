@@ -1,5 +1,5 @@
 -- The table begins so, and passes are split, joined and compared.
-use Rattle.std.proofs.Common.{◌≡◌, ◌≢◌, ◌⊎◌, ℕ, zero, suc, ◌+◌, ◌-◌, ◌/◌, ◌%◌, ◌^◌, ◌<◌, ◌≤◌, ◌==◌, nat_lt, Bool, true, false, true≢false, List, [], ◌∷◌, ◌++◌, length, map, set, get_or, replicate, refl, sym, ap, ap₂, ◌∙◌, subst, inl, inr, ⊎_elim, arith, Some, None}
+use Rattle.std.proofs.Common.{◌≡◌, ◌≢◌, ◌⊎◌, ℕ, zero, suc, ◌+◌, ◌-◌, ◌/◌, ◌%◌, ◌^◌, ◌<◌, ◌≤◌, ◌==◌, nat_lt, Bool, true, false, true≢false, if◌then◌else◌, List, [], ◌∷◌, ◌++◌, length, map, set, get_or, replicate, refl, sym, ap, ap₂, ◌∙◌, subst, inl, inr, ⊎_elim, arith, Some, None}
 use Rattle.std.specs.Prelude.{slice_index, Option as Maybe}
 use Rattle.std.proofs.lemmas.Bool.Decides.{leb_tells}
 use mathlib.Core.Option.{Option, none, some, some-ne-none, some-injective}
@@ -15,11 +15,11 @@ use Rattle.frame_table.specs.declared.view.View.{View}
 use Rattle.frame_table.specs.declared.view.Mark.{Mark}
 use Rattle.frame_table.specs.Part.{Part, part_of, part_in, no_mark}
 use Rattle.frame_table.specs.Word.{one_if, word_of}
-use Rattle.frame_table.specs.Rule.{planned_of, home_of, Keeps, IsKept, Fits}
-use Rattle.frame_table.specs.Steps.{Slot}
-use Rattle.frame_table.specs.Passes.{kept_mark, given_mark, kept_marks, given_marks, kept_view, given_view, size_of, longer, shorter, known_in, joined_mark, joined_marks, joined_view, spent_view}
-use Rattle.frame_table.proofs.Lists.{map_set, map_snoc, length_set}
-use Rattle.frame_table.proofs.SplitJoin.{handed, kept_split, kept_joined, agree, joined_at, joined_length, given_length}
+use Rattle.frame_table.specs.Rule.{planned_of, home_of, Keeps, IsKept, Fits, Follows}
+use Rattle.frame_table.specs.Steps.{Slot, Meets, HasMet}
+use Rattle.frame_table.specs.Passes.{kept_mark, given_mark, kept_marks, given_marks, kept_view, given_view, size_of, longer, shorter, known_in, joined_mark, joined_marks, joined_view, spent_view, first_mark, first_view, is_free}
+use Rattle.frame_table.proofs.Lists.{map_set, map_snoc, length_set, index_some}
+use Rattle.frame_table.proofs.SplitJoin.{handed, kept_split, kept_joined, agree, joined_at, joined_length, given_length, lt_true, lt_false}
 use Rattle.frame_table.proofs.KeptSteps.{Now}
 
 module _ (plan : List Planned) (id : ℕ) (v : View) where
@@ -78,3 +78,109 @@ module _ (plan : List Planned) (id : ℕ) (v : View) where
 
       theirs : length w.marks ≡ length plan
       theirs = kept.marks other w was other_share
+
+  -- of two passes that were joined, what the one knew begins what the other knew
+  pub meets : (slots : ℕ) (carried : List (ℕ × Slot)) → 0 < v.share → 0 < length plan → Allows (IsKept plan) slots id (v, carried) 0 (λ n. n) (Meets (step slots 0 0 0 none) (v, carried))
+  meets slots carried some_share clients s kept long at small =
+      let one = kept.each 0 clients in
+      let found : slice_index s.words 0 ≡ word_of one.column one.locked = index_some s.words 0 (word_of one.column one.locked) one.word_is in
+      let same : set s.words 0 (slice_index s.words 0) ≡ s.words = set_again s.words 0 (slice_index s.words 0) (one.word_is ∙ ap some (sym found)) in
+      (
+        v,
+        keeps,
+        tt,
+        subst (λ (y : List ℕ × List View). IsKept plan (record { words = y.0; homes = s.homes; views = y.1 })) (λ i. (sym same i, sym (set_again s.views id v at) i)) kept,
+        (
+          refl,
+          λ c below.
+              let here : c < length plan = (let l = kept.marks id v at some_share in omega arith) in
+              let its = kept.each c here in
+              let fits = its.fits id (part_of c v) (at_map (part_of c) s.views id v at) in
+              λ short. agree (part_of c v).met (part_of c v).known its.column fits.met fits.known short,
+        ),
+      )
+
+-- what either knew, they know when they are joined
+pub both_grow : (a b : Column) → (size_of (shorter a b) ≤ size_of (longer a b) → GrowsTo (shorter a b) (longer a b)) → GrowsTo a (longer a b) × GrowsTo b (longer a b)
+both_grow a b met = by (nat_lt (size_of a) (size_of b)) refl
+  where
+    by : (t : Bool) → nat_lt (size_of a) (size_of b) ≡ t → GrowsTo a (longer a b) × GrowsTo b (longer a b)
+    by true is =
+        let m : GrowsTo a b = subst (λ t. size_of (if t then a else b) ≤ size_of (if t then b else a) → GrowsTo (if t then a else b) (if t then b else a)) is met (lt_true (size_of a) (size_of b) is) in
+        rw is (m, GrowsTo-refl b)
+    by false is =
+        let m : GrowsTo b a = subst (λ t. size_of (if t then a else b) ≤ size_of (if t then b else a) → GrowsTo (if t then a else b) (if t then b else a)) is met (lt_false (size_of a) (size_of b) is) in
+        rw is (GrowsTo-refl a, m)
+
+at_replicate : {A : Type 0} (n i : ℕ) (a : A) → i < n → get_elem? (replicate n a) i ≡ some a
+at_replicate zero i a below = absurd (omega arith)
+at_replicate (suc n) zero a below = refl
+at_replicate (suc n) (suc i) a below = at_replicate n i a (omega arith)
+
+first_at : (plan : List Planned) (c : ℕ) → c < length plan → get_or (map first_mark plan) c no_mark ≡ first_mark (get_or plan c Free)
+first_at [] c below = absurd (omega arith)
+first_at (p ∷ plan) zero below = refl
+first_at (p ∷ plan) (suc c) below = first_at plan c (omega arith)
+
+first_length : (plan : List Planned) → length (map first_mark plan) ≡ length plan
+first_length [] = refl
+first_length (p ∷ plan) = ap suc (first_length plan)
+
+first_held : (planned : Planned) (share : ℕ) → (part_in share (first_mark planned)).held ≡ []
+first_held planned share = refl
+
+free_planned : (planned : Planned) → is_free planned ≡ true → planned ≡ Free
+free_planned Free is = refl
+free_planned (Plays plays) is = absurd (true≢false (sym is))
+
+follows_nothing : (planned : Planned) → Follows planned no_column
+follows_nothing Free = tt
+follows_nothing (Plays plays) = ((plays, refl), λ no. absurd (true≢false (sym no)))
+
+-- the table begins so
+pub begins : (plan : List Planned) (n : ℕ) (slots : List Slot) → length plan ≤ n → slots ≡ replicate (length plan) (Some (no_column ∷ [])) →
+    IsKept plan (opening (replicate n 0) slots (first_view plan))
+begins plan n slots enough slots_are =
+    record {
+      each = λ c here.
+          let m = first_mark (planned_of plan c) in
+          let p = part_in (2 ^ 62) m in
+          let part : part_of c (first_view plan) ≡ p = ap (part_in (2 ^ 62)) (first_at plan c here) in
+          subst (λ (q : Part). Keeps (planned_of plan c) (get_elem? (replicate n 0) c) (get_elem? (map some slots) c) (q ∷ [])) (sym part)
+          (record {
+            column = no_column;
+            locked = false;
+            holder = 0;
+            word_is = at_replicate n c 0 (omega arith);
+            home_is = at_map some slots c (Some (no_column ∷ [])) (ap (λ l. get_elem? l c) slots_are ∙ at_replicate (length plan) c (Some (no_column ∷ [])) here);
+            frames = omega arith;
+            follows = follows_nothing (planned_of plan c);
+            fits = λ j q there. only (planned_of plan c) j q there;
+            shares = omega arith;
+            made = omega arith;
+            feeding = at_most_one (is_free (planned_of plan c));
+          });
+      marks = λ by u there has_share. first_marks by u there;
+    }
+  where
+    at_most_one : (b : Bool) → one_if b + 0 ≤ 1
+    at_most_one true = omega arith
+    at_most_one false = omega arith
+
+    first_marks : (by : ℕ) (u : View) → get_elem? (first_view plan ∷ []) by ≡ some u → length u.marks ≡ length plan
+    first_marks zero u there = subst (λ (y : View). length y.marks ≡ length plan) (some-injective _ _ there) (first_length plan)
+    first_marks (suc by) u there = absurd (some-ne-none u (sym there))
+
+    only : (planned : Planned) (j : ℕ) (q : Part) → get_elem? (part_in (2 ^ 62) (first_mark planned) ∷ []) j ≡ some q → Fits planned no_column false 0 j q
+    only planned zero q there = subst (Fits planned no_column false 0 0) (some-injective _ _ there)
+        (record {
+          reach = record { plays = omega arith; left = λ no. absurd (true≢false (sym no)) };
+          known = GrowsTo-refl no_column;
+          within = record { plays = omega arith; left = λ no. absurd (true≢false (sym no)) };
+          plan = λ _. refl;
+          feeds = λ is. (free_planned planned is, refl);
+          held = inl refl;
+          met = GrowsTo-refl no_column;
+          poor = λ zero_share. absurd (omega arith);
+        })
+    only planned (suc j) q there = absurd (some-ne-none q (sym there))

@@ -5,3 +5,5 @@ pub mod SplitJoin
 pub mod KeptSteps
 pub mod KeptPasses
 pub mod Stores
+pub mod Calls
+pub mod Becoming

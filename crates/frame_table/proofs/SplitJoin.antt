@@ -302,3 +302,9 @@ given_length (m ∷ ms) = by m.feeds refl (given_length ms)
         (length (kept_marks (m ∷ ms)) ≡ suc (length ms)) × (length (given_marks (m ∷ ms)) ≡ suc (length ms))
     by true is rest = (rw is refl, rw is (ap suc (mapped ms)))
     by false is rest = (rw is (ap suc rest.0), rw is (ap suc rest.1))
+
+pub joined_held : (xs ys : List Mark) (c : ℕ) → (get_or (joined_marks xs ys) c no_mark).held ≡ (get_or xs c no_mark).held
+joined_held [] ys c = refl
+joined_held (a ∷ xs) [] c = refl
+joined_held (a ∷ xs) (b ∷ ys) zero = refl
+joined_held (a ∷ xs) (b ∷ ys) (suc c) = joined_held xs ys c

@@ -2,6 +2,8 @@
 ghost use Rattle.std.specs.Prelude.{◌≡◌, ◌<◌, ◌≤◌, length, Some, IfOk, OnErr, ℕ};
 ghost use Rattle.frame_core.specs.Column.{Column, column_of, has_at, put_answer, put_column};
 ghost use Rattle.frame_core.specs.Column.{leave_answer, left_column};
+ghost use Rattle.std.specs.Option.{option_copied};
+ghost use Rattle.frame_core.specs.Ready.{or_leave};
 ghost use Rattle.frame_table.specs.Part.{part_of};
 ghost use Rattle.frame_table.specs.Steps.{IsFound};
 ghost use Rattle.frame_table.specs.Calls.{plan_of, view_of, IsPassOf, HasSeen, MayPut, MayLeaveBy};
@@ -77,8 +79,18 @@ impl FrameTable {
         ensures taken { (K : Column) × Acted c (view_of pass.old) (view_of pass.new) K K × (has_at K n ≡ Some result) }
     {
         let column = self.lock(rt, pass, c);
-        let entry = column.entry(0, n).map_or(Entry::Leave, Entry::copy);
+        let entry = entry_or_leave(column.entry(0, n));
         self.publish(pass, c, column);
         entry
+    }
+}
+
+/// The entry that was found, or a departure.
+fn entry_or_leave(found: Option<&Entry>) -> Entry
+    ensures { result ≡ or_leave (option_copied found) }
+{
+    match found {
+        Some(entry) => entry.copy(),
+        None => Entry::Leave,
     }
 }
