@@ -7,3 +7,4 @@ pub mod KeptPasses
 pub mod Stores
 pub mod Calls
 pub mod Becoming
+pub mod Looking

@@ -1,16 +1,17 @@
 -- What the calls of the table ask of a pass, and what they leave.
 use Rattle.std.specs.Prelude.{◌≡◌, ◌≢◌, ℕ, ◌+◌, ◌<◌, ◌≤◌, ◌⊎◌, ◌&&◌, nat_lt, nat_le, Bool, true, false}
-use Rattle.std.specs.Prelude.{if◌then◌else◌, List, [], ◌∷◌, length, map, Some, None, slice_get}
+use Rattle.std.specs.Prelude.{if◌then◌else◌, List, [], ◌∷◌, ◌++◌, length, map, take, Some, None, slice_get}
 use Rattle.atomic_table.specs.Table.{Me}
 use Rattle.game_orders.specs.declared.order.Order.{Order}
+use Rattle.game_orders.specs.declared.limits.TheConstants.{MAX_FRAMES}
 use Rattle.game_orders.specs.declared.entry.Entry.{Entry}
 use Rattle.game_orders.specs.declared.entry.Entry.TheVariants.{Play, Leave}
-use Rattle.frame_core.specs.Column.{Column, length_of}
+use Rattle.frame_core.specs.Column.{Column, length_of, column_of}
 use Rattle.frame_core.specs.Grows.{GrowsTo}
 use Rattle.frame_core.specs.declared.input.Input.{Input}
 use Rattle.frame_core.specs.declared.input.Input.TheVariants.{Missing, Played, Departed}
 use Rattle.frame_core.specs.declared.ready.Ready.{Ready}
-use Rattle.frame_core.specs.Input.{ready_of}
+use Rattle.frame_core.specs.Input.{ready_of, ready_from}
 use Rattle.frame_table.specs.declared.seen.Seen.{Seen}
 use Rattle.frame_table.specs.declared.planned.Planned.{Planned}
 use Rattle.frame_table.specs.declared.planned.Planned.TheVariants.{Free, Plays}
@@ -104,3 +105,17 @@ pub record IsLater (old new : View) : Type 0 where
   pub share : new.share ≡ old.share
   pub marks : length new.marks ≡ length old.marks
   pub parts : (c : ℕ) → IsLaterPart (part_of c old) (part_of c new)
+
+-- The words of the first c columns were loaded: each has something for frame n, and whether one has
+-- a play.
+pub record LookedSoFar (old now : View) (n c : ℕ) (played : Bool) : Type 0 where
+  pub later : IsLater old now
+  pub ready : (rest : List Input) → ready_of (take c (inputs_seen now n) ++ rest) ≡ ready_from c played rest
+  pub limit : played ≡ true → n < MAX_FRAMES
+
+-- The first c columns were taken out of the table.
+pub record ClosedSoFar (old now : View) (whole : List Column) (clients c : ℕ) : Type 0 where
+  pub share : now.share ≡ old.share
+  pub length : length whole ≡ clients
+  pub later : (d : ℕ) → c ≤ d → part_of d now ≡ part_of d old
+  pub done : (d : ℕ) → d < c → IsFound (part_of d old) (column_of whole d)

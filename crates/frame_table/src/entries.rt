@@ -87,7 +87,7 @@ impl FrameTable {
 
 /// The entry that was found, or a departure.
 fn entry_or_leave(found: Option<&Entry>) -> Entry
-    ensures { result ≡ or_leave (option_copied found) }
+    ensures { result ≡ or_leave (option_copied found.entry) }
 {
     match found {
         Some(entry) => entry.copy(),

@@ -1,6 +1,6 @@
 //! The calls that make and end passes.
-ghost use Rattle.std.specs.Prelude.{◌≡◌, ◌<◌, ◌≤◌, length, ℕ, IfOk};
-ghost use Rattle.frame_core.specs.Column.{Column, column_of};
+ghost use Rattle.std.specs.Prelude.{◌≡◌, ◌<◌, ◌≤◌, length, ℕ, IfOk, Some, replicate, [], ◌∷◌};
+ghost use Rattle.frame_core.specs.Column.{Column, column_of, no_column};
 ghost use Rattle.frame_core.specs.Grows.{GrowsTo};
 ghost use Rattle.frame_table.specs.Part.{part_of};
 ghost use Rattle.frame_table.specs.Passes.{first_view, kept_view, given_view, joined_view};
@@ -15,10 +15,33 @@ use crate::table::{FrameTable, WORDS};
 use atomic_table::Table;
 use base::NoMemory;
 use frame_core::Columns;
-use std::alloc::Global;
+use std::alloc::{AllocError, Global};
 use std::sync::Wait;
 
 impl FrameTable {
+    /// The table of 1 to `MAX_CLIENTS` clients, with empty columns, and its first pass, which has
+    /// the whole share, 2^62, and feeds each free column. The plan has as many clients. It fails
+    /// only where it is out of memory.
+    pub fn create(
+        alloc: Global,
+        clients: u8,
+        plan: Plan,
+    ) -> Result<(FrameTable, Pass), NoMemory>
+        requires least { 1 ≤ clients }
+        requires most { clients ≤ MAX_CLIENTS }
+        requires plan { length plan ≡ clients }
+        ensures pass { IfOk result (λ made. IsPassOf made.0 made.1) }
+        ensures plan { IfOk result (λ made. plan_of made.0 ≡ plan) }
+        ensures first { IfOk result (λ made. view_of made.1 ≡ first_view plan) }
+    {
+        let whole = Columns::create(alloc, clients)?;
+        let slots = empty_slots(alloc, clients)?;
+        let Ok((inner, seat)) = Table::new(alloc, &[0; WORDS], slots, &plan) else {
+            return Err(AllocError);
+        };
+        Ok((FrameTable { inner, whole }, Pass { seat }))
+    }
+
     /// Makes another pass. It has half of the share, rounded down, has seen and knows what this
     /// pass does, has fixed no departure, and feeds the least free column that this pass fed, if
     /// there is one, which this pass then no longer feeds. The share of the pass is at least 2.
@@ -49,4 +72,34 @@ impl FrameTable {
         self.inner.shared.join_seat::<Halves>(&mut pass.seat, seat);
         self.inner.shared.load::<Meeting>(&mut pass.seat, 0);
     }
+
+    /// Ends the table, and gives its columns back. Each begins with what the pass knows and has all
+    /// that it has seen. If the pass has the whole share, every other pass was joined into it, and
+    /// the departures that stand are those that it fixed. The call takes each column's lock.
+    pub fn close<R: Wait>(self, rt: &R, pass: Pass) -> Columns
+        requires pass { IsPassOf self pass }
+        ensures clients { length result ≡ length (plan_of self) }
+        ensures columns { (c : ℕ) → c < length (plan_of self) → IsFound (part_of c (view_of pass)) (column_of result c) }
+    {
+        let mut table = self;
+        let mut pass = pass;
+        for c in 0..table.whole.clients() {
+            let mut column = table.lock(rt, &mut pass, c);
+            table.whole.swap_column(c, &mut column, 0);
+        }
+        let FrameTable { inner: _, whole } = table;
+        whole
+    }
+}
+
+/// The slots of so many columns, each empty.
+fn empty_slots(alloc: Global, clients: u8) -> Result<Vec<Option<Columns>>, NoMemory>
+    ensures { IfOk result (λ slots. slots.items ≡ replicate clients (Some (no_column ∷ []))) }
+{
+    let mut slots = Vec::new(alloc);
+    for _client in 0..clients {
+        let column = Columns::create(alloc, 1)?;
+        slots.push(Some(column))?;
+    }
+    Ok(slots)
 }
