@@ -1,5 +1,6 @@
 -- Looking at the columns' words one after the other.
 use Rattle.std.proofs.Common.{◌≡◌, ◌≢◌, ◌⊎◌, ℕ, zero, suc, ◌+◌, ◌<◌, ◌≤◌, nat_lt, Bool, true, false, true≢false, if◌then◌else◌, List, [], ◌∷◌, ◌++◌, length, map, get_or, take, drop, refl, sym, ap, ap₂, ◌∙◌, subst, inl, inr, ⊎_elim, arith, append_assoc, append-nil}
+use Rattle.std.proofs.lemmas.Bool.Decides.{nat_tests}
 use native.Mathlib.Decide.{ℕ_discrete}
 use mathlib.Core.Logic.{dite}
 use Rattle.game_orders.specs.declared.limits.TheConstants.{MAX_FRAMES}
@@ -117,3 +118,29 @@ pub looked_all : (old now : View) (n c : ℕ) (played : Bool) → LookedSoFar ol
 looked_all old now n c played looked all =
     ap ready_of (sym (append-nil (inputs_seen now n)) ∙ ap (λ l. l ++ []) (sym (take_whole (λ (m : Mark). input_seen m.reach n) now.marks c all)))
     ∙ looked.ready []
+
+played_before : (seen : Seen) (n : ℕ) → input_seen seen n ≡ Played → n < seen.plays
+played_before seen n is = by (nat_lt n seen.plays) refl
+  where
+    other : (left : Bool) → (if left then Departed else Missing) ≡ Played → ⊥
+    other true no = absurd (cc)
+    other false no = absurd (cc)
+
+    by : (b : Bool) → nat_lt n seen.plays ≡ b → n < seen.plays
+    by true yes_it_is = grind (arith, nat_tests, yes_it_is)
+    by false no = absurd (other seen.left (ap (λ b. if b then Played else (if seen.left then Departed else Missing)) (sym no) ∙ is))
+
+module _ (old now next : View) (n c : ℕ) (played : Bool) (seen : Seen) (looked : LookedSoFar old now n c played) (below : c < length now.marks) (others : OthersStay c now next) (part : part_of c next ≡ loaded (part_of c now) seen) (further : IsFurther (part_of c now).reach seen) where
+  pub looked_played : (x : Input) → x ≡ input_seen seen n → x ≡ Played → seen.plays ≤ MAX_FRAMES → (after : Bool) → after ≡ true → LookedSoFar old next n (c + 1) after
+  looked_played x is plays limit after now_is =
+      subst (LookedSoFar old next n (c + 1)) (sym now_is)
+      (looked_next old now next n c played seen looked below others part further Played true (sym is ∙ plays) (λ rest. refl)
+          (λ _. let before = played_before seen n (sym is ∙ plays) in omega arith))
+
+  pub looked_departed : (x : Input) → x ≡ input_seen seen n → x ≡ Departed → (after : Bool) → after ≡ played → LookedSoFar old next n (c + 1) after
+  looked_departed x is departed after now_is =
+      subst (LookedSoFar old next n (c + 1)) (sym now_is)
+      (looked_next old now next n c played seen looked below others part further Departed played (sym is ∙ departed) (λ rest. refl) looked.limit)
+
+  pub not_yet : (x : Input) → x ≡ input_seen seen n → x ≡ Missing → NotYet c ≡ ready_seen next n
+  not_yet x is missing = sym (missing_here old now next n c played seen looked below others part further (sym is ∙ missing))

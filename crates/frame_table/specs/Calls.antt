@@ -1,6 +1,6 @@
 -- What the calls of the table ask of a pass, and what they leave.
 use Rattle.std.specs.Prelude.{◌≡◌, ◌≢◌, ℕ, ◌+◌, ◌<◌, ◌≤◌, ◌⊎◌, ◌&&◌, nat_lt, nat_le, Bool, true, false}
-use Rattle.std.specs.Prelude.{if◌then◌else◌, List, [], ◌∷◌, ◌++◌, length, map, take, Some, None, slice_get}
+use Rattle.std.specs.Prelude.{if◌then◌else◌, List, [], ◌∷◌, ◌++◌, length, map, take, Some, None, slice_get, slice_set}
 use Rattle.atomic_table.specs.Table.{Me}
 use Rattle.game_orders.specs.declared.order.Order.{Order}
 use Rattle.game_orders.specs.declared.limits.TheConstants.{MAX_FRAMES}
@@ -119,3 +119,10 @@ pub record ClosedSoFar (old now : View) (whole : List Column) (clients c : ℕ) 
   pub length : length whole ≡ clients
   pub later : (d : ℕ) → c ≤ d → part_of d now ≡ part_of d old
   pub done : (d : ℕ) → d < c → IsFound (part_of d old) (column_of whole d)
+
+-- Column c was taken out of the table.
+pub record HasGathered (c : ℕ) (old now : View) (whole new : List Column) : Type 0 where
+  pub column : Column
+  pub found : IsFound (part_of c old) column
+  pub others : OthersStay c old now
+  pub is : new ≡ slice_set whole c column

@@ -5,7 +5,7 @@ ghost use Rattle.frame_core.specs.Grows.{GrowsTo};
 ghost use Rattle.frame_table.specs.Part.{part_of};
 ghost use Rattle.frame_table.specs.Passes.{first_view, kept_view, given_view, joined_view};
 ghost use Rattle.frame_table.specs.Steps.{IsFound};
-ghost use Rattle.frame_table.specs.Calls.{plan_of, view_of, IsPassOf};
+ghost use Rattle.frame_table.specs.Calls.{plan_of, view_of, IsPassOf, HasGathered};
 ghost use Rattle.game_orders.specs.declared.limits.TheConstants.{MAX_CLIENTS};
 
 use crate::pass::Pass;
@@ -84,11 +84,23 @@ impl FrameTable {
         let mut table = self;
         let mut pass = pass;
         for c in 0..table.whole.clients() {
-            let mut column = table.lock(rt, &mut pass, c);
-            table.whole.swap_column(c, &mut column, 0);
+            table.gather(rt, &mut pass, c);
         }
         let FrameTable { inner: _, whole } = table;
         whole
+    }
+
+    /// Takes column `c` out of its slot, for good, and puts it where `close` gives it back.
+    fn gather<R: Wait>(&mut self, rt: &R, pass: &mut Pass, c: u8)
+        requires same { pass.old.seat.table_id ≡ self.old.inner.shared.table_id }
+        requires share { 0 < (view_of pass.old).share }
+        requires client { c < length (plan_of self.old) }
+        ensures same { pass.new.seat.table_id ≡ pass.old.seat.table_id }
+        ensures inner { self.new.inner ≡ self.old.inner }
+        ensures gathered { HasGathered c (view_of pass.old) (view_of pass.new) self.old.whole self.new.whole }
+    {
+        let mut column = self.lock(rt, pass, c);
+        self.whole.swap_column(c, &mut column, 0);
     }
 }
 
