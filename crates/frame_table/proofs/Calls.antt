@@ -22,12 +22,12 @@ use Rattle.frame_table.specs.declared.pass.Pass.{Pass}
 use Rattle.frame_table.specs.declared.table.FrameTable.{FrameTable}
 use Rattle.frame_table.specs.declared.view.Mark.{Mark}
 use Rattle.frame_table.specs.Part.{Part, part_of, part_in, no_mark, OthersStay}
-use Rattle.frame_table.specs.Passes.{kept_mark, given_mark, kept_view, given_view, joined_mark, joined_marks, joined_view, longer}
+use Rattle.frame_table.specs.Passes.{kept_mark, given_mark, kept_view, given_view, joined_mark, joined_marks, joined_view, longer, first_mark, first_view}
 use Rattle.frame_table.specs.Rule.{IsReach, Follows, IsKept}
 use Rattle.frame_table.specs.Steps.{Slot, IsFound, holding, published, published_as, released, MayPublish, MayBecome, AddsPlay, AddsLeave, MayAdd, MayEnd, held_in, HasMet, Meets}
 use Rattle.frame_table.specs.Calls.{plan_of, view_of, IsPassOf, HasSeen, MayPut, MayPutPlay, MayLeaveBy, HasLocked, GaveBack, Acted, Unchanged}
 use Rattle.frame_table.proofs.SplitJoin.{handed, joined_at, joined_held, joined_length, given_length}
-use Rattle.frame_table.proofs.KeptPasses.{meets, both_grow}
+use Rattle.frame_table.proofs.KeptPasses.{meets, both_grow, first_length}
 
 -- a call with a pass leaves a pass
 pub still_pass : (table : FrameTable) (p q : Pass) (c : ℕ) → IsPassOf table p → q.seat.table_id ≡ p.seat.table_id → q.seat.me.1 ≡ [] →
@@ -150,3 +150,19 @@ pub meets_as : (table : FrameTable) (p other : Pass) (id slots : ℕ) (me : Me S
     me ≡ (joined_view (view_of p) (view_of other), p.seat.me.1) → Allows (IsKept (plan_of table)) slots id me 0 (λ n. n) (Meets (step slots 0 0 0 none) me)
 meets_as table p other id slots me pass theirs clients is =
     meets (plan_of table) id me.0 slots me.1 (subst (λ (m : Me Slot View). 0 < m.0.share) (sym is) (let s = pass.share in omega arith)) clients
+
+-- the first pass
+pub first_pass : (table : FrameTable) (p : Pass) (plan : List Planned) → plan_of table ≡ plan → p.seat.table_id ≡ table.inner.shared.table_id → p.seat.me ≡ (first_view plan, []) → IsPassOf table p
+first_pass table p plan plan_is same is =
+    record {
+      same = same;
+      free = ap (λ (m : Me Slot View). m.1) is;
+      share = subst (λ (m : Me Slot View). 0 < m.0.share) (sym is) (omega arith);
+      marks = ap (λ (m : Me Slot View). length m.0.marks) is ∙ first_length plan ∙ ap length (sym plan_is);
+      held = λ d. ap (λ (m : Me Slot View). (part_of d m.0).held) is ∙ first_none plan d;
+    }
+  where
+    first_none : (l : List Planned) (d : ℕ) → (get_or (map first_mark l) d no_mark).held ≡ []
+    first_none [] d = refl
+    first_none (x ∷ l) zero = refl
+    first_none (x ∷ l) (suc d) = first_none l d

@@ -122,7 +122,7 @@ first_at [] c below = absurd (omega arith)
 first_at (p ∷ plan) zero below = refl
 first_at (p ∷ plan) (suc c) below = first_at plan c (omega arith)
 
-first_length : (plan : List Planned) → length (map first_mark plan) ≡ length plan
+pub first_length : (plan : List Planned) → length (map first_mark plan) ≡ length plan
 first_length [] = refl
 first_length (p ∷ plan) = ap suc (first_length plan)
 

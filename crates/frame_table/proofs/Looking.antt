@@ -72,7 +72,7 @@ looked_none view n =
     }
 
 module _ (old now next : View) (n c : ℕ) (played : Bool) (seen : Seen) (looked : LookedSoFar old now n c played) (below : c < length now.marks) (others : OthersStay c now next) (part : part_of c next ≡ loaded (part_of c now) seen) (further : IsFurther (part_of c now).reach seen) where
-  tells : Mark → Input
+  abbrev tells : Mark → Input
   tells m = input_seen m.reach n
 
   pub later_next : IsLater old next
@@ -97,7 +97,8 @@ module _ (old now next : View) (n c : ℕ) (played : Bool) (seen : Seen) (looked
       record {
         later = later_next;
         ready = λ rest.
-            ap (λ l. ready_of (l ++ rest)) (take_next tells next.marks c (let l = others.1 in omega arith) ∙ ap₂ (λ l y. l ++ y ∷ []) before_same (here ∙ is))
+            ap (λ k. ready_of (take k (inputs_seen next n) ++ rest)) (let one : c + 1 ≡ suc c = omega arith in one)
+            ∙ ap (λ l. ready_of (l ++ rest)) (take_next tells next.marks c (let l = others.1 in omega arith) ∙ ap₂ (λ l y. l ++ y ∷ []) before_same (here ∙ is))
             ∙ ap ready_of (append_assoc (take c (inputs_seen now n)) (x ∷ []) rest)
             ∙ looked.ready (x ∷ rest)
             ∙ steps rest;
@@ -123,12 +124,12 @@ played_before : (seen : Seen) (n : ℕ) → input_seen seen n ≡ Played → n <
 played_before seen n is = by (nat_lt n seen.plays) refl
   where
     other : (left : Bool) → (if left then Departed else Missing) ≡ Played → ⊥
-    other true no = absurd (cc)
-    other false no = absurd (cc)
+    other true = λ never. cc
+    other false = λ never. cc
 
     by : (b : Bool) → nat_lt n seen.plays ≡ b → n < seen.plays
     by true yes_it_is = grind (arith, nat_tests, yes_it_is)
-    by false no = absurd (other seen.left (ap (λ b. if b then Played else (if seen.left then Departed else Missing)) (sym no) ∙ is))
+    by false past = absurd (other seen.left (ap (λ b. if b then Played else (if seen.left then Departed else Missing)) (sym past) ∙ is))
 
 module _ (old now next : View) (n c : ℕ) (played : Bool) (seen : Seen) (looked : LookedSoFar old now n c played) (below : c < length now.marks) (others : OthersStay c now next) (part : part_of c next ≡ loaded (part_of c now) seen) (further : IsFurther (part_of c now).reach seen) where
   pub looked_played : (x : Input) → x ≡ input_seen seen n → x ≡ Played → seen.plays ≤ MAX_FRAMES → (after : Bool) → after ≡ true → LookedSoFar old next n (c + 1) after
