@@ -117,7 +117,7 @@ at_replicate zero i a below = absurd (omega arith)
 at_replicate (suc n) zero a below = refl
 at_replicate (suc n) (suc i) a below = at_replicate n i a (omega arith)
 
-first_at : (plan : List Planned) (c : ℕ) → c < length plan → get_or (map first_mark plan) c no_mark ≡ first_mark (get_or plan c Free)
+pub first_at : (plan : List Planned) (c : ℕ) → c < length plan → get_or (map first_mark plan) c no_mark ≡ first_mark (get_or plan c Free)
 first_at [] c below = absurd (omega arith)
 first_at (p ∷ plan) zero below = refl
 first_at (p ∷ plan) (suc c) below = first_at plan c (omega arith)
