@@ -1,5 +1,5 @@
 ghost use Rattle.std.specs.Prelude.{◌≡◌, ◌<◌, ◌≤◌, length, IfOk, OnOk};
-ghost use Rattle.frame_table.specs.Calls.{plan_of};
+ghost use Rattle.frame_table.specs.Calls.{plan_of, view_of};
 ghost use Rattle.frame_table.specs.Tests.{IsFreePass, IsFeedingPass};
 ghost use Rattle.game_orders.specs.declared.limits.TheConstants.{MAX_CLIENTS};
 
@@ -28,12 +28,14 @@ fn begin(alloc: Global, clients: u8) -> Result<(FrameTable, Pass), NoMemory>
     requires most { clients ≤ MAX_CLIENTS }
     ensures clients { IfOk result (λ made. length (plan_of made.0) ≡ clients) }
     ensures feeds { IfOk result (λ made. IsFeedingPass made.0 made.1) }
+    ensures share { IfOk result (λ made. 2 ≤ (view_of made.1).share) }
 {
     let mut plan = List::new(alloc);
     for _client in 0..clients {
         plan.push(Planned::Free)?;
     }
-    FrameTable::create(alloc, clients, Plan::new(plan))
+    let (table, pass) = FrameTable::create(alloc, clients, Plan::new(plan))?;
+    Ok((table, pass))
 }
 
 fn put<R: Wait>(
