@@ -86,7 +86,6 @@ module _ (c : ℕ) (old mid : Me Slot View) (columns after : List Column) (locke
   pub held_again : (new : Me Slot View) → (part_of c old.0).held ≡ [] → part_of c new.0 ≡ released (part_of c mid.0) → (part_of c new.0).held ≡ []
   held_again new held part = ap (λ (r : Part). r.held) part
 
-
 module _ (table : FrameTable) (p q : Pass) (pass : IsPassOf table p) where
   pub kept_pass : 2 ≤ (view_of p).share → q.seat.table_id ≡ p.seat.table_id → q.seat.me ≡ (kept_view (view_of p), p.seat.me.1) → IsPassOf table q
   kept_pass share same is =
@@ -134,7 +133,7 @@ module _ (table : FrameTable) (p other q : Pass) (pass : IsPassOf table p) (thei
         let a = part_of c (view_of p) in
         let b = part_of c (view_of other) in
         let here : part_of c mid.0 ≡ part_in (mid.0.share) (joined_mark (get_or (view_of p).marks c no_mark) (get_or (view_of other).marks c no_mark)) =
-            ap (λ (m : List Mark). part_in mid.0.share (get_or m c no_mark)) (ap (λ (m : Me Slot View). m.0.marks) is) ∙ ap (part_in mid.0.share) (part_joined c below) in
+        ap (λ (m : List Mark). part_in mid.0.share (get_or m c no_mark)) (ap (λ (m : Me Slot View). m.0.marks) is) ∙ ap (part_in mid.0.share) (part_joined c below) in
         let l : length mid.0.marks ≡ length (plan_of table) = ap (λ (m : Me Slot View). length m.0.marks) is ∙ joined_length (view_of p).marks (view_of other).marks ∙ pass.marks in
         let knows : (part_of c (view_of q)).known ≡ longer a.known b.known = ap (λ (m : Me Slot View). (part_of c m.0).known) after ∙ ap (λ (r : Part). r.known) here in
         subst (λ k. GrowsTo a.known k × GrowsTo b.known k) (sym knows)

@@ -33,13 +33,13 @@ module _ (plan : List Planned) (id : ℕ) (v : View) where
             let r : part_of c (given_view v) ≡ part_in (v.share / 2) (given_mark h.0 m) = ap (part_in (v.share / 2)) h.1.1 in
             subst (Keeps (planned_of plan c) (get_elem? s.words c) (get_elem? s.homes c))
             (sym (map_snoc (part_of c) (set s.views id (kept_view v)) (given_view v)
-                ∙ ap₂ (λ xs x. xs ++ x ∷ []) (map_set (part_of c) s.views id (kept_view v) ∙ ap (set (map (part_of c) s.views) id) l) r))
+            ∙ ap₂ (λ xs x. xs ++ x ∷ []) (map_set (part_of c) s.views id (kept_view v) ∙ ap (set (map (part_of c) s.views) id) l) r))
             (kept_split (planned_of plan c) (get_elem? s.words c) (get_elem? s.homes c) (map (part_of c) s.views) id v.share m (kept.each c here)
-                (at_map (part_of c) s.views id v at) (v.share - v.share / 2) (v.share / 2) (omega arith) (omega arith) (omega arith) h.0 h.1.2);
+            (at_map (part_of c) s.views id v at) (v.share - v.share / 2) (v.share / 2) (omega arith) (omega arith) (omega arith) h.0 h.1.2);
         marks = λ by u there has_share. ⊎_elim
             (λ old. ⊎_elim
-                (λ (x : (by ≡ id) × (kept_view v ≡ u)). subst (λ (y : View). length y.marks ≡ length plan) x.1 ((given_length v.marks).0 ∙ mine))
-                (λ (x : (by ≢ id) × (get_elem? s.views by ≡ some u)). kept.marks by u x.1 has_share) (at_set s.views id by (kept_view v) u old))
+            (λ (x : (by ≡ id) × (kept_view v ≡ u)). subst (λ (y : View). length y.marks ≡ length plan) x.1 ((given_length v.marks).0 ∙ mine))
+            (λ (x : (by ≢ id) × (get_elem? s.views by ≡ some u)). kept.marks by u x.1 has_share) (at_set s.views id by (kept_view v) u old))
             (λ (x : given_view v ≡ u). subst (λ (y : View). length y.marks ≡ length plan) x ((given_length v.marks).1 ∙ mine))
             (at_snoc (set s.views id (kept_view v)) (given_view v) u by there);
       }
@@ -59,14 +59,14 @@ module _ (plan : List Planned) (id : ℕ) (v : View) where
             subst (Keeps (planned_of plan c) (get_elem? s.words c) (get_elem? s.homes c))
             (sym (map_set (part_of c) (set s.views id (joined_view v w)) other spent_view ∙ ap (λ l. set l other (part_in 0 no_mark)) first))
             (kept_joined (planned_of plan c) (get_elem? s.words c) (get_elem? s.homes c) (map (part_of c) s.views) id other v.share w.share a b (kept.each c here)
-                (at_map (part_of c) s.views id v at) apart
-                (subst (λ l. get_elem? l other ≡ some (part_of c w)) first (at_map (part_of c) (set s.views id (joined_view v w)) other w there)) some_share);
+            (at_map (part_of c) s.views id v at) apart
+            (subst (λ l. get_elem? l other ≡ some (part_of c w)) first (at_map (part_of c) (set s.views id (joined_view v w)) other w there)) some_share);
         marks = λ by u at_by has_share. ⊎_elim
             (λ (x : (by ≡ other) × (spent_view ≡ u)). absurd (let z : u.share ≡ 0 = sym (ap (λ (y : View). y.share) x.1) in omega arith))
             (λ (x : (by ≢ other) × (get_elem? (set s.views id (joined_view v w)) by ≡ some u)). ⊎_elim
-                (λ (y : (by ≡ id) × (joined_view v w ≡ u)). subst (λ (z : View). length z.marks ≡ length plan) y.1 (joined_length v.marks w.marks ∙ mine))
-                (λ (y : (by ≢ id) × (get_elem? s.views by ≡ some u)). kept.marks by u y.1 has_share)
-                (at_set s.views id by (joined_view v w) u x.1))
+            (λ (y : (by ≡ id) × (joined_view v w ≡ u)). subst (λ (z : View). length z.marks ≡ length plan) y.1 (joined_length v.marks w.marks ∙ mine))
+            (λ (y : (by ≢ id) × (get_elem? s.views by ≡ some u)). kept.marks by u y.1 has_share)
+            (at_set s.views id by (joined_view v w) u x.1))
             (at_set (set s.views id (joined_view v w)) other by spent_view u at_by);
       }
     where
@@ -84,8 +84,7 @@ module _ (plan : List Planned) (id : ℕ) (v : View) where
   meets slots carried some_share clients s kept long at small =
       let one = kept.each 0 clients in
       let found : slice_index s.words 0 ≡ word_of one.column one.locked = index_some s.words 0 (word_of one.column one.locked) one.word_is in
-      let same : set s.words 0 (slice_index s.words 0) ≡ s.words = set_again s.words 0 (slice_index s.words 0) (one.word_is ∙ ap some (sym found)) in
-      (
+      let same : set s.words 0 (slice_index s.words 0) ≡ s.words = set_again s.words 0 (slice_index s.words 0) (one.word_is ∙ ap some (sym found)) in (
         v,
         keeps,
         tt,

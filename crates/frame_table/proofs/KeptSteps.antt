@@ -55,10 +55,10 @@ module _ (plan : List Planned) (s : Now) (kept : IsKept plan s) (id : ℕ) (v : 
       record {
         each = λ d below. dite (ℕ_discrete d c)
             (λ is. subst (λ e. Keeps (planned_of plan e) (get_elem? words e) (get_elem? homes e) (map (part_of e) (set s.views id w))) (sym is)
-                (subst (Keeps (planned_of plan c) (get_elem? words c) (get_elem? homes c)) (sym (map_set (part_of c) s.views id w ∙ ap (set (map (part_of c) s.views) id) (part_here v c p marks_below share))) mine))
+            (subst (Keeps (planned_of plan c) (get_elem? words c) (get_elem? homes c)) (sym (map_set (part_of c) s.views id w ∙ ap (set (map (part_of c) s.views) id) (part_here v c p marks_below share))) mine))
             (λ apart. subst (λ (y : (Option ℕ × Option (Option Slot)) × List Part). Keeps (planned_of plan d) y.0.0 y.0.1 y.1)
-                (λ i. ((sym (same_words d apart) i, sym (same_homes d apart) i), sym (map_set (part_of d) s.views id w ∙ ap (set (map (part_of d) s.views) id) ((others_stay v c p).2 d apart) ∙ set_again (map (part_of d) s.views) id (part_of d v) (at_map (part_of d) s.views id v at)) i))
-                (kept.each d below));
+            (λ i. ((sym (same_words d apart) i, sym (same_homes d apart) i), sym (map_set (part_of d) s.views id w ∙ ap (set (map (part_of d) s.views) id) ((others_stay v c p).2 d apart) ∙ set_again (map (part_of d) s.views) id (part_of d v) (at_map (part_of d) s.views id v at)) i))
+            (kept.each d below));
         marks = λ by u there has_share. ⊎_elim
             (λ (x : (by ≡ id) × (w ≡ u)). subst (λ (y : View). length y.marks ≡ length plan) x.1 (length_set v.marks c (mark_of p) ∙ kept.marks id v at some_share))
             (λ (x : (by ≢ id) × (get_elem? s.views by ≡ some u)). kept.marks by u x.1 has_share) (at_set s.views id by w u there);
@@ -77,14 +77,13 @@ module _ (plan : List Planned) (slots id : ℕ) (v : View) (carried : List (ℕ 
       let shows : seen_of (slice_index s.words c) ≡ whole_of K = ap seen_of found ∙ seen_whole K one.locked in
       let p = loaded (part_of c v) (whole_of K) in
       let same : set s.words c (slice_index s.words c) ≡ s.words = set_again s.words c (slice_index s.words c) (one.word_is ∙ ap some (sym found)) in
-      let frames = one.frames in
-      (
+      let frames = one.frames in (
         with_part v c p,
         keeps,
         tt,
         lifted plan s kept id v at some_share c here (set s.words c (slice_index s.words c)) s.homes p refl (λ d apart. ap (λ l. get_elem? l d) same) (λ d apart. refl)
             (subst (λ (l : List ℕ). Keeps (planned_of plan c) (get_elem? l c) (get_elem? s.homes c) (set (map (part_of c) s.views) id p)) (sym same)
-                (kept_loaded (planned_of plan c) (get_elem? s.words c) (get_elem? s.homes c) (map (part_of c) s.views) id (part_of c v) one there)),
+            (kept_loaded (planned_of plan c) (get_elem? s.words c) (get_elem? s.homes c) (map (part_of c) s.views) id (part_of c v) one there)),
         (
           refl,
           others_stay v c p,
@@ -114,8 +113,7 @@ module _ (plan : List Planned) (slots id : ℕ) (v : View) (carried : List (ℕ 
           × IsKept plan (stepped s c (either (slice_index s.words c == old) (old + 1) (slice_index s.words c)) id carried w a)
           × Takes (step slots c old (old + 1) none) (v, carried) (slice_index s.words c) (w, carried_after carried a)
       by false is =
-          let same : set s.words c (slice_index s.words c) ≡ s.words = set_again s.words c (slice_index s.words c) (one.word_is ∙ ap some (sym found)) in
-          (
+          let same : set s.words c (slice_index s.words c) ≡ s.words = set_again s.words c (slice_index s.words c) (one.word_is ∙ ap some (sym found)) in (
             v,
             keeps,
             tt,
@@ -131,15 +129,14 @@ module _ (plan : List Planned) (slots id : ℕ) (v : View) (carried : List (ℕ 
           let home : get_elem? s.homes c ≡ some (some (Some (K ∷ []))) = one.home_is ∙ ap (λ b. some (home_of K b)) free in
           let p = holding (part_of c v) K in
           let words_here : get_elem? (set s.words c (old + 1)) c ≡ some (word_of K true) = set_some s.words c (word_of K one.locked) (old + 1) one.word_is ∙ ap some (sym next) in
-          let homes_here : get_elem? (set s.homes c none) c ≡ some (home_of K true) = set_some s.homes c (some (Some (K ∷ []))) none home in
-          (
+          let homes_here : get_elem? (set s.homes c none) c ≡ some (home_of K true) = set_some s.homes c (some (Some (K ∷ []))) none home in (
             with_part v c p,
             takes c (Some (K ∷ [])),
             home,
             rw is (lifted plan s kept id v at some_share c here (set s.words c (old + 1)) (set s.homes c none) p refl
                 (λ d apart. set_else s.words c d (old + 1) apart) (λ d apart. set_else s.homes c d none apart)
                 (subst (λ (y : Option ℕ × Option (Option Slot)). Keeps (planned_of plan c) y.0 y.1 (set (map (part_of c) s.views) id p)) (λ i. (sym words_here i, sym homes_here i))
-                    (kept_held (planned_of plan c) (get_elem? s.words c) (get_elem? s.homes c) (map (part_of c) s.views) id (part_of c v) one there free))),
+                (kept_held (planned_of plan c) (get_elem? s.words c) (get_elem? s.homes c) (map (part_of c) s.views) id (part_of c v) one there free))),
             rw is (record {
               column = K;
               slots = refl;
@@ -163,16 +160,15 @@ module _ (plan : List Planned) (slots id : ℕ) (v : View) (carried : List (ℕ 
         let words_here : get_elem? (set s.words c (word_of L false)) c ≡ some (word_of L false) = set_some s.words c (word_of one.column one.locked) (word_of L false) one.word_is in
         let homes_here : get_elem? (back s) c ≡ some (home_of L false) = set_some s.homes c (home_of one.column one.locked) (some (Some (L ∷ []))) one.home_is in
         lifted plan s kept id v at some_share c here (set s.words c (word_of L false)) (back s) p share
-            (λ d apart. set_else s.words c d (word_of L false) apart) (λ d apart. set_else s.homes c d (some (Some (L ∷ []))) apart)
-            (subst (λ (y : Option ℕ × Option (Option Slot)). Keeps (planned_of plan c) y.0 y.1 (set (map (part_of c) s.views) id p)) (λ i. (sym words_here i, sym homes_here i)) keeps_it)
+        (λ d apart. set_else s.words c d (word_of L false) apart) (λ d apart. set_else s.homes c d (some (Some (L ∷ []))) apart)
+        (subst (λ (y : Option ℕ × Option (Option Slot)). Keeps (planned_of plan c) y.0 y.1 (set (map (part_of c) s.views) id p)) (λ i. (sym words_here i, sym homes_here i)) keeps_it)
 
     pub publishes : MayBecome (part_of c v) K L →
         Allows (IsKept plan) slots id (v, (c, Some (L ∷ [])) ∷ carried) c (λ _. word_of L false)
         (λ _. Publishes (step slots c (word_of L false) 0 none) (v, (c, Some (L ∷ [])) ∷ carried) (word_of L false))
     publishes becomes s kept long at small =
         let p = published (part_of c v) K L in
-        let one = kept.each c here in
-        (
+        let one = kept.each c here in (
           with_part v c p,
           gives,
           tt,
@@ -190,13 +186,12 @@ module _ (plan : List Planned) (slots id : ℕ) (v : View) (carried : List (ℕ 
         (λ _. GivesBack (step slots c (word_of L false) 0 none) (v, (c, Some (L ∷ [])) ∷ carried) (word_of L false))
     gives_back same s kept long at small =
         let p = record (part_of c v) { held = [] } in
-        let one = kept.each c here in
-        (
+        let one = kept.each c here in (
           with_part v c p,
           gives,
           tt,
           returned s kept at p refl
               (subst (λ (k : Column). Keeps (planned_of plan c) (some (word_of k false)) (some (home_of k false)) (set (map (part_of c) s.views) id p)) (sym same)
-                  (kept_given (planned_of plan c) (get_elem? s.words c) (get_elem? s.homes c) (map (part_of c) s.views) id (part_of c v) one (part_there plan s kept id v at some_share c here) K held)),
+              (kept_given (planned_of plan c) (get_elem? s.words c) (get_elem? s.homes c) (map (part_of c) s.views) id (part_of c v) one (part_there plan s kept id v at some_share c here) K held)),
           (refl, others_stay v c p, part_here v c p (marks_below plan s kept id v at some_share c here) refl),
         )

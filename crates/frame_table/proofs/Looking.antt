@@ -136,7 +136,7 @@ module _ (old now next : View) (n c : ℕ) (played : Bool) (seen : Seen) (looked
   looked_played x is plays limit after now_is =
       subst (LookedSoFar old next n (c + 1)) (sym now_is)
       (looked_next old now next n c played seen looked below others part further Played true (sym is ∙ plays) (λ rest. refl)
-          (λ _. let before = played_before seen n (sym is ∙ plays) in omega arith))
+      (λ _. let before = played_before seen n (sym is ∙ plays) in omega arith))
 
   pub looked_departed : (x : Input) → x ≡ input_seen seen n → x ≡ Departed → (after : Bool) → after ≡ played → LookedSoFar old next n (c + 1) after
   looked_departed x is departed after now_is =

@@ -115,6 +115,7 @@ agree a b K ga gb short = by a.left refl
   where
     la : length_of a ≤ length_of K
     la = grows_length a K ga
+
     lb : length_of b ≤ length_of K
     lb = grows_length b K gb
 

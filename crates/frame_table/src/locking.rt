@@ -23,11 +23,7 @@ impl FrameTable {
         ensures locked { HasLocked c pass.old.seat.me pass.new.seat.me result }
     {
         self.wait_for(rt, pass, c);
-        let Some(column) = self
-            .inner
-            .shared
-            .exchange(&mut pass.seat, c as usize, None)
-        else {
+        let Some(column) = self.inner.shared.exchange(&mut pass.seat, c as usize, None) else {
             unreachable!()
         };
         column
@@ -88,21 +84,21 @@ impl FrameTable {
     }
 
     /// Gives the lock of column `c` back, with the column as it was. Nothing was learned.
-    pub(crate) fn give_back(&self, pass: &mut Pass, c: u8, column: Columns)
+    pub(crate) fn give_back(&self, pass: &mut Pass, c: u8, unchanged: Columns)
         requires same { pass.old.seat.table_id ≡ self.now.inner.shared.table_id }
         requires share { 0 < (view_of pass.old).share }
         requires client { c < length (plan_of self.now) }
         requires slots { pass.old.seat.me.1 ≡ (c, None) ∷ [] }
-        requires held { (K : Column) × ((part_of c (view_of pass.old)).held ≡ K ∷ []) × (column ≡ K ∷ []) }
+        requires held { (K : Column) × ((part_of c (view_of pass.old)).held ≡ K ∷ []) × (unchanged ≡ K ∷ []) }
         ensures same { pass.new.seat.table_id ≡ pass.old.seat.table_id }
         ensures gave { GaveBack c pass.old.seat.me pass.new.seat.me }
         ensures part { part_of c (view_of pass.new) ≡ released (part_of c (view_of pass.old)) }
     {
-        let word = word(&column);
+        let word = word(&unchanged);
         let _none = self
             .inner
             .shared
-            .exchange(&mut pass.seat, c as usize, Some(column));
+            .exchange(&mut pass.seat, c as usize, Some(unchanged));
         self.inner
             .shared
             .store::<GivingBack>(&mut pass.seat, c as usize, word);

@@ -22,11 +22,7 @@ impl FrameTable {
     /// The table of 1 to `MAX_CLIENTS` clients, with empty columns, and its first pass, which has
     /// the whole share, 2^62, and feeds each free column. The plan has as many clients. It fails
     /// only where it is out of memory.
-    pub fn create(
-        alloc: Global,
-        clients: u8,
-        plan: Plan,
-    ) -> Result<(FrameTable, Pass), NoMemory>
+    pub fn create(alloc: Global, clients: u8, plan: Plan) -> Result<(FrameTable, Pass), NoMemory>
         requires least { 1 ≤ clients }
         requires most { clients ≤ MAX_CLIENTS }
         requires plan { length plan ≡ clients }

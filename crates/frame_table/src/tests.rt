@@ -75,11 +75,17 @@ fn two_clients(rt: HostRuntime) -> Result<(), Fail> {
     let (table, pass) = (&table, &mut pass);
     assert_eq!(rt; put(&rt, table, pass, 0, 0, empty_play())?, Put::Fixed);
     assert_eq!(rt; put(&rt, table, pass, 0, 0, empty_play())?, Put::Repeat);
-    assert_eq!(rt; put(&rt, table, pass, 0, 0, donation())?, Put::Conflict(empty_play()));
+    assert_eq!(rt;
+        put(&rt, table, pass, 0, 0, donation())?,
+        Put::Conflict(empty_play())
+    );
     assert_eq!(rt; put(&rt, table, pass, 0, 2, Entry::Leave)?, Put::Ahead(1));
     assert_eq!(rt; leave(&rt, table, pass, 0), Leaving::Fixed(1));
     assert_eq!(rt; leave(&rt, table, pass, 0), Leaving::Already(1));
-    assert_eq!(rt; put(&rt, table, pass, 0, 1, empty_play())?, Put::Conflict(Entry::Leave));
+    assert_eq!(rt;
+        put(&rt, table, pass, 0, 1, empty_play())?,
+        Put::Conflict(Entry::Leave)
+    );
     assert_eq!(rt; put(&rt, table, pass, 0, 5, Entry::Leave)?, Put::Left(1));
     assert_eq!(rt; ready(table, pass, 0), Ready::NotYet(1));
     assert_eq!(rt; leave(&rt, table, pass, 1), Leaving::Fixed(0));
@@ -96,14 +102,20 @@ fn kicked<R: Wait + Abort>(rt: &R, alloc: Global, k: u32) -> Result<(), Fail>
     let table = &table;
     let mut feeder = table.split(&mut kicker);
     for n in 0..k {
-        assert_eq!(rt; put(rt, table, &mut feeder, 0, n, empty_play())?, Put::Fixed);
+        assert_eq!(rt;
+            put(rt, table, &mut feeder, 0, n, empty_play())?,
+            Put::Fixed
+        );
     }
     assert_eq!(rt; leave(rt, table, &mut kicker, 0), Leaving::Fixed(k));
     assert_eq!(rt;
         put(rt, table, &mut feeder, 0, k, empty_play())?,
         Put::Conflict(Entry::Leave)
     );
-    assert_eq!(rt; put(rt, table, &mut feeder, 0, k + 1, empty_play())?, Put::Left(k));
+    assert_eq!(rt;
+        put(rt, table, &mut feeder, 0, k + 1, empty_play())?,
+        Put::Left(k)
+    );
     assert_eq!(rt; leave(rt, table, &mut kicker, 0), Leaving::Already(k));
     let all = Seen {
         plays: k,

@@ -13,8 +13,7 @@ join_seat-requires c =
 pub load-requires : goal.load-requires
 load-requires c =
     let table = c.args.self.now in
-    let j = c.join_seat.ensures in
-    (
+    let j = c.join_seat.ensures in (
       j.0 ∙ c.requires.pass.same,
       (let words = table.words in let least = table.least in let most = table.most in omega arith),
       meets_as _ _ _ _ _ _ c.requires.pass c.requires.other table.least j.2,
