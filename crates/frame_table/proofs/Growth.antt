@@ -1,5 +1,5 @@
 -- What grows, and what was seen of it.
-use Rattle.std.proofs.Common.{◌≡◌, ◌≢◌, ◌⊎◌, ℕ, zero, suc, ◌+◌, ◌-◌, ◌*◌, ◌/◌, ◌%◌, ◌<◌, ◌≤◌, ◌==◌, Bool, true, false, true≢false, List, [], ◌∷◌, ◌++◌, length, refl, sym, ap, ap₂, ◌∙◌, subst, inl, inr, ⊎_elim, arith, append_assoc, append-nil, length-append, Some, None}
+use Rattle.std.proofs.Common.{◌≡◌, ◌≢◌, ◌⊎◌, ℕ, zero, suc, ◌+◌, ◌-◌, ◌*◌, ◌/◌, ◌%◌, ◌<◌, ◌≤◌, ◌==◌, Bool, true, false, true≢false, List, [], ◌∷◌, ◌++◌, length, take, refl, sym, ap, ap₂, ◌∙◌, subst, inl, inr, ⊎_elim, arith, append_assoc, append-nil, length-append, Some, None}
 use Rattle.std.specs.Prelude.{slice_get}
 use Rattle.std.proofs.lemmas.Bool.Decides.{nat_tests}
 use Rattle.game_orders.specs.declared.order.Order.{Order}
@@ -12,7 +12,7 @@ use Rattle.frame_table.specs.declared.planned.Planned.TheVariants.{Free, Plays}
 use Rattle.frame_table.specs.Part.{Part, part_of}
 use Rattle.frame_table.specs.Word.{one_if, word_for, word_of, seen_of, whole_of}
 use Rattle.frame_table.specs.Rule.{IsReach, IsWithinReach, Follows}
-use Rattle.frame_table.specs.Steps.{IsFurther, AddsPlay, AddsLeave, MayAdd, MayEnd, MayBecome}
+use Rattle.frame_table.specs.Steps.{IsFurther, AddsPlay, AddsLeave, MayAdd, MayEnd, MayBecome, known_after}
 
 -- the two parts of a column
 columns_same : (K L : Column) → K.plays ≡ L.plays → K.left ≡ L.left → K ≡ L
@@ -114,3 +114,18 @@ follows_on (Plays plays) p K L same follows (inr (inl play)) =
 follows_on (Plays plays) p K L same follows (inr (inr leave)) =
     let right : length_of K ≡ length plays = subst (λ q. MayEnd q (length_of K)) same leave.right in
     subst (Follows (Plays plays)) (sym leave.is) (follows.0, λ left. right)
+
+take_front : (xs ys : List (List Order)) → take (length xs) (xs ++ ys) ≡ xs
+take_front [] [] = refl
+take_front [] (y ∷ ys) = refl
+take_front (x ∷ xs) ys = ap (λ l. x ∷ l) (take_front xs ys)
+
+-- what is known once all of a column was seen
+pub after_known : (q : Planned) (k K : Column) → Follows q K → GrowsTo k K → GrowsTo k (known_after q (whole_of K) k) × GrowsTo (known_after q (whole_of K) k) K
+after_known Free k K follows grows = (GrowsTo-refl k, grows)
+after_known (Plays plays) k K follows grows =
+    let same : known_after (Plays plays) (whole_of K) k ≡ K = λ i. record { plays = (ap (take (length_of K)) follows.0.1 ∙ take_front K.plays follows.0.0) i; left = K.left } in
+    (subst (GrowsTo k) (sym same) grows, subst (λ (l : Column). GrowsTo l K) (sym same) (GrowsTo-refl K))
+
+pub after_free : (q : Planned) (seen : Seen) (k : Column) → q ≡ Free → known_after q seen k ≡ k
+after_free q seen k free = ap (λ p. known_after p seen k) free

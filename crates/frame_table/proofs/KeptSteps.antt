@@ -10,6 +10,7 @@ use lib.ListN.{get_elem?}
 use Rattle.atomic_table.specs.Table.{State, Me, Act, keeps, takes, gives, Valid, homes_after, carried_after, stepped, step, rest, Allows, Splits, Joins}
 use Rattle.atomic_table.proofs.Lists.{at_set, at_snoc, at_map, set_again, set_else}
 use Rattle.frame_core.specs.Column.{Column, no_column, length_of, IsWithinFrames}
+use Rattle.frame_core.specs.Grows.{GrowsTo}
 use Rattle.frame_table.specs.declared.seen.Seen.{Seen}
 use Rattle.frame_table.specs.declared.planned.Planned.{Planned}
 use Rattle.frame_table.specs.declared.view.View.{View}
@@ -77,18 +78,21 @@ module _ (plan : List Planned) (slots id : ℕ) (v : View) (carried : List (ℕ 
       let shows : seen_of (slice_index s.words c) ≡ whole_of K = ap seen_of found ∙ seen_whole K one.locked in
       let p = loaded (part_of c v) (whole_of K) in
       let same : set s.words c (slice_index s.words c) ≡ s.words = set_again s.words c (slice_index s.words c) (one.word_is ∙ ap some (sym found)) in
-      let frames = one.frames in (
+      let frames = one.frames in
+      let held_so = kept_loaded (planned_of plan c) (get_elem? s.words c) (get_elem? s.homes c) (map (part_of c) s.views) id (part_of c v) one there some_share in
+      let is_now = part_here v c p (marks_below plan s kept id v at some_share c here) refl in (
         with_part v c p,
         keeps,
         tt,
         lifted plan s kept id v at some_share c here (set s.words c (slice_index s.words c)) s.homes p refl (λ d apart. ap (λ l. get_elem? l d) same) (λ d apart. refl)
             (subst (λ (l : List ℕ). Keeps (planned_of plan c) (get_elem? l c) (get_elem? s.homes c) (set (map (part_of c) s.views) id p)) (sym same)
-            (kept_loaded (planned_of plan c) (get_elem? s.words c) (get_elem? s.homes c) (map (part_of c) s.views) id (part_of c v) one there)),
+            held_so.1),
         (
           refl,
           others_stay v c p,
-          part_here v c p (marks_below plan s kept id v at some_share c here) refl ∙ ap (loaded (part_of c v)) (sym shows),
+          is_now ∙ ap (loaded (part_of c v)) (sym shows),
           subst (IsFurther (part_of c v).reach) (sym shows) (further_whole K (part_of c v).reach (one.fits id (part_of c v) there).reach),
+          subst (λ (r : Part). GrowsTo (part_of c v).known r.known) (sym is_now) held_so.0,
           subst (λ n. n ≤ 262144) (sym (ap (λ n. n / 4) found ∙ plays_of_word K one.locked)) frames,
         ),
       )

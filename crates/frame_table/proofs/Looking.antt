@@ -13,7 +13,11 @@ use Rattle.frame_table.specs.declared.seen.Seen.{Seen}
 use Rattle.frame_table.specs.declared.view.View.{View}
 use Rattle.frame_table.specs.declared.view.Mark.{Mark}
 use Rattle.frame_table.specs.Part.{Part, part_of, no_mark, OthersStay}
-use Rattle.frame_table.specs.Steps.{IsFurther, loaded}
+use Rattle.frame_core.specs.Column.{Column}
+use Rattle.frame_core.specs.Grows.{GrowsTo}
+use Rattle.frame_core.specs.GrowsLemmas.{GrowsTo-refl}
+use Rattle.frame_table.proofs.Growth.{grows_trans}
+use Rattle.frame_table.specs.Steps.{IsFurther, known_after, loaded}
 use Rattle.frame_table.specs.Calls.{input_seen, inputs_seen, ready_seen, IsLater, IsLaterPart, LookedSoFar}
 use Rattle.frame_table.proofs.SplitJoin.{lt_true, lt_false}
 
@@ -52,14 +56,15 @@ further_trans a b c ab bc =
     }
 
 later_refl : (p : Part) → IsLaterPart p p
-later_refl p = record { further = further_refl p.reach; loads = omega arith; else_same = refl }
+later_refl p = record { further = further_refl p.reach; loads = omega arith; known = GrowsTo-refl p.known; else_same = refl }
 
-later_loaded : (p q : Part) (seen : Seen) → IsLaterPart p q → IsFurther q.reach seen → IsLaterPart p (loaded q seen)
-later_loaded p q seen later further =
+later_loaded : (p q : Part) (seen : Seen) → IsLaterPart p q → IsFurther q.reach seen → GrowsTo q.known (loaded q seen).known → IsLaterPart p (loaded q seen)
+later_loaded p q seen later further grows =
     record {
       further = further_trans p.reach q.reach seen later.further further;
       loads = (let l = later.loads in omega arith);
-      else_same = ap (λ r. loaded r seen) later.else_same;
+      known = grows_trans p.known q.known (loaded q seen).known later.known grows;
+      else_same = ap (λ (r : Part). record r { reach = seen; loads = q.loads + 1; known = known_after q.planned seen q.known }) later.else_same;
     }
 
 -- nothing was looked at yet
@@ -71,7 +76,7 @@ looked_none view n =
       limit = λ no. absurd (true≢false (sym no));
     }
 
-module _ (old now next : View) (n c : ℕ) (played : Bool) (seen : Seen) (looked : LookedSoFar old now n c played) (below : c < length now.marks) (others : OthersStay c now next) (part : part_of c next ≡ loaded (part_of c now) seen) (further : IsFurther (part_of c now).reach seen) where
+module _ (old now next : View) (n c : ℕ) (played : Bool) (seen : Seen) (looked : LookedSoFar old now n c played) (below : c < length now.marks) (others : OthersStay c now next) (part : part_of c next ≡ loaded (part_of c now) seen) (further : IsFurther (part_of c now).reach seen) (grows : GrowsTo (part_of c now).known (part_of c next).known) where
   abbrev tells : Mark → Input
   tells m = input_seen m.reach n
 
@@ -81,7 +86,7 @@ module _ (old now next : View) (n c : ℕ) (played : Bool) (seen : Seen) (looked
         share = others.0 ∙ looked.later.share;
         marks = others.1 ∙ looked.later.marks;
         parts = λ d. dite (ℕ_discrete d c)
-            (λ is. subst (λ e. IsLaterPart (part_of e old) (part_of e next)) (sym is) (subst (IsLaterPart (part_of c old)) (sym part) (later_loaded (part_of c old) (part_of c now) seen (looked.later.parts c) further)))
+            (λ is. subst (λ e. IsLaterPart (part_of e old) (part_of e next)) (sym is) (subst (IsLaterPart (part_of c old)) (sym part) (later_loaded (part_of c old) (part_of c now) seen (looked.later.parts c) further (subst (λ (r : Part). GrowsTo (part_of c now).known r.known) part grows))))
             (λ apart. subst (IsLaterPart (part_of d old)) (sym (others.2 d apart)) (looked.later.parts d));
       }
 
@@ -131,17 +136,17 @@ played_before seen n is = by (nat_lt n seen.plays) refl
     by true yes_it_is = grind (arith, nat_tests, yes_it_is)
     by false past = absurd (other seen.left (ap (λ b. if b then Played else (if seen.left then Departed else Missing)) (sym past) ∙ is))
 
-module _ (old now next : View) (n c : ℕ) (played : Bool) (seen : Seen) (looked : LookedSoFar old now n c played) (below : c < length now.marks) (others : OthersStay c now next) (part : part_of c next ≡ loaded (part_of c now) seen) (further : IsFurther (part_of c now).reach seen) where
+module _ (old now next : View) (n c : ℕ) (played : Bool) (seen : Seen) (looked : LookedSoFar old now n c played) (below : c < length now.marks) (others : OthersStay c now next) (part : part_of c next ≡ loaded (part_of c now) seen) (further : IsFurther (part_of c now).reach seen) (grows : GrowsTo (part_of c now).known (part_of c next).known) where
   pub looked_played : (x : Input) → x ≡ input_seen seen n → x ≡ Played → seen.plays ≤ MAX_FRAMES → (after : Bool) → after ≡ true → LookedSoFar old next n (c + 1) after
   looked_played x is plays limit after now_is =
       subst (LookedSoFar old next n (c + 1)) (sym now_is)
-      (looked_next old now next n c played seen looked below others part further Played true (sym is ∙ plays) (λ rest. refl)
+      (looked_next old now next n c played seen looked below others part further grows Played true (sym is ∙ plays) (λ rest. refl)
       (λ _. let before = played_before seen n (sym is ∙ plays) in omega arith))
 
   pub looked_departed : (x : Input) → x ≡ input_seen seen n → x ≡ Departed → (after : Bool) → after ≡ played → LookedSoFar old next n (c + 1) after
   looked_departed x is departed after now_is =
       subst (LookedSoFar old next n (c + 1)) (sym now_is)
-      (looked_next old now next n c played seen looked below others part further Departed played (sym is ∙ departed) (λ rest. refl) looked.limit)
+      (looked_next old now next n c played seen looked below others part further grows Departed played (sym is ∙ departed) (λ rest. refl) looked.limit)
 
   pub not_yet : (x : Input) → x ≡ input_seen seen n → x ≡ Missing → NotYet c ≡ ready_seen next n
-  not_yet x is missing = sym (missing_here old now next n c played seen looked below others part further (sym is ∙ missing))
+  not_yet x is missing = sym (missing_here old now next n c played seen looked below others part further grows (sym is ∙ missing))

@@ -12,9 +12,9 @@ use Rattle.frame_table.specs.declared.planned.Planned.TheVariants.{Free, Plays}
 use Rattle.frame_table.specs.Part.{Part, part_of}
 use Rattle.frame_table.specs.Word.{one_if, word_of, seen_of, whole_of}
 use Rattle.frame_table.specs.Rule.{IsReach, IsWithinReach, Follows, Fits, total, home_of, Keeps}
-use Rattle.frame_table.specs.Steps.{Slot, IsFurther, loaded, holding, IsFound, published, held_in, AddsPlay, AddsLeave, MayAdd, MayEnd, MayBecome}
+use Rattle.frame_table.specs.Steps.{Slot, IsFurther, known_after, loaded, holding, IsFound, published, held_in, AddsPlay, AddsLeave, MayAdd, MayEnd, MayBecome}
 use Rattle.frame_table.proofs.Lists.{total_set, at_most_total, two_at_most_total, alone, all_set}
-use Rattle.frame_table.proofs.Growth.{grows_trans, grows_length, becomes_grown, reach_grows, reach_whole, further_whole, follows_on}
+use Rattle.frame_table.proofs.Growth.{grows_trans, grows_length, becomes_grown, reach_grows, reach_whole, further_whole, follows_on, after_known, after_free}
 
 abbrev pub share_in : Part → ℕ
 share_in p = p.share
@@ -51,26 +51,29 @@ module _ (planned : Planned) (word : Option ℕ) (home : Option (Option Slot)) (
 
   -- a load
   pub kept_loaded :
-      (kept : Keeps planned word home parts) → get_elem? parts id ≡ some p →
-      Keeps planned word home (set parts id (loaded p (whole_of kept.column)))
-  kept_loaded kept at =
+      (kept : Keeps planned word home parts) → get_elem? parts id ≡ some p → 0 < p.share →
+      (GrowsTo p.known (loaded p (whole_of kept.column)).known) × Keeps planned word home (set parts id (loaded p (whole_of kept.column)))
+  kept_loaded kept at some_share =
       let K = kept.column in
       let was = kept.fits id p at in
+      let plan = was.plan some_share in
+      let knows = after_known p.planned p.known K (subst (λ q. Follows q K) (sym plan) kept.follows) was.known in
+      (knows.0,
       subst (λ (y : Option ℕ × Option (Option Slot)). Keeps planned y.0 y.1 (set parts id (loaded p (whole_of K))))
       (λ i. (sym kept.word_is i, sym kept.home_is i))
       (kept_set kept at K kept.locked kept.holder (loaded p (whole_of K)) kept.frames kept.follows
       (λ j r apart there fits. fits)
       (record {
         reach = reach_whole K;
-        known = was.known;
-        within = record { plays = grows_length p.known K was.known; left = λ left. ap (λ (k : Column). k.left) (was.known.closed left) ∙ left };
+        known = knows.1;
+        within = record { plays = grows_length (known_after p.planned (whole_of K) p.known) K knows.1; left = λ left. ap (λ (k : Column). k.left) (knows.1.closed left) ∙ left };
         plan = was.plan;
-        feeds = was.feeds;
+        feeds = λ feeds. let fed = was.feeds feeds in (fed.0, ap (λ (k : Column). k.plays) (after_free p.planned (whole_of K) p.known (plan ∙ fed.0)) ∙ fed.1);
         held = was.held;
         met = was.met;
         poor = was.poor;
       })
-      refl refl refl)
+      refl refl refl))
 
   -- the lock is taken
   pub kept_held :

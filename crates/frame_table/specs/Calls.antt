@@ -93,7 +93,8 @@ ready_seen view n = ready_of (inputs_seen view n)
 pub record IsLaterPart (old new : Part) : Type 0 where
   pub further : IsFurther old.reach new.reach
   pub loads : old.loads ≤ new.loads
-  pub else_same : new ≡ record old { reach = new.reach; loads = new.loads }
+  pub known : GrowsTo old.known new.known
+  pub else_same : new ≡ record old { reach = new.reach; loads = new.loads; known = new.known }
 
 -- The lock of column c was given back.
 pub record GaveBack (c : ℕ) (old new : Me Slot View) : Type 0 where

@@ -1,6 +1,6 @@
 -- The kinds of step, and what each tells the pass that makes it.
 use Rattle.std.specs.Prelude.{◌≡◌, ◌≢◌, ℕ, ◌+◌, ◌/◌, ◌-◌, ◌^◌, ◌<◌, ◌≤◌, ◌==◌, max, ◌⊎◌, ◌&&◌, ◌||◌, not, Bool, true, false}
-use Rattle.std.specs.Prelude.{if◌then◌else◌, List, [], ◌∷◌, ◌++◌, length, map, Some, None, MatchBool}
+use Rattle.std.specs.Prelude.{if◌then◌else◌, List, [], ◌∷◌, ◌++◌, length, map, take, Some, None, MatchBool}
 use Rattle.std.specs.Prelude.{slice_get, Option as Maybe}
 use Rattle.atomic_table.specs.Table.{Me, Step, rest}
 use Rattle.game_orders.specs.declared.order.Order.{Order}
@@ -25,9 +25,20 @@ pub record IsFurther (old new : Seen) : Type 0 where
   pub plays : old.plays ≤ new.plays
   pub left : old.left ≡ true → new ≡ old
 
+-- What is known of a column once this was seen of it: in a planned column the planned entries up to
+-- there; in a free column no more than before.
+abbrev pub known_after : Planned → Seen → Column → Column
+known_after Free seen known = known
+known_after (Plays plays) seen known = record { plays = take seen.plays plays; left = seen.left }
+
 -- The word was loaded, and this was seen.
 abbrev pub loaded : Part → Seen → Part
-loaded part seen = record part { reach = seen; loads = part.loads + 1 }
+loaded part seen =
+    record part {
+      reach = seen;
+      known = known_after part.planned seen part.known;
+      loads = part.loads + 1;
+    }
 
 -- A load of the column's word: what the word shows is seen.
 abbrev pub Loads : Step Slot → Me Slot View → ℕ → Me Slot View → Type 0
@@ -35,6 +46,7 @@ Loads s old found new =
     (new.1 ≡ old.1) × OthersStay s.word old.0 new.0
     × (part_of s.word new.0 ≡ loaded (part_of s.word old.0) (seen_of found))
     × IsFurther (part_of s.word old.0).reach (seen_of found)
+    × GrowsTo (part_of s.word old.0).known (part_of s.word new.0).known
     × (found / 4 ≤ MAX_FRAMES)
 
 -- The lock of the column was taken.

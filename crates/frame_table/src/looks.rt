@@ -2,6 +2,7 @@
 ghost use Rattle.std.specs.Prelude.{◌≡◌, ◌<◌, ◌≤◌, length, ℕ};
 ghost use Rattle.game_orders.specs.declared.limits.TheConstants.{MAX_FRAMES};
 ghost use Rattle.frame_table.specs.Part.{part_of, OthersStay};
+ghost use Rattle.frame_core.specs.Grows.{GrowsTo};
 ghost use Rattle.frame_table.specs.Steps.{IsFurther, loaded};
 ghost use Rattle.frame_table.specs.Calls.{plan_of, view_of, IsPassOf, IsLater, input_seen, ready_seen};
 
@@ -22,6 +23,7 @@ impl FrameTable {
         ensures others { OthersStay c (view_of pass.old) (view_of pass.new) }
         ensures part { part_of c (view_of pass.new) ≡ loaded (part_of c (view_of pass.old)) result }
         ensures further { IsFurther (part_of c (view_of pass.old)).reach result }
+        ensures known { GrowsTo (part_of c (view_of pass.old)).known (part_of c (view_of pass.new)).known }
         ensures limit { result.plays ≤ MAX_FRAMES }
     {
         let found = self

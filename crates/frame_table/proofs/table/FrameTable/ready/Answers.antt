@@ -13,7 +13,7 @@ returns-in-Missing-clause-value c =
     let marks = i.0.marks in
     let end = i.2 in
     let test = c.loop-c-test.true in
-    not_yet _ _ _ _ _ _ _ i.1 (omega arith) s.others s.part s.further _ c.input.ensures c.in-Missing.is
+    not_yet _ _ _ _ _ _ _ i.1 (omega arith) s.others s.part s.further s.known _ c.input.ensures c.in-Missing.is
 
 pub loop-c-preserved : goal.loop-c-preserved
 loop-c-preserved c =
@@ -25,8 +25,8 @@ loop-c-preserved c =
     let below : c.loop-c.c < length (view_of c.loop-c.pass).marks = omega arith in (
       s.pass,
       elim c.match-input.branch [
-        | in-Played w ↦ looked_played _ _ _ _ _ _ _ i.1 below s.others s.part s.further _ c.input.ensures w.in-Played.is s.limit _ w.played-is
-        | in-Departed w ↦ looked_departed _ _ _ _ _ _ _ i.1 below s.others s.part s.further _ c.input.ensures w.in-Departed.is _ w.played-is
+        | in-Played w ↦ looked_played _ _ _ _ _ _ _ i.1 below s.others s.part s.further s.known _ c.input.ensures w.in-Played.is s.limit _ w.played-is
+        | in-Departed w ↦ looked_departed _ _ _ _ _ _ _ i.1 below s.others s.part s.further s.known _ c.input.ensures w.in-Departed.is _ w.played-is
       ],
       end,
     )
