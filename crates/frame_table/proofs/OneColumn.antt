@@ -57,23 +57,24 @@ module _ (planned : Planned) (word : Option ℕ) (home : Option (Option Slot)) (
       let K = kept.column in
       let was = kept.fits id p at in
       let plan = was.plan some_share in
-      let knows = after_known p.planned p.known K (subst (λ q. Follows q K) (sym plan) kept.follows) was.known in
-      (knows.0,
-      subst (λ (y : Option ℕ × Option (Option Slot)). Keeps planned y.0 y.1 (set parts id (loaded p (whole_of K))))
-      (λ i. (sym kept.word_is i, sym kept.home_is i))
-      (kept_set kept at K kept.locked kept.holder (loaded p (whole_of K)) kept.frames kept.follows
-      (λ j r apart there fits. fits)
-      (record {
-        reach = reach_whole K;
-        known = knows.1;
-        within = record { plays = grows_length (known_after p.planned (whole_of K) p.known) K knows.1; left = λ left. ap (λ (k : Column). k.left) (knows.1.closed left) ∙ left };
-        plan = was.plan;
-        feeds = λ feeds. let fed = was.feeds feeds in (fed.0, ap (λ (k : Column). k.plays) (after_free p.planned (whole_of K) p.known (plan ∙ fed.0)) ∙ fed.1);
-        held = was.held;
-        met = was.met;
-        poor = was.poor;
-      })
-      refl refl refl))
+      let knows = after_known p.planned p.known K (subst (λ q. Follows q K) (sym plan) kept.follows) was.known in (
+        knows.0,
+        subst (λ (y : Option ℕ × Option (Option Slot)). Keeps planned y.0 y.1 (set parts id (loaded p (whole_of K))))
+            (λ i. (sym kept.word_is i, sym kept.home_is i))
+            (kept_set kept at K kept.locked kept.holder (loaded p (whole_of K)) kept.frames kept.follows
+            (λ j r apart there fits. fits)
+            (record {
+              reach = reach_whole K;
+              known = knows.1;
+              within = record { plays = grows_length (known_after p.planned (whole_of K) p.known) K knows.1; left = λ left. ap (λ (k : Column). k.left) (knows.1.closed left) ∙ left };
+              plan = was.plan;
+              feeds = λ feeds. let fed = was.feeds feeds in (fed.0, ap (λ (k : Column). k.plays) (after_free p.planned (whole_of K) p.known (plan ∙ fed.0)) ∙ fed.1);
+              held = was.held;
+              met = was.met;
+              poor = was.poor;
+            })
+            refl refl refl),
+      )
 
   -- the lock is taken
   pub kept_held :

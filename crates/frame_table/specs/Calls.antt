@@ -1,12 +1,16 @@
 -- What the calls of the table ask of a pass, and what they leave.
-use Rattle.std.specs.Prelude.{◌≡◌, ◌≢◌, ℕ, ◌+◌, ◌<◌, ◌≤◌, ◌⊎◌, ◌&&◌, nat_lt, nat_le, Bool, true, false}
-use Rattle.std.specs.Prelude.{if◌then◌else◌, List, [], ◌∷◌, ◌++◌, length, map, take, Some, None, slice_get, slice_set}
+use Rattle.std.specs.Prelude.{◌≡◌, ℕ, ◌<◌, ◌≤◌, ◌⊎◌, nat_lt, Bool, true, if◌then◌else◌}
+use Rattle.std.specs.Prelude.{List, [], ◌∷◌, ◌++◌, length, map, take, Some, None, slice_get}
+use Rattle.std.specs.Prelude.{slice_set}
 use Rattle.atomic_table.specs.Table.{Me}
 use Rattle.game_orders.specs.declared.order.Order.{Order}
 use Rattle.game_orders.specs.declared.limits.TheConstants.{MAX_FRAMES}
 use Rattle.game_orders.specs.declared.entry.Entry.{Entry}
 use Rattle.game_orders.specs.declared.entry.Entry.TheVariants.{Play, Leave}
-use Rattle.frame_core.specs.Column.{Column, length_of, column_of}
+use Rattle.frame_core.specs.declared.put.Put.{Put}
+use Rattle.frame_core.specs.declared.leaving.Leaving.{Leaving}
+use Rattle.frame_core.specs.Column.{Column, column_of, has_at, put_answer, put_column}
+use Rattle.frame_core.specs.Column.{leave_answer, left_column}
 use Rattle.frame_core.specs.Grows.{GrowsTo}
 use Rattle.frame_core.specs.declared.input.Input.{Input}
 use Rattle.frame_core.specs.declared.input.Input.TheVariants.{Missing, Played, Departed}
@@ -29,6 +33,10 @@ plan_of table = table.inner.shared.key
 -- What a pass has seen, knows and may do.
 abbrev pub view_of : Pass → View
 view_of pass = pass.seat.me.0
+
+-- What a pass has to do with column c.
+abbrev pub standing : Pass → ℕ → Part
+standing pass c = part_of c (view_of pass)
 
 -- The pass was made by a call of this table, and no call is under way with it.
 pub record IsPassOf (table : FrameTable) (pass : Pass) : Type 0 where
@@ -72,6 +80,20 @@ pub record Acted (c : ℕ) (old new : View) (before after : Column) : Type 0 whe
   pub others : OthersStay c old new
   pub part : part_of c new ≡ published (part_of c old) before after
 
+-- A put found the column at its own step, and answers as it says.
+abbrev pub PutsSo : ℕ → View → View → ℕ → Entry → Put → Type 0
+PutsSo c old new n e answer =
+    (K : Column) × Acted c old new K (put_column K n e) × (answer ≡ put_answer K n e)
+
+-- So does a departure.
+abbrev pub LeavesSo : ℕ → View → View → Leaving → Type 0
+LeavesSo c old new answer =
+    (K : Column) × Acted c old new K (left_column K) × (answer ≡ leave_answer K)
+
+-- A take found the column, which it left as it was, and answers what stands for frame n.
+abbrev pub TakesSo : ℕ → View → View → ℕ → Entry → Type 0
+TakesSo c old new n e = (K : Column) × Acted c old new K K × (has_at K n ≡ Some e)
+
 -- Nothing has changed for the pass.
 pub record Unchanged (old new : View) : Type 0 where
   pub share : new.share ≡ old.share
@@ -111,7 +133,8 @@ pub record IsLater (old new : View) : Type 0 where
 -- a play.
 pub record LookedSoFar (old now : View) (n c : ℕ) (played : Bool) : Type 0 where
   pub later : IsLater old now
-  pub ready : (rest : List Input) → ready_of (take c (inputs_seen now n) ++ rest) ≡ ready_from c played rest
+  pub ready : (rest : List Input) →
+      ready_of (take c (inputs_seen now n) ++ rest) ≡ ready_from c played rest
   pub limit : played ≡ true → n < MAX_FRAMES
 
 -- The first c columns were taken out of the table.

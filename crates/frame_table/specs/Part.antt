@@ -10,8 +10,8 @@ use Rattle.frame_table.specs.declared.view.Mark.{Mark}
 
 -- The pass's share of the right to know the whole, and of one column: what is planned for it; how
 -- far it was seen; the entries that are known; how often its word was loaded; whether plays may be
--- added; how many departures were fixed; while its lock is held, what the column is; and what a pass
--- that was joined knew.
+-- added; how many departures were fixed; while its lock is held, what the column is; and what a
+-- pass that was joined knew.
 pub record Part : Type 0 where
   pub share : ℕ
   pub planned : Planned

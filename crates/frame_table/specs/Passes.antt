@@ -1,5 +1,6 @@
 -- How a pass is split in two, and how two are joined.
-use Rattle.std.specs.Prelude.{◌≡◌, ℕ, ◌+◌, ◌-◌, ◌/◌, ◌^◌, ◌≤◌, max, nat_lt, Bool, true, false, ◌||◌, if◌then◌else◌}
+use Rattle.std.specs.Prelude.{◌≡◌, ℕ, ◌+◌, ◌-◌, ◌/◌, ◌^◌, ◌≤◌, max, nat_lt, Bool, true, false}
+use Rattle.std.specs.Prelude.{◌||◌, if◌then◌else◌}
 use Rattle.std.specs.Prelude.{List, [], ◌∷◌, length, map}
 use Rattle.frame_core.specs.Column.{Column, no_column, length_of}
 use Rattle.frame_core.specs.Grows.{GrowsTo}

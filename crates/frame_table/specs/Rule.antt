@@ -1,6 +1,6 @@
 -- What holds of the shared columns between any two steps of the threads.
 use Rattle.std.specs.Prelude.{◌≡◌, ◌≢◌, ℕ, ◌+◌, ◌^◌, ◌<◌, ◌≤◌, ◌⊎◌, Bool, true, false}
-use Rattle.std.specs.Prelude.{if◌then◌else◌, List, [], ◌∷◌, ◌++◌, length, map, Option as Maybe, Some}
+use Rattle.std.specs.Prelude.{List, [], ◌∷◌, ◌++◌, length, map, Option as Maybe, Some}
 use Rattle.std.specs.Prelude.{slice_index_or, slice_get}
 use mathlib.Core.Option.{Option, none, some}
 use lib.ListN.{get_elem?}
@@ -39,7 +39,8 @@ Follows (Plays plays) column =
 -- What holds of the pass with number `by` and a column, the lock of which the pass `holder` has
 -- where it is taken. The pass that may add plays knows all plays, and the column is free. A pass
 -- that has the lock knows the column. A pass without a share has no rights.
-pub record Fits (planned : Planned) (column : Column) (locked : Bool) (holder by : ℕ) (part : Part) : Type 0 where
+pub record Fits (planned : Planned) (column : Column) (locked : Bool) (holder by : ℕ)
+    (part : Part) : Type 0 where
   pub reach : IsReach column part.reach
   pub known : GrowsTo part.known column
   pub within : IsWithinReach part.known part.reach
@@ -62,7 +63,8 @@ home_of column false = some (Some (column ∷ []))
 -- What holds of one column, by its word, its slot and all passes: there is a column that they
 -- agree on. The shares make the whole, its departure was fixed by one pass, and at most one pass
 -- may add plays.
-pub record Keeps (planned : Planned) (word : Option ℕ) (home : Option (Option (Maybe (List Column)))) (parts : List Part) : Type 0 where
+pub record Keeps (planned : Planned) (word : Option ℕ)
+    (home : Option (Option (Maybe (List Column)))) (parts : List Part) : Type 0 where
   pub column : Column
   pub locked : Bool
   pub holder : ℕ
@@ -70,7 +72,8 @@ pub record Keeps (planned : Planned) (word : Option ℕ) (home : Option (Option 
   pub home_is : home ≡ some (home_of column locked)
   pub frames : IsWithinFrames column
   pub follows : Follows planned column
-  pub fits : (by : ℕ) (part : Part) → get_elem? parts by ≡ some part → Fits planned column locked holder by part
+  pub fits : (by : ℕ) (part : Part) → get_elem? parts by ≡ some part →
+      Fits planned column locked holder by part
   pub shares : total (λ (p : Part). p.share) parts ≡ 2 ^ 62
   pub made : total (λ (p : Part). p.made) parts ≡ one_if column.left
   pub feeding : total (λ (p : Part). one_if p.feeds) parts ≤ 1
@@ -78,5 +81,7 @@ pub record Keeps (planned : Planned) (word : Option ℕ) (home : Option (Option 
 -- The rule: each column is kept, and each pass that has a share has to do with each of them.
 pub record IsKept (plan : List Planned) (state : State (Maybe (List Column)) View) : Type 0 where
   pub each : (c : ℕ) → c < length plan →
-      Keeps (planned_of plan c) (get_elem? state.words c) (get_elem? state.homes c) (map (part_of c) state.views)
-  pub marks : (by : ℕ) (view : View) → get_elem? state.views by ≡ some view → 0 < view.share → length view.marks ≡ length plan
+      Keeps (planned_of plan c) (get_elem? state.words c) (get_elem? state.homes c)
+      (map (part_of c) state.views)
+  pub marks : (by : ℕ) (view : View) → get_elem? state.views by ≡ some view → 0 < view.share →
+      length view.marks ≡ length plan

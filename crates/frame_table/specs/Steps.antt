@@ -1,6 +1,6 @@
 -- The kinds of step, and what each tells the pass that makes it.
-use Rattle.std.specs.Prelude.{◌≡◌, ◌≢◌, ℕ, ◌+◌, ◌/◌, ◌-◌, ◌^◌, ◌<◌, ◌≤◌, ◌==◌, max, ◌⊎◌, ◌&&◌, ◌||◌, not, Bool, true, false}
-use Rattle.std.specs.Prelude.{if◌then◌else◌, List, [], ◌∷◌, ◌++◌, length, map, take, Some, None, MatchBool}
+use Rattle.std.specs.Prelude.{◌≡◌, ℕ, ◌+◌, ◌/◌, ◌-◌, ◌^◌, ◌<◌, ◌≤◌, ◌==◌, ◌⊎◌, Bool, true, false}
+use Rattle.std.specs.Prelude.{List, [], ◌∷◌, ◌++◌, length, take, Some, None, MatchBool}
 use Rattle.std.specs.Prelude.{slice_get, Option as Maybe}
 use Rattle.atomic_table.specs.Table.{Me, Step, rest}
 use Rattle.game_orders.specs.declared.order.Order.{Order}
@@ -102,7 +102,8 @@ held_in (column ∷ columns) = column
 abbrev pub Publishes : Step Slot → Me Slot View → ℕ → Me Slot View → Type 0
 Publishes s old found new =
     (new.1 ≡ rest old.1) × OthersStay s.word old.0 new.0
-    × (part_of s.word new.0 ≡ published (part_of s.word old.0) (held_in (part_of s.word old.0).held) (column_in old.1))
+    × (part_of s.word new.0 ≡
+    published (part_of s.word old.0) (held_in (part_of s.word old.0).held) (column_in old.1))
 
 -- The lock is given back, and nothing was learned.
 abbrev pub GivesBack : Step Slot → Me Slot View → ℕ → Me Slot View → Type 0

@@ -1,13 +1,9 @@
 //! The calls that take a column's lock.
-ghost use Rattle.std.specs.Prelude.{◌≡◌, ◌<◌, ◌≤◌, length, Some, IfOk, OnErr, ℕ};
-ghost use Rattle.frame_core.specs.Column.{Column, column_of, has_at, put_answer, put_column};
-ghost use Rattle.frame_core.specs.Column.{leave_answer, left_column};
+ghost use Rattle.std.specs.Prelude.{◌≡◌, ◌<◌, length, IfOk, OnErr};
 ghost use Rattle.std.specs.Option.{option_copied};
 ghost use Rattle.frame_core.specs.Ready.{or_leave};
-ghost use Rattle.frame_table.specs.Part.{part_of};
-ghost use Rattle.frame_table.specs.Steps.{IsFound};
-ghost use Rattle.frame_table.specs.Calls.{plan_of, view_of, IsPassOf, HasSeen, MayPut, MayLeaveBy};
-ghost use Rattle.frame_table.specs.Calls.{Acted, Unchanged};
+ghost use Rattle.frame_table.specs.Calls.{plan_of, view_of, standing, IsPassOf, HasSeen, MayPut};
+ghost use Rattle.frame_table.specs.Calls.{MayLeaveBy, PutsSo, LeavesSo, TakesSo, Unchanged};
 
 use crate::pass::Pass;
 use crate::table::FrameTable;
@@ -33,9 +29,9 @@ impl FrameTable {
     ) -> Result<Put, NoMemory>
         requires pass { IsPassOf self.now pass.old }
         requires client { c < length (plan_of self.now) }
-        requires may { MayPut (part_of c (view_of pass.old)) n e }
+        requires may { MayPut (standing pass.old c) n e }
         ensures pass { IsPassOf self.now pass.new }
-        ensures ok { IfOk result (λ answer. (K : Column) × Acted c (view_of pass.old) (view_of pass.new) K (put_column K n e) × (answer ≡ put_answer K n e)) }
+        ensures ok { IfOk result (PutsSo c (view_of pass.old) (view_of pass.new) n e) }
         ensures err { OnErr result (Unchanged (view_of pass.old) (view_of pass.new)) }
     {
         let mut column = self.lock(rt, pass, c);
@@ -58,9 +54,9 @@ impl FrameTable {
     pub fn leave<R: Wait>(&self, rt: &R, pass: &mut Pass, c: u8) -> Leaving
         requires pass { IsPassOf self.now pass.old }
         requires client { c < length (plan_of self.now) }
-        requires may { MayLeaveBy (part_of c (view_of pass.old)).planned (part_of c (view_of pass.old)).reach }
+        requires may { MayLeaveBy (standing pass.old c).planned (standing pass.old c).reach }
         ensures pass { IsPassOf self.now pass.new }
-        ensures left { (K : Column) × Acted c (view_of pass.old) (view_of pass.new) K (left_column K) × (result ≡ leave_answer K) }
+        ensures left { LeavesSo c (view_of pass.old) (view_of pass.new) result }
     {
         let mut column = self.lock(rt, pass, c);
         let answer = column.leave(0);
@@ -74,9 +70,9 @@ impl FrameTable {
     pub fn take<R: Wait>(&self, rt: &R, pass: &mut Pass, c: u8, n: u32) -> Entry
         requires pass { IsPassOf self.now pass.old }
         requires client { c < length (plan_of self.now) }
-        requires seen { HasSeen (part_of c (view_of pass.old)).reach n }
+        requires seen { HasSeen (standing pass.old c).reach n }
         ensures pass { IsPassOf self.now pass.new }
-        ensures taken { (K : Column) × Acted c (view_of pass.old) (view_of pass.new) K K × (has_at K n ≡ Some result) }
+        ensures taken { TakesSo c (view_of pass.old) (view_of pass.new) n result }
     {
         let column = self.lock(rt, pass, c);
         let entry = entry_or_leave(column.entry(0, n));

@@ -1,9 +1,8 @@
 //! The lock of a column.
 ghost use Rattle.std.specs.Prelude.{◌≡◌, ◌<◌, length, [], ◌∷◌, None, MatchBool};
 ghost use Rattle.frame_core.specs.Column.{Column};
-ghost use Rattle.frame_table.specs.Part.{part_of, OthersStay};
-ghost use Rattle.frame_table.specs.Steps.{MayBecome, HasTaken, MayPublish, published_as, released};
-ghost use Rattle.frame_table.specs.Calls.{plan_of, view_of, HasLocked, GaveBack};
+ghost use Rattle.frame_table.specs.Steps.{HasTaken, MayPublish, published_as, released};
+ghost use Rattle.frame_table.specs.Calls.{plan_of, view_of, standing, HasLocked, GaveBack};
 
 use crate::pass::Pass;
 use crate::rule::{GivingBack, Publishing, Taking};
@@ -49,7 +48,8 @@ impl FrameTable {
         requires share { 0 < (view_of pass.old).share }
         requires client { c < length (plan_of self.now) }
         ensures same { pass.new.seat.table_id ≡ pass.old.seat.table_id }
-        ensures taken { MatchBool result (HasTaken c pass.old.seat.me pass.new.seat.me) (pass.new.seat.me ≡ pass.old.seat.me) }
+        ensures taken { MatchBool result (HasTaken c pass.old.seat.me pass.new.seat.me)
+            (pass.new.seat.me ≡ pass.old.seat.me) }
     {
         let word = self.inner.shared.peek(c as usize);
         if word % 2 != 0 {
@@ -68,10 +68,10 @@ impl FrameTable {
         requires share { 0 < (view_of pass.old).share }
         requires client { c < length (plan_of self.now) }
         requires slots { pass.old.seat.me.1 ≡ (c, None) ∷ [] }
-        requires becomes { MayPublish (part_of c (view_of pass.old)) column }
+        requires becomes { MayPublish (standing pass.old c) column }
         ensures same { pass.new.seat.table_id ≡ pass.old.seat.table_id }
         ensures gave { GaveBack c pass.old.seat.me pass.new.seat.me }
-        ensures part { part_of c (view_of pass.new) ≡ published_as (part_of c (view_of pass.old)) column }
+        ensures part { standing pass.new c ≡ published_as (standing pass.old c) column }
     {
         let word = word(&column);
         let _none = self
@@ -89,10 +89,11 @@ impl FrameTable {
         requires share { 0 < (view_of pass.old).share }
         requires client { c < length (plan_of self.now) }
         requires slots { pass.old.seat.me.1 ≡ (c, None) ∷ [] }
-        requires held { (K : Column) × ((part_of c (view_of pass.old)).held ≡ K ∷ []) × (unchanged ≡ K ∷ []) }
+        requires held { (K : Column) × ((standing pass.old c).held ≡ K ∷ []) ×
+            (unchanged ≡ K ∷ []) }
         ensures same { pass.new.seat.table_id ≡ pass.old.seat.table_id }
         ensures gave { GaveBack c pass.old.seat.me pass.new.seat.me }
-        ensures part { part_of c (view_of pass.new) ≡ released (part_of c (view_of pass.old)) }
+        ensures part { standing pass.new c ≡ released (standing pass.old c) }
     {
         let word = word(&unchanged);
         let _none = self

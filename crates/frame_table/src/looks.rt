@@ -1,10 +1,11 @@
 //! The calls that only load words. They take no lock.
 ghost use Rattle.std.specs.Prelude.{◌≡◌, ◌<◌, ◌≤◌, length, ℕ};
 ghost use Rattle.game_orders.specs.declared.limits.TheConstants.{MAX_FRAMES};
-ghost use Rattle.frame_table.specs.Part.{part_of, OthersStay};
+ghost use Rattle.frame_table.specs.Part.{OthersStay};
 ghost use Rattle.frame_core.specs.Grows.{GrowsTo};
 ghost use Rattle.frame_table.specs.Steps.{IsFurther, loaded};
-ghost use Rattle.frame_table.specs.Calls.{plan_of, view_of, IsPassOf, IsLater, input_seen, ready_seen};
+ghost use Rattle.frame_table.specs.Calls.{plan_of, view_of, standing, IsPassOf, IsLater};
+ghost use Rattle.frame_table.specs.Calls.{input_seen, ready_seen};
 
 use crate::pass::Pass;
 use crate::rule::Loading;
@@ -21,9 +22,9 @@ impl FrameTable {
         requires client { c < length (plan_of self.now) }
         ensures pass { IsPassOf self.now pass.new }
         ensures others { OthersStay c (view_of pass.old) (view_of pass.new) }
-        ensures part { part_of c (view_of pass.new) ≡ loaded (part_of c (view_of pass.old)) result }
-        ensures further { IsFurther (part_of c (view_of pass.old)).reach result }
-        ensures known { GrowsTo (part_of c (view_of pass.old)).known (part_of c (view_of pass.new)).known }
+        ensures part { standing pass.new c ≡ loaded (standing pass.old c) result }
+        ensures further { IsFurther (standing pass.old c).reach result }
+        ensures known { GrowsTo (standing pass.old c).known (standing pass.new c).known }
         ensures limit { result.plays ≤ MAX_FRAMES }
     {
         let found = self
@@ -42,7 +43,8 @@ impl FrameTable {
         ensures pass { IsPassOf self.now pass.new }
         ensures later { IsLater (view_of pass.old) (view_of pass.new) }
         ensures value { result ≡ ready_seen (view_of pass.new) n }
-        ensures loaded { (c : ℕ) → result ≡ Ready.NotYet c → (part_of c (view_of pass.old)).loads < (part_of c (view_of pass.new)).loads }
+        ensures loaded { (c : ℕ) → result ≡ Ready.NotYet c →
+            (standing pass.old c).loads < (standing pass.new c).loads }
         ensures limit { result ≡ Ready.Yes → n < MAX_FRAMES }
     {
         let mut played = false;

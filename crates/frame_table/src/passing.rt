@@ -2,10 +2,9 @@
 ghost use Rattle.std.specs.Prelude.{◌≡◌, ◌<◌, ◌≤◌, length, ℕ, IfOk, Some, replicate, [], ◌∷◌};
 ghost use Rattle.frame_core.specs.Column.{Column, column_of, no_column};
 ghost use Rattle.frame_core.specs.Grows.{GrowsTo};
-ghost use Rattle.frame_table.specs.Part.{part_of};
 ghost use Rattle.frame_table.specs.Passes.{first_view, kept_view, given_view, joined_view};
 ghost use Rattle.frame_table.specs.Steps.{IsFound};
-ghost use Rattle.frame_table.specs.Calls.{plan_of, view_of, IsPassOf, HasGathered};
+ghost use Rattle.frame_table.specs.Calls.{plan_of, view_of, standing, IsPassOf, HasGathered};
 ghost use Rattle.game_orders.specs.declared.limits.TheConstants.{MAX_CLIENTS};
 
 use crate::pass::Pass;
@@ -61,8 +60,10 @@ impl FrameTable {
         requires other { IsPassOf self.now other }
         ensures pass { IsPassOf self.now pass.new }
         ensures joined { view_of pass.new ≡ joined_view (view_of pass.old) (view_of other) }
-        ensures mine { (c : ℕ) → c < length (plan_of self.now) → GrowsTo (part_of c (view_of pass.old)).known (part_of c (view_of pass.new)).known }
-        ensures theirs { (c : ℕ) → c < length (plan_of self.now) → GrowsTo (part_of c (view_of other)).known (part_of c (view_of pass.new)).known }
+        ensures mine { (c : ℕ) → c < length (plan_of self.now) →
+            GrowsTo (standing pass.old c).known (standing pass.new c).known }
+        ensures theirs { (c : ℕ) → c < length (plan_of self.now) →
+            GrowsTo (standing other c).known (standing pass.new c).known }
     {
         let Pass { seat } = other;
         self.inner.shared.join_seat::<Halves>(&mut pass.seat, seat);
@@ -75,7 +76,8 @@ impl FrameTable {
     pub fn close<R: Wait>(self, rt: &R, pass: Pass) -> Columns
         requires pass { IsPassOf self pass }
         ensures clients { length result ≡ length (plan_of self) }
-        ensures columns { (c : ℕ) → c < length (plan_of self) → IsFound (part_of c (view_of pass)) (column_of result c) }
+        ensures columns { (c : ℕ) → c < length (plan_of self) →
+            IsFound (standing pass c) (column_of result c) }
     {
         let mut table = self;
         let mut pass = pass;
@@ -93,7 +95,8 @@ impl FrameTable {
         requires client { c < length (plan_of self.old) }
         ensures same { pass.new.seat.table_id ≡ pass.old.seat.table_id }
         ensures inner { self.new.inner ≡ self.old.inner }
-        ensures gathered { HasGathered c (view_of pass.old) (view_of pass.new) self.old.whole self.new.whole }
+        ensures gathered { HasGathered c (view_of pass.old) (view_of pass.new)
+            self.old.whole self.new.whole }
     {
         let mut column = self.lock(rt, pass, c);
         self.whole.swap_column(c, &mut column, 0);
