@@ -1,22 +1,20 @@
 -- What a put, a departure and a look make of a column.
-use Rattle.std.proofs.Common.{◌≡◌, ◌≢◌, ◌⊎◌, ℕ, zero, suc, ◌+◌, ◌<◌, ◌≤◌, ◌==◌, ◌&&◌, nat_lt, Bool, true, false, true≢false, if◌then◌else◌, List, [], ◌∷◌, ◌++◌, length, refl, sym, ap, ap₂, ◌∙◌, subst, inl, inr, ⊎_elim, arith, Some, None, length-append}
+use Rattle.std.proofs.Common.{◌≡◌, ℕ, zero, suc, ◌≤◌, ◌==◌, ◌&&◌, nat_lt, Bool, true, false, true≢false, if◌then◌else◌, List, [], ◌∷◌, ◌++◌, length, refl, sym, ap, ◌∙◌, subst, inl, inr, arith, Some, None, length-append}
 use Rattle.std.specs.Prelude.{slice_get, Option as Maybe}
-use Rattle.std.proofs.lemmas.Bool.Decides.{nat_tests, leb_tells, eqb_tells}
+use Rattle.std.proofs.lemmas.Bool.Decides.{leb_tells, eqb_tells}
 use Rattle.game_orders.specs.declared.order.Order.{Order}
 use Rattle.game_orders.specs.declared.entry.Entry.{Entry}
 use Rattle.game_orders.specs.declared.entry.Entry.TheVariants.{Play, Leave}
 use Rattle.game_orders.specs.declared.limits.TheConstants.{MAX_FRAMES}
 use Rattle.game_orders.specs.Entry.{is_play, same_entry}
-use Rattle.frame_core.specs.Column.{Column, length_of, entry_from, entry_at, has_at, put_by, put_answer, put_column, after_answer, with_entry, left_column, IsWithinFrames}
+use Rattle.frame_core.specs.Column.{Column, length_of, entry_from, entry_at, has_at, put_by, put_column, after_answer, with_entry, left_column}
 use Rattle.frame_core.specs.Ready.{or_leave}
-use Rattle.frame_core.specs.declared.put.Put.{Put}
 use Rattle.frame_core.specs.declared.put.Put.TheVariants.{Fixed, Repeat, Conflict, Left, Ahead, Full}
-use Rattle.frame_table.specs.declared.seen.Seen.{Seen}
 use Rattle.frame_table.specs.declared.planned.Planned.{Planned}
 use Rattle.frame_table.specs.declared.planned.Planned.TheVariants.{Free, Plays}
 use Rattle.frame_table.specs.Part.{Part}
-use Rattle.frame_table.specs.Rule.{IsReach, Follows}
-use Rattle.frame_table.specs.Steps.{IsFound, MayBecome, AddsPlay, AddsLeave, MayAdd, MayEnd}
+use Rattle.frame_table.specs.Rule.{Follows}
+use Rattle.frame_table.specs.Steps.{IsFound, MayBecome, MayAdd, MayEnd}
 use Rattle.frame_table.specs.Calls.{HasSeen, MayPut, MayPutPlay, MayLeaveBy}
 
 got_none : (xs : List (List Order)) (n : ℕ) → slice_get xs n ≡ None → length xs ≤ n

@@ -1,31 +1,22 @@
 -- The calls, over plain values.
-use Rattle.std.proofs.Common.{◌≡◌, ◌≢◌, ◌⊎◌, ℕ, zero, suc, ◌+◌, ◌-◌, ◌<◌, ◌≤◌, ◌==◌, ◌&&◌, nat_lt, Bool, true, false, true≢false, List, [], ◌∷◌, ◌++◌, length, map, set, get_or, take, drop, refl, sym, ap, ap₂, ◌∙◌, subst, inl, inr, ⊎_elim, arith, Some, None}
-use Rattle.std.specs.Prelude.{slice_get, Option as Maybe}
-use Rattle.std.proofs.lemmas.Bool.Decides.{nat_tests, leb_tells, eqb_tells}
+use Rattle.std.proofs.Common.{◌≡◌, ℕ, zero, suc, ◌<◌, ◌≤◌, Bool, true, false, List, [], ◌∷◌, length, map, set, get_or, refl, sym, ap, ◌∙◌, subst, inl, inr, arith}
 use native.Mathlib.Decide.{ℕ_discrete}
 use mathlib.Core.Logic.{dite}
 use mathlib.Core.Option.{none}
 use Rattle.atomic_table.specs.Table.{Me, step, Allows}
-use Rattle.game_orders.specs.declared.order.Order.{Order}
 use Rattle.game_orders.specs.declared.entry.Entry.{Entry}
-use Rattle.game_orders.specs.declared.entry.Entry.TheVariants.{Play, Leave}
-use Rattle.game_orders.specs.Entry.{is_play, same_entry}
-use Rattle.frame_core.specs.Column.{Column, no_column, length_of, entry_from, entry_at, has_at, put_by, put_answer, put_column, after_answer, with_entry, left_column, column_of, IsWithinFrames}
+use Rattle.frame_core.specs.Column.{Column, put_column, left_column, column_of}
 use Rattle.frame_core.specs.Grows.{GrowsTo}
-use Rattle.frame_core.specs.declared.put.Put.{Put}
-use Rattle.frame_core.specs.declared.put.Put.TheVariants.{Fixed, Repeat, Conflict, Left, Ahead, Full}
-use Rattle.frame_table.specs.declared.seen.Seen.{Seen}
 use Rattle.frame_table.specs.declared.planned.Planned.{Planned}
-use Rattle.frame_table.specs.declared.planned.Planned.TheVariants.{Free, Plays}
 use Rattle.frame_table.specs.declared.view.View.{View}
 use Rattle.frame_table.specs.declared.pass.Pass.{Pass}
 use Rattle.frame_table.specs.declared.table.FrameTable.{FrameTable}
 use Rattle.frame_table.specs.declared.view.Mark.{Mark}
 use Rattle.frame_table.specs.Part.{Part, part_of, part_in, no_mark, OthersStay}
-use Rattle.frame_table.specs.Passes.{kept_mark, given_mark, kept_view, given_view, joined_mark, joined_marks, joined_view, longer, first_mark, first_view}
-use Rattle.frame_table.specs.Rule.{IsReach, Follows, IsKept}
-use Rattle.frame_table.specs.Steps.{Slot, IsFound, holding, published, published_as, released, MayPublish, MayBecome, AddsPlay, AddsLeave, MayAdd, MayEnd, held_in, HasMet, Meets}
-use Rattle.frame_table.specs.Calls.{plan_of, view_of, IsPassOf, HasSeen, MayPut, MayPutPlay, MayLeaveBy, HasLocked, GaveBack, Acted, Unchanged}
+use Rattle.frame_table.specs.Passes.{kept_mark, kept_view, given_view, joined_mark, joined_marks, joined_view, longer, first_mark, first_view}
+use Rattle.frame_table.specs.Rule.{IsKept}
+use Rattle.frame_table.specs.Steps.{Slot, holding, published_as, released, MayPublish, MayBecome, HasMet, Meets}
+use Rattle.frame_table.specs.Calls.{plan_of, view_of, IsPassOf, HasLocked, GaveBack, Acted, Unchanged}
 use Rattle.frame_table.proofs.SplitJoin.{handed, joined_at, joined_held, joined_length, given_length}
 use Rattle.frame_table.proofs.KeptPasses.{meets, both_grow, first_length}
 

@@ -1,18 +1,18 @@
 -- What grows, and what was seen of it.
-use Rattle.std.proofs.Common.{◌≡◌, ◌≢◌, ◌⊎◌, ℕ, zero, suc, ◌+◌, ◌-◌, ◌*◌, ◌/◌, ◌%◌, ◌<◌, ◌≤◌, ◌==◌, Bool, true, false, true≢false, List, [], ◌∷◌, ◌++◌, length, take, refl, sym, ap, ap₂, ◌∙◌, subst, inl, inr, ⊎_elim, arith, append_assoc, append-nil, length-append, Some, None}
+use Rattle.std.proofs.Common.{◌≡◌, ℕ, ◌+◌, ◌/◌, ◌%◌, ◌≤◌, ◌==◌, Bool, true, false, true≢false, List, [], ◌∷◌, ◌++◌, length, take, refl, sym, ap, ◌∙◌, subst, inl, inr, arith, append_assoc, append-nil, length-append, Some}
 use Rattle.std.specs.Prelude.{slice_get}
 use Rattle.std.proofs.lemmas.Bool.Decides.{nat_tests}
 use Rattle.game_orders.specs.declared.order.Order.{Order}
-use Rattle.frame_core.specs.Column.{Column, no_column, length_of}
+use Rattle.frame_core.specs.Column.{Column, length_of}
 use Rattle.frame_core.specs.Grows.{GrowsTo}
 use Rattle.frame_core.specs.GrowsLemmas.{GrowsTo-refl}
 use Rattle.frame_table.specs.declared.seen.Seen.{Seen}
 use Rattle.frame_table.specs.declared.planned.Planned.{Planned}
 use Rattle.frame_table.specs.declared.planned.Planned.TheVariants.{Free, Plays}
-use Rattle.frame_table.specs.Part.{Part, part_of}
-use Rattle.frame_table.specs.Word.{one_if, word_for, word_of, seen_of, whole_of}
-use Rattle.frame_table.specs.Rule.{IsReach, IsWithinReach, Follows}
-use Rattle.frame_table.specs.Steps.{IsFurther, AddsPlay, AddsLeave, MayAdd, MayEnd, MayBecome, known_after}
+use Rattle.frame_table.specs.Part.{Part}
+use Rattle.frame_table.specs.Word.{word_for, word_of, seen_of, whole_of}
+use Rattle.frame_table.specs.Rule.{IsReach, Follows}
+use Rattle.frame_table.specs.Steps.{IsFurther, MayAdd, MayEnd, MayBecome, known_after}
 
 -- the two parts of a column
 columns_same : (K L : Column) → K.plays ≡ L.plays → K.left ≡ L.left → K ≡ L

@@ -1,26 +1,23 @@
 -- The table begins so, and passes are split, joined and compared.
-use Rattle.std.proofs.Common.{◌≡◌, ◌≢◌, ◌⊎◌, ℕ, zero, suc, ◌+◌, ◌-◌, ◌/◌, ◌%◌, ◌^◌, ◌<◌, ◌≤◌, ◌==◌, nat_lt, Bool, true, false, true≢false, if◌then◌else◌, List, [], ◌∷◌, ◌++◌, length, map, set, get_or, replicate, refl, sym, ap, ap₂, ◌∙◌, subst, inl, inr, ⊎_elim, arith, Some, None}
-use Rattle.std.specs.Prelude.{slice_index, Option as Maybe}
-use Rattle.std.proofs.lemmas.Bool.Decides.{leb_tells}
-use mathlib.Core.Option.{Option, none, some, some-ne-none, some-injective}
+use Rattle.std.proofs.Common.{◌≡◌, ◌≢◌, ℕ, zero, suc, ◌+◌, ◌-◌, ◌/◌, ◌^◌, ◌<◌, ◌≤◌, nat_lt, Bool, true, false, true≢false, if◌then◌else◌, List, [], ◌∷◌, ◌++◌, length, map, set, get_or, replicate, refl, sym, ap, ap₂, ◌∙◌, subst, inl, ⊎_elim, arith, Some}
+use Rattle.std.specs.Prelude.{slice_index}
+use mathlib.Core.Option.{none, some, some-ne-none, some-injective}
 use lib.ListN.{get_elem?}
-use Rattle.atomic_table.specs.Table.{State, Me, Act, keeps, opening, step, rest, Allows, Splits, Joins}
+use Rattle.atomic_table.specs.Table.{keeps, opening, step, Allows, Splits, Joins}
 use Rattle.atomic_table.proofs.Lists.{at_set, at_snoc, at_map, set_again}
-use Rattle.frame_core.specs.Column.{Column, no_column, length_of, IsWithinFrames}
+use Rattle.frame_core.specs.Column.{Column, no_column}
 use Rattle.frame_core.specs.Grows.{GrowsTo}
 use Rattle.frame_core.specs.GrowsLemmas.{GrowsTo-refl}
 use Rattle.frame_table.specs.declared.planned.Planned.{Planned}
 use Rattle.frame_table.specs.declared.planned.Planned.TheVariants.{Free, Plays}
 use Rattle.frame_table.specs.declared.view.View.{View}
-use Rattle.frame_table.specs.declared.view.Mark.{Mark}
 use Rattle.frame_table.specs.Part.{Part, part_of, part_in, no_mark}
 use Rattle.frame_table.specs.Word.{one_if, word_of}
-use Rattle.frame_table.specs.Rule.{planned_of, home_of, Keeps, IsKept, Fits, Follows}
-use Rattle.frame_table.specs.Steps.{Slot, Meets, HasMet}
-use Rattle.frame_table.specs.Passes.{kept_mark, given_mark, kept_marks, given_marks, kept_view, given_view, size_of, longer, shorter, known_in, joined_mark, joined_marks, joined_view, spent_view, first_mark, first_view, is_free}
-use Rattle.frame_table.proofs.Lists.{map_set, map_snoc, length_set, index_some}
+use Rattle.frame_table.specs.Rule.{planned_of, Keeps, IsKept, Fits, Follows}
+use Rattle.frame_table.specs.Steps.{Slot, Meets}
+use Rattle.frame_table.specs.Passes.{kept_mark, given_mark, kept_view, given_view, size_of, longer, shorter, joined_mark, joined_view, spent_view, first_mark, first_view, is_free}
+use Rattle.frame_table.proofs.Lists.{map_set, map_snoc, index_some}
 use Rattle.frame_table.proofs.SplitJoin.{handed, kept_split, kept_joined, agree, joined_at, joined_length, given_length, lt_true, lt_false}
-use Rattle.frame_table.proofs.KeptSteps.{Now}
 
 module _ (plan : List Planned) (id : ℕ) (v : View) where
   pub splits : 1 < v.share → Splits (IsKept plan) id v (kept_view v) (given_view v)

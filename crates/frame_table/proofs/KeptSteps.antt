@@ -1,25 +1,24 @@
 -- Each kind of step keeps what holds of all columns, and tells what it says.
-use Rattle.std.proofs.Common.{◌≡◌, ◌≢◌, ◌⊎◌, ℕ, zero, suc, ◌+◌, ◌-◌, ◌/◌, ◌%◌, ◌^◌, ◌<◌, ◌≤◌, ◌==◌, Bool, true, false, true≢false, List, [], ◌∷◌, ◌++◌, length, map, set, get_or, refl, sym, ap, ap₂, ◌∙◌, subst, inl, inr, ⊎_elim, arith, Some, None, MatchBool, eqb}
-use Rattle.std.specs.Prelude.{slice_index, Option as Maybe}
+use Rattle.std.proofs.Common.{◌≡◌, ◌≢◌, ℕ, ◌+◌, ◌/◌, ◌%◌, ◌<◌, ◌≤◌, ◌==◌, Bool, true, false, List, [], ◌∷◌, length, map, set, refl, sym, ap, ◌∙◌, subst, ⊎_elim, arith, Some}
+use Rattle.std.specs.Prelude.{slice_index}
 use Rattle.std.proofs.lemmas.Bool.Decides.{eqb_tells}
 use native.Mathlib.Decide.{ℕ_discrete}
 use mathlib.Core.Logic.{dite}
-use mathlib.Core.Option.{Option, none, some, some-ne-none, some-injective}
+use mathlib.Core.Option.{Option, none, some}
 use prog.Atomic.{either}
 use lib.ListN.{get_elem?}
-use Rattle.atomic_table.specs.Table.{State, Me, Act, keeps, takes, gives, Valid, homes_after, carried_after, stepped, step, rest, Allows, Splits, Joins}
-use Rattle.atomic_table.proofs.Lists.{at_set, at_snoc, at_map, set_again, set_else}
-use Rattle.frame_core.specs.Column.{Column, no_column, length_of, IsWithinFrames}
+use Rattle.atomic_table.specs.Table.{State, Act, keeps, takes, gives, Valid, carried_after, stepped, step, Allows}
+use Rattle.atomic_table.proofs.Lists.{at_set, at_map, set_again, set_else}
+use Rattle.frame_core.specs.Column.{Column}
 use Rattle.frame_core.specs.Grows.{GrowsTo}
-use Rattle.frame_table.specs.declared.seen.Seen.{Seen}
 use Rattle.frame_table.specs.declared.planned.Planned.{Planned}
 use Rattle.frame_table.specs.declared.view.View.{View}
 use Rattle.frame_table.specs.declared.view.Mark.{Mark}
 use Rattle.frame_table.specs.Part.{Part, part_of, part_in, no_mark, OthersStay}
-use Rattle.frame_table.specs.Word.{one_if, word_of, seen_of, whole_of}
+use Rattle.frame_table.specs.Word.{word_of, seen_of, whole_of}
 use Rattle.frame_table.specs.Rule.{planned_of, home_of, Keeps, IsKept}
-use Rattle.frame_table.specs.Steps.{Slot, IsFurther, loaded, holding, IsFound, HasTaken, Loads, Takes, Publishes, GivesBack, published, held_in, column_in, MayBecome}
-use Rattle.frame_table.proofs.Lists.{set_some, below_length, get_or_set, get_or_other, length_set, map_set, index_some}
+use Rattle.frame_table.specs.Steps.{Slot, IsFurther, loaded, holding, Loads, Takes, Publishes, GivesBack, published, held_in, MayBecome}
+use Rattle.frame_table.proofs.Lists.{set_some, get_or_set, get_or_other, length_set, map_set, index_some}
 use Rattle.frame_table.proofs.Growth.{seen_whole, plays_of_word, unlocked, locked_word, further_whole}
 use Rattle.frame_table.proofs.OneColumn.{kept_loaded, kept_held, kept_found, kept_given, kept_published}
 

@@ -1,25 +1,22 @@
 -- Looking at the columns' words one after the other.
-use Rattle.std.proofs.Common.{◌≡◌, ◌≢◌, ◌⊎◌, ℕ, zero, suc, ◌+◌, ◌<◌, ◌≤◌, nat_lt, Bool, true, false, true≢false, if◌then◌else◌, List, [], ◌∷◌, ◌++◌, length, map, get_or, take, drop, refl, sym, ap, ap₂, ◌∙◌, subst, inl, inr, ⊎_elim, arith, append_assoc, append-nil}
+use Rattle.std.proofs.Common.{◌≡◌, ℕ, zero, suc, ◌+◌, ◌<◌, ◌≤◌, nat_lt, Bool, true, false, true≢false, if◌then◌else◌, List, [], ◌∷◌, ◌++◌, length, map, get_or, take, drop, refl, sym, ap, ap₂, ◌∙◌, subst, arith, append_assoc, append-nil}
 use Rattle.std.proofs.lemmas.Bool.Decides.{nat_tests}
 use native.Mathlib.Decide.{ℕ_discrete}
 use mathlib.Core.Logic.{dite}
 use Rattle.game_orders.specs.declared.limits.TheConstants.{MAX_FRAMES}
 use Rattle.frame_core.specs.declared.input.Input.{Input}
 use Rattle.frame_core.specs.declared.input.Input.TheVariants.{Missing, Played, Departed}
-use Rattle.frame_core.specs.declared.ready.Ready.{Ready}
 use Rattle.frame_core.specs.declared.ready.Ready.TheVariants.{Yes, NotYet, Over}
 use Rattle.frame_core.specs.Input.{ready_of, ready_from}
 use Rattle.frame_table.specs.declared.seen.Seen.{Seen}
 use Rattle.frame_table.specs.declared.view.View.{View}
 use Rattle.frame_table.specs.declared.view.Mark.{Mark}
 use Rattle.frame_table.specs.Part.{Part, part_of, no_mark, OthersStay}
-use Rattle.frame_core.specs.Column.{Column}
 use Rattle.frame_core.specs.Grows.{GrowsTo}
 use Rattle.frame_core.specs.GrowsLemmas.{GrowsTo-refl}
 use Rattle.frame_table.proofs.Growth.{grows_trans}
 use Rattle.frame_table.specs.Steps.{IsFurther, known_after, loaded}
 use Rattle.frame_table.specs.Calls.{input_seen, inputs_seen, ready_seen, IsLater, IsLaterPart, LookedSoFar}
-use Rattle.frame_table.proofs.SplitJoin.{lt_true, lt_false}
 
 module _ (f : Mark → Input) where
   takes_same : (xs ys : List Mark) (c : ℕ) → length ys ≡ length xs → ((d : ℕ) → d < c → f (get_or ys d no_mark) ≡ f (get_or xs d no_mark)) → take c (map f ys) ≡ take c (map f xs)

@@ -1,20 +1,18 @@
 -- Each kind of step keeps what holds of its column.
-use Rattle.std.proofs.Common.{◌≡◌, ◌≢◌, ◌⊎◌, ℕ, zero, suc, ◌+◌, ◌-◌, ◌^◌, ◌<◌, ◌≤◌, Bool, true, false, true≢false, List, [], ◌∷◌, ◌++◌, length, set, refl, sym, ap, ap₂, ◌∙◌, subst, inl, inr, ⊎_elim, arith, Some, None, length-append}
-use mathlib.Core.Option.{Option, none, some, some-ne-none, some-injective}
+use Rattle.std.proofs.Common.{◌≡◌, ◌≢◌, ℕ, ◌+◌, ◌-◌, ◌<◌, Bool, true, false, true≢false, List, [], ◌∷◌, set, refl, sym, ap, ◌∙◌, subst, inl, inr, ⊎_elim, arith, length-append}
+use mathlib.Core.Option.{Option, some}
 use lib.ListN.{get_elem?}
-use Rattle.game_orders.specs.declared.order.Order.{Order}
-use Rattle.frame_core.specs.Column.{Column, no_column, length_of, IsWithinFrames}
+use Rattle.frame_core.specs.Column.{Column, length_of, IsWithinFrames}
 use Rattle.frame_core.specs.Grows.{GrowsTo}
 use Rattle.frame_core.specs.GrowsLemmas.{GrowsTo-refl}
-use Rattle.frame_table.specs.declared.seen.Seen.{Seen}
 use Rattle.frame_table.specs.declared.planned.Planned.{Planned}
-use Rattle.frame_table.specs.declared.planned.Planned.TheVariants.{Free, Plays}
-use Rattle.frame_table.specs.Part.{Part, part_of}
-use Rattle.frame_table.specs.Word.{one_if, word_of, seen_of, whole_of}
-use Rattle.frame_table.specs.Rule.{IsReach, IsWithinReach, Follows, Fits, total, home_of, Keeps}
-use Rattle.frame_table.specs.Steps.{Slot, IsFurther, known_after, loaded, holding, IsFound, published, held_in, AddsPlay, AddsLeave, MayAdd, MayEnd, MayBecome}
-use Rattle.frame_table.proofs.Lists.{total_set, at_most_total, two_at_most_total, alone, all_set}
-use Rattle.frame_table.proofs.Growth.{grows_trans, grows_length, becomes_grown, reach_grows, reach_whole, further_whole, follows_on, after_known, after_free}
+use Rattle.frame_table.specs.declared.planned.Planned.TheVariants.{Free}
+use Rattle.frame_table.specs.Part.{Part}
+use Rattle.frame_table.specs.Word.{one_if, word_of, whole_of}
+use Rattle.frame_table.specs.Rule.{Follows, Fits, home_of, Keeps}
+use Rattle.frame_table.specs.Steps.{Slot, known_after, loaded, holding, IsFound, published, held_in, MayAdd, MayBecome}
+use Rattle.frame_table.proofs.Lists.{total_set, two_at_most_total, alone, all_set}
+use Rattle.frame_table.proofs.Growth.{grows_trans, grows_length, becomes_grown, reach_grows, reach_whole, follows_on, after_known, after_free}
 
 abbrev pub share_in : Part → ℕ
 share_in p = p.share

@@ -1,24 +1,23 @@
 -- Splitting a pass and joining two keep what holds of each column.
-use Rattle.std.proofs.Common.{◌≡◌, ◌≢◌, ◌⊎◌, ℕ, zero, suc, ◌+◌, ◌-◌, ◌/◌, ◌^◌, ◌<◌, ◌≤◌, ◌||◌, max, nat_lt, Bool, true, false, true≢false, List, [], ◌∷◌, ◌++◌, length, map, set, get_or, refl, sym, ap, ap₂, ◌∙◌, subst, inl, inr, ⊎_elim, arith, Some, None, append-nil, length-append}
+use Rattle.std.proofs.Common.{◌≡◌, ◌≢◌, ◌⊎◌, ℕ, zero, suc, ◌+◌, ◌^◌, ◌<◌, ◌≤◌, ◌||◌, nat_lt, Bool, true, false, true≢false, List, [], ◌∷◌, ◌++◌, length, map, set, get_or, refl, sym, ap, ap₂, ◌∙◌, subst, inl, inr, ⊎_elim, arith, append-nil, length-append}
 use Rattle.std.proofs.lemmas.Bool.Decides.{leb_tells}
-use mathlib.Core.Option.{Option, none, some, some-ne-none, some-injective}
+use mathlib.Core.Option.{Option, some}
 use lib.ListN.{get_elem?}
 use Rattle.atomic_table.proofs.Lists.{at_set, at_snoc}
 use Rattle.game_orders.specs.declared.order.Order.{Order}
-use Rattle.frame_core.specs.Column.{Column, no_column, length_of, IsWithinFrames}
+use Rattle.frame_core.specs.Column.{Column, length_of}
 use Rattle.frame_core.specs.Grows.{GrowsTo}
 use Rattle.frame_core.specs.GrowsLemmas.{GrowsTo-refl}
 use Rattle.frame_table.specs.declared.seen.Seen.{Seen}
 use Rattle.frame_table.specs.declared.planned.Planned.{Planned}
-use Rattle.frame_table.specs.declared.planned.Planned.TheVariants.{Free, Plays}
-use Rattle.frame_table.specs.declared.view.View.{View}
+use Rattle.frame_table.specs.declared.planned.Planned.TheVariants.{Free}
 use Rattle.frame_table.specs.declared.view.Mark.{Mark}
-use Rattle.frame_table.specs.Part.{Part, part_of, part_in, no_mark}
-use Rattle.frame_table.specs.Word.{one_if, word_of, seen_of, whole_of}
-use Rattle.frame_table.specs.Rule.{IsReach, IsWithinReach, Follows, Fits, total, home_of, Keeps}
+use Rattle.frame_table.specs.Part.{Part, part_in, no_mark}
+use Rattle.frame_table.specs.Word.{one_if}
+use Rattle.frame_table.specs.Rule.{IsReach, IsWithinReach, Fits, total, Keeps}
 use Rattle.frame_table.specs.Steps.{Slot}
 use Rattle.frame_table.specs.Passes.{kept_mark, given_mark, kept_marks, given_marks, size_of, longer, shorter, further, known_in, joined_mark, joined_marks}
-use Rattle.frame_table.proofs.Lists.{total_set, total_snoc, two_at_most_total, all_set}
+use Rattle.frame_table.proofs.Lists.{total_set, total_snoc, all_set}
 use Rattle.frame_table.proofs.Growth.{grows_length}
 use Rattle.frame_table.proofs.OneColumn.{share_in, made_in, feeds_in}
 

@@ -1,5 +1,5 @@
 -- The two ways in which a lock is given back, as a call makes them.
-use Rattle.std.proofs.Common.{◌≡◌, ℕ, ◌<◌, List, [], ◌∷◌, length, refl, sym, ap, ◌∙◌, subst, Some, None, false}
+use Rattle.std.proofs.Common.{◌≡◌, ℕ, ◌<◌, List, [], ◌∷◌, length, refl, sym, ◌∙◌, subst, Some, None, false}
 use mathlib.Core.Option.{none}
 use Rattle.atomic_table.specs.Table.{Me, step, rest, Allows}
 use Rattle.frame_core.specs.Column.{Column}

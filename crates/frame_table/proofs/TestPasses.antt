@@ -1,19 +1,18 @@
 -- What the tests need of a pass of a table with free columns.
-use Rattle.std.proofs.Common.{◌≡◌, ◌≢◌, ℕ, zero, suc, ◌^◌, ◌<◌, ◌≤◌, Bool, true, false, List, [], ◌∷◌, length, map, get_or, replicate, refl, sym, ap, ◌∙◌, subst, inl, inr, arith}
+use Rattle.std.proofs.Common.{◌≡◌, ℕ, zero, suc, ◌^◌, ◌<◌, Bool, true, false, List, [], ◌∷◌, length, get_or, replicate, refl, sym, ap, ◌∙◌, subst, inl, arith}
 use native.Mathlib.Decide.{ℕ_discrete}
 use mathlib.Core.Logic.{dite}
 use Rattle.game_orders.specs.declared.entry.Entry.{Entry}
 use Rattle.game_orders.specs.declared.entry.Entry.TheVariants.{Play, Leave}
 use Rattle.frame_core.specs.Column.{Column}
 use Rattle.frame_table.specs.declared.planned.Planned.{Planned}
-use Rattle.frame_table.specs.declared.planned.Planned.TheVariants.{Free, Plays}
+use Rattle.frame_table.specs.declared.planned.Planned.TheVariants.{Free}
 use Rattle.frame_table.specs.declared.view.View.{View}
 use Rattle.frame_table.specs.declared.view.Mark.{Mark}
 use Rattle.frame_table.specs.declared.pass.Pass.{Pass}
 use Rattle.frame_table.specs.declared.table.FrameTable.{FrameTable}
-use Rattle.frame_table.specs.Part.{Part, part_of, part_in, no_mark, OthersStay}
-use Rattle.frame_table.specs.Rule.{planned_of}
-use Rattle.frame_table.specs.Passes.{kept_mark, given_mark, given_marks, kept_view, given_view, first_view, first_mark}
+use Rattle.frame_table.specs.Part.{Part, part_of, part_in, no_mark}
+use Rattle.frame_table.specs.Passes.{kept_mark, given_marks, kept_view, given_view, first_view, first_mark}
 use Rattle.frame_table.specs.Steps.{MayEnd}
 use Rattle.frame_table.specs.Calls.{plan_of, view_of, IsPassOf, MayPut, MayPutPlay, MayLeaveBy, Acted, IsLater}
 use Rattle.frame_table.specs.Tests.{IsFreePass, IsFeedingPass}

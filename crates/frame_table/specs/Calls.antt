@@ -24,7 +24,7 @@ use Rattle.frame_table.specs.declared.view.Mark.{Mark}
 use Rattle.frame_table.specs.declared.pass.Pass.{Pass}
 use Rattle.frame_table.specs.declared.table.FrameTable.{FrameTable}
 use Rattle.frame_table.specs.Part.{Part, part_of, OthersStay}
-use Rattle.frame_table.specs.Steps.{Slot, IsFurther, IsFound, holding, published, MayAdd, MayEnd}
+use Rattle.frame_table.specs.Steps.{Slot, IsFurther, IsFound, holding, published, MayEnd}
 
 -- What is planned for each client's column.
 abbrev pub plan_of : FrameTable → List Planned

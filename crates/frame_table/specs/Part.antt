@@ -1,10 +1,10 @@
 -- What a pass has to do with one column.
-use Rattle.std.specs.Prelude.{◌≡◌, ◌≢◌, ℕ, ◌<◌, ◌≤◌, Bool, true, false, List, [], ◌∷◌, length}
+use Rattle.std.specs.Prelude.{◌≡◌, ◌≢◌, ℕ, Bool, false, List, [], length}
 use Rattle.std.specs.Prelude.{slice_index_or}
-use Rattle.frame_core.specs.Column.{Column, no_column, length_of}
+use Rattle.frame_core.specs.Column.{Column}
 use Rattle.frame_table.specs.declared.seen.Seen.{Seen}
 use Rattle.frame_table.specs.declared.planned.Planned.{Planned}
-use Rattle.frame_table.specs.declared.planned.Planned.TheVariants.{Free, Plays}
+use Rattle.frame_table.specs.declared.planned.Planned.TheVariants.{Free}
 use Rattle.frame_table.specs.declared.view.View.{View}
 use Rattle.frame_table.specs.declared.view.Mark.{Mark}
 

@@ -1,15 +1,14 @@
 -- How a pass is split in two, and how two are joined.
-use Rattle.std.specs.Prelude.{◌≡◌, ℕ, ◌+◌, ◌-◌, ◌/◌, ◌^◌, ◌≤◌, max, nat_lt, Bool, true, false}
+use Rattle.std.specs.Prelude.{ℕ, ◌+◌, ◌-◌, ◌/◌, ◌^◌, max, nat_lt, Bool, true, false}
 use Rattle.std.specs.Prelude.{◌||◌, if◌then◌else◌}
-use Rattle.std.specs.Prelude.{List, [], ◌∷◌, length, map}
-use Rattle.frame_core.specs.Column.{Column, no_column, length_of}
-use Rattle.frame_core.specs.Grows.{GrowsTo}
+use Rattle.std.specs.Prelude.{List, [], ◌∷◌, map}
+use Rattle.frame_core.specs.Column.{Column, length_of}
 use Rattle.frame_table.specs.declared.seen.Seen.{Seen}
 use Rattle.frame_table.specs.declared.planned.Planned.{Planned}
 use Rattle.frame_table.specs.declared.planned.Planned.TheVariants.{Free, Plays}
 use Rattle.frame_table.specs.declared.view.View.{View}
 use Rattle.frame_table.specs.declared.view.Mark.{Mark}
-use Rattle.frame_table.specs.Part.{Part, part_of, no_mark}
+use Rattle.frame_table.specs.Part.{no_mark}
 use Rattle.frame_table.specs.Word.{one_if}
 
 -- The mark that the given pass keeps: without the right to add plays, where it is handed over.

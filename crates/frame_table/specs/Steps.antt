@@ -12,7 +12,7 @@ use Rattle.frame_table.specs.declared.planned.Planned.{Planned}
 use Rattle.frame_table.specs.declared.planned.Planned.TheVariants.{Free, Plays}
 use Rattle.frame_table.specs.declared.view.View.{View}
 use Rattle.frame_table.specs.Part.{Part, part_of, OthersStay}
-use Rattle.frame_table.specs.Word.{one_if, word_of, seen_of, whole_of}
+use Rattle.frame_table.specs.Word.{one_if, seen_of, whole_of}
 use Rattle.frame_table.specs.Rule.{IsReach, Follows}
 use Rattle.frame_table.specs.Passes.{size_of}
 

@@ -1,6 +1,6 @@
 -- The word of a column: its number of plays, whether its client has left, and whether its lock is
 -- taken.
-use Rattle.std.specs.Prelude.{ℕ, ◌+◌, ◌*◌, ◌/◌, ◌%◌, ◌==◌, Bool, true, false, if◌then◌else◌}
+use Rattle.std.specs.Prelude.{ℕ, ◌+◌, ◌*◌, ◌/◌, ◌%◌, ◌==◌, Bool, if◌then◌else◌}
 use Rattle.frame_core.specs.Column.{Column, length_of}
 use Rattle.frame_table.specs.declared.seen.Seen.{Seen}
 

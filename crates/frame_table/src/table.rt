@@ -12,7 +12,9 @@ use std::alloc::Global;
 /// One word for each client that there can be.
 pub(crate) const WORDS: usize = MAX_CLIENTS as usize;
 
-/// The columns of a match, shared by threads.
+/// The columns of a match, shared by threads. It is used through a `&` by any number of them, each
+/// with a pass of this table. `whole` is empty until `close` fills it, so that `close` takes no
+/// memory.
 #[derive(Drop)]
 pub struct FrameTable {
     pub(crate) inner: Table<Option<Columns>, View, Plan, Rule, Global>,

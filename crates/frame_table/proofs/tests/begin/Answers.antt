@@ -1,4 +1,4 @@
-use Rattle.std.proofs.Common.{◌≡◌, ◌≤◌, ◌∙◌, ap, sym, subst, arith}
+use Rattle.std.proofs.Common.{◌≤◌, ◌∙◌, ap, sym, subst, arith}
 use Rattle.frame_table.specs.declared.view.View.{View}
 use Rattle.frame_table.specs.Passes.{first_view}
 use Rattle.frame_table.proofs.TestPasses.{first_feeds}

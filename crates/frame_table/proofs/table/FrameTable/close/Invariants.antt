@@ -1,5 +1,5 @@
 use Rattle.std.proofs.Common.{◌≡◌, length}
-use Rattle.frame_table.specs.Calls.{view_of, plan_of, IsPassOf, ClosedSoFar}
+use Rattle.frame_table.specs.Calls.{view_of, plan_of, ClosedSoFar}
 use Rattle.frame_table.proofs.table.FrameTable.close.Given as goal
 
 abbrev pub invariant-loop-c : goal.invariant-loop-c

@@ -1,4 +1,4 @@
-use Rattle.std.proofs.Common.{◌≡◌, ◌≤◌, ◌∙◌, ap, sym, length, arith, replicate, Some, [], ◌∷◌}
+use Rattle.std.proofs.Common.{◌∙◌, ap, sym, arith, replicate, Some, [], ◌∷◌}
 use Rattle.frame_core.specs.Column.{no_column}
 use Rattle.frame_table.proofs.KeptPasses.{begins}
 use Rattle.frame_table.proofs.Calls.{first_pass}

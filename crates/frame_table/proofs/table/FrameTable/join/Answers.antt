@@ -1,5 +1,5 @@
-use Rattle.std.proofs.Common.{arith, ◌∙◌, subst, sym, ap}
-use Rattle.frame_table.proofs.KeptPasses.{joins, meets}
+use Rattle.std.proofs.Common.{arith, ◌∙◌}
+use Rattle.frame_table.proofs.KeptPasses.{joins}
 use Rattle.frame_table.proofs.Calls.{joined_pass, meets_as, mine_grows, theirs_grows}
 use Rattle.frame_table.proofs.table.FrameTable.join.Goals as goal
 

@@ -1,5 +1,3 @@
-use Rattle.std.proofs.Common.{◌∙◌, ◌∷◌, [], ap, set, get_or, Some}
-use Rattle.frame_core.specs.Column.{no_column, put_column, column_of}
 use Rattle.frame_table.proofs.Calls.{may_publish, put_is}
 use Rattle.frame_table.proofs.Becoming.{put_becomes}
 use Rattle.frame_table.proofs.table.FrameTable.put.Goals as goal

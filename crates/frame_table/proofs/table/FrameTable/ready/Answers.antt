@@ -1,5 +1,4 @@
-use Rattle.std.proofs.Common.{◌≡◌, ◌<◌, ◌∙◌, ap, sym, length, arith, if◌then◌else◌}
-use Rattle.std.proofs.lemmas.Bool.Decides.{nat_tests}
+use Rattle.std.proofs.Common.{◌<◌, ◌∙◌, ap, sym, length, arith, if◌then◌else◌}
 use Rattle.frame_core.specs.declared.ready.Ready.TheVariants.{Yes, Over}
 use Rattle.frame_table.specs.Calls.{view_of}
 use Rattle.frame_table.proofs.Looking.{looked_played, looked_departed, not_yet, looked_all}

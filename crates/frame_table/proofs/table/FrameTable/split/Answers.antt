@@ -1,4 +1,4 @@
-use Rattle.std.proofs.Common.{arith, ◌∙◌, subst, sym}
+use Rattle.std.proofs.Common.{arith}
 use Rattle.frame_table.proofs.KeptPasses.{splits}
 use Rattle.frame_table.proofs.Calls.{kept_pass, given_pass}
 use Rattle.frame_table.proofs.table.FrameTable.split.Goals as goal
