@@ -1,0 +1,11 @@
+pub mod Lists
+pub mod Growth
+pub mod OneColumn
+pub mod SplitJoin
+pub mod KeptSteps
+pub mod KeptPasses
+pub mod Stores
+pub mod Calls
+pub mod Becoming
+pub mod Looking
+pub mod TestPasses
