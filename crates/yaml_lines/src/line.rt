@@ -117,11 +117,7 @@ pub fn unescape(alloc: Global, text: &str) -> Result<String, NoMemory>
 
 /// The key and the value of what stands after an indent.
 #[tactic(auto, unfolding(crate::specs::Reading::key_of, crate::specs::Reading::value_of))]
-fn read_words(
-    alloc: Global,
-    origin: Origin<'_>,
-    text: &str,
-) -> Result<(Text, Text), NoMemory>
+fn read_words(alloc: Global, origin: Origin<'_>, text: &str) -> Result<(Text, Text), NoMemory>
     ensures { IfOk result (λ words. (words.0 ≡ key_of text.now) × (words.1 ≡ value_of text.now)) }
 {
     let (key, value) = split_colon(text);

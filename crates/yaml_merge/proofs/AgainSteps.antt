@@ -93,6 +93,6 @@ repeated tops kept high room list (Some before) node a r =
     let b = out-Node before.now in (
       a.0,
       λ free path h clear.
-      subst (λ v. taken_in free room tops path o.key v o.place (trees_of o.children) list ≡ Ok list) r.2
-      (taken_again free room tops path b.key o.key b.value b.place o.place (trees_of b.children) (trees_of o.children) list list r.0 r.1 (a.1 r.0 free path h clear)),
+          subst (λ v. taken_in free room tops path o.key v o.place (trees_of o.children) list ≡ Ok list) r.2
+          (taken_again free room tops path b.key o.key b.value b.place o.place (trees_of b.children) (trees_of o.children) list list r.0 r.1 (a.1 r.0 free path h clear)),
     )

@@ -63,7 +63,6 @@ none_left : (slots : List Slot) (total : ℕ) → 0 < total → NoneLeft slots t
 none_left slots zero h e = absurd (omega arith)
 none_left slots (suc total) h e = cc
 
-
 -- The children of a slot are taken out.
 pub taken_whole : (key : List ℕ) (at : ℕ) (slots : List Slot) (slot : Slot) (total n : ℕ) (index : Index) (below : Trees) → IsAt key at slots slot → AllWhole slots total index → below ≡ none →
     n ≡ count slot.children → AllWhole (set slots at (record slot { children = below })) (total - n) index
@@ -82,14 +81,14 @@ taken_whole key at slots slot total n index below i w b c =
       ),
       finds_by index.places slots (set slots at new) (λ k found. found_set k found at slots slot new i.is refl) w.2,
       none_left (set slots at new) (total - n) (
-        omega (
-          arith,
-          w.1,
-          c,
-          ap count (children_standing at slots slot i.within i.is i.live),
-          count_removed r (standing slots) width,
-        )
-      ),
+          omega (
+            arith,
+            w.1,
+            c,
+            ap count (children_standing at slots slot i.within i.is i.live),
+            count_removed r (standing slots) width,
+          )
+          ),
     )
 
 pub taken_children : (key : List ℕ) (at : ℕ) (slots : List Slot) (slot : Slot) (list : Trees) → IsAt key at slots slot → standing slots ≡ list → slot.children ≡ children_at key list
@@ -126,14 +125,14 @@ filled_whole key at slots slot total next index fresh value place below i w f n 
       ),
       finds_by index.places slots (set slots at new) (λ k found. found_set k found at slots slot new i.is refl) w.2,
       none_left (set slots at new) next (
-        omega (
-          arith,
-          w.1,
-          n,
-          ap count (children_standing at slots slot i.within i.is i.live),
-          count_removed r (standing slots) width,
-        )
-      ),
+          omega (
+            arith,
+            w.1,
+            n,
+            ap count (children_standing at slots slot i.within i.is i.live),
+            count_removed r (standing slots) width,
+          )
+          ),
     )
 
 pub filled_joined : (key : List ℕ) (at : ℕ) (slots : List Slot) (slot : Slot) (fresh value : List ℕ) (place : Place) (below list : Trees) → IsAt key at slots slot → fresh ≡ newer_value slot.value value →
@@ -176,8 +175,8 @@ forgets_by key at slots slot dead None new i n w f h =
 forgets_by key at slots slot dead (Some held) new i n w f h =
     subst (λ p. MatchOption p (Unit {0}) (λ held. (other : List ℕ) → IsFound other (set slots at dead) (get bytes_eq held.value other))) (sym f.1)
     (λ other.
-      subst (IsFound other (set slots at dead)) (sym (f.2 other))
-      (found_dead key other (get bytes_eq held.value other) at slots slot dead i.is n w i.stands (h other)))
+    subst (IsFound other (set slots at dead)) (sym (f.2 other))
+    (found_dead key other (get bytes_eq held.value other) at slots slot dead i.is n w i.stands (h other)))
 
 dead_whole : (key : List ℕ) (at : ℕ) (slots : List Slot) (slot : Slot) (total n : ℕ) (index next : Index) (dead : Slot) → IsAt key at slots slot → AllWhole slots total index → dead.live ≡ false →
     dead.children ≡ none → n ≡ count slot.children → Forgets key index next → IsWhole (set slots at dead) × (total - (1 + n) ≡ count (standing (set slots at dead))) × Finds next (set slots at dead)

@@ -15,8 +15,8 @@ ghost use Rattle.yaml_merge.specs.declared.TheConstants.{MAX_FOREST_NODES};
 
 use crate::MAX_FOREST_NODES;
 use crate::fault::MergeFault;
-use crate::keeping::{keep, keep_parents, node_at, total_at};
 use crate::growing_list::GrowingList;
+use crate::keeping::{keep, keep_parents, node_at, total_at};
 use crate::keyed::Keyed;
 use crate::merging::merge;
 use crate::removing::remove_node;
@@ -156,11 +156,7 @@ fn remove_tops(tops: &Forest, list: Forest) -> Result<Forest, MergeFault>
 }
 
 /// All files as one list.
-fn merge_files(
-    alloc: Global,
-    keyed: &Keyed,
-    files: &[Forest],
-) -> Result<GrowingList, NoMemory>
+fn merge_files(alloc: Global, keyed: &Keyed, files: &[Forest]) -> Result<GrowingList, NoMemory>
     ensures { IfOk result (λ level. merged_files (map trees_of files.now) none ≡ level) }
 {
     let mut list = GrowingList::new(alloc);

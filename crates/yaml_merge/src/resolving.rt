@@ -9,8 +9,8 @@ ghost use Rattle.yaml_merge.specs.declared.resolved.Resolved.{Resolved};
 
 use crate::MAX_LIST_NODES;
 use crate::fault::MergeFault;
-use crate::keeping::held_at;
 use crate::growing_list::GrowingList;
+use crate::keeping::held_at;
 use crate::resolved::Resolved;
 use crate::scene::Scene;
 use crate::sizes::is_leaf;

@@ -56,8 +56,8 @@ resolve_list-loop-node-preserved t c =
       again = (
         subst (λ l. count l ≤ MAX_LIST_NODES) (kept_within MAX_LIST_NODES o.place c.in_ok-next.next c.in-Ok.kept kept.kept).0 (kept_within MAX_LIST_NODES o.place c.in_ok-next.next c.in-Ok.kept kept.kept).1,
         λ i free path h clear.
-        taken_again free c.args.room tops path o.key o.key o.value o.place o.place (trees_of o.children) (trees_of o.children) c.loop-node.done c.in-Ok.kept i i
-        (taken.taken free path h clear ∙ ap Ok (kept_within MAX_LIST_NODES o.place c.in_ok-next.next c.in-Ok.kept kept.kept).0),
+            taken_again free c.args.room tops path o.key o.key o.value o.place o.place (trees_of o.children) (trees_of o.children) c.loop-node.done c.in-Ok.kept i i
+            (taken.taken free path h clear ∙ ap Ok (kept_within MAX_LIST_NODES o.place c.in_ok-next.next c.in-Ok.kept kept.kept).0),
       );
       rises = omega (arith, told.rises, taken.rises);
       bound = λ b. taken.bound (told.bound b);

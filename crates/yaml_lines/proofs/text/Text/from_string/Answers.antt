@@ -12,5 +12,5 @@ invariant_of-result c =
       omega arith,
       subst (λ bytes. IsCharBoundary bytes 0) (sym same) (IsCharBoundary-start held (IsUtf8-string_bytes c.args.held)),
       subst (λ bytes. IsCharBoundary bytes c.in-Ok.end) (sym same)
-      (subst (λ at. IsCharBoundary held at) (sym long) (IsCharBoundary-end held)),
+          (subst (λ at. IsCharBoundary held at) (sym long) (IsCharBoundary-end held)),
     )
