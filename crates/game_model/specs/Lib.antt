@@ -1,4 +1,7 @@
 pub mod Flags
+pub mod Grid
+pub mod Terrain
+pub mod Setup
 pub mod World
 pub mod Order
 pub mod Tick

@@ -1,0 +1,59 @@
+ghost use Rattle.std.specs.Prelude.{◌≡◌, ◌*◌, ◌<◌, false, replicate, Some, slice_get, IfOk};
+ghost use Rattle.game_model.specs.Grid.{place_of, with_cell};
+
+use base::NoMemory;
+use std::alloc::Global;
+use std::marker::Model;
+use world_units::CPos;
+
+/// The cells of a map on which a building stands: one flag for each cell, row by row.
+#[derive(Drop)]
+pub struct Blocks {
+    width: u8,
+    height: u8,
+    cells: Vec<bool>,
+}
+
+impl Model for Blocks {
+    ghost use Rattle.std.specs.Prelude.{◌≡◌, ◌*◌, Bool, length};
+    ghost use Rattle.game_model.specs.Grid.{Grid};
+
+    ghost Value = { Grid Bool };
+
+    ghost view = { λ b. record { width = b.width; height = b.height; cells = b.cells.items } };
+
+    ghost invariant = { λ b. length b.cells.items ≡ b.width * b.height };
+}
+
+impl Blocks {
+    /// A building nowhere. Out of memory is its only error.
+    pub fn create(alloc: Global, w: u8, h: u8) -> Result<Blocks, NoMemory>
+        ensures { IfOk result (λ blocks. blocks ≡ (record { width = w; height = h; cells = replicate (w * h) false })) }
+    {
+        let mut cells = Vec::new(alloc);
+        cells.resize(usize::from(w) * usize::from(h), false)?;
+        Ok(Blocks {
+            width: w,
+            height: h,
+            cells,
+        })
+    }
+
+    /// Whether a building stands on a cell within the size.
+    pub fn has(&self, p: CPos) -> bool
+        requires column { p.x < self.now.width }
+        requires row { p.y < self.now.height }
+        ensures { slice_get self.now.cells (place_of self.now.width p) ≡ Some result }
+    {
+        self.cells[usize::from(p.y) * usize::from(self.width) + usize::from(p.x)]
+    }
+
+    /// Says whether a building stands on a cell within the size. The other cells stay.
+    pub fn set(&mut self, p: CPos, on: bool)
+        requires column { p.x < self.old.width }
+        requires row { p.y < self.old.height }
+        ensures { self.new ≡ with_cell self.old p on }
+    {
+        self.cells[usize::from(p.y) * usize::from(self.width) + usize::from(p.x)] = on;
+    }
+}

@@ -1,0 +1,62 @@
+ghost use Rattle.std.specs.Prelude.{◌≡◌, ◌*◌, ◌<◌, ◌≤◌, replicate, Some, slice_get, IfOk};
+ghost use Rattle.game_model.specs.Grid.{place_of, with_cell};
+ghost use Rattle.game_model.specs.declared.terrain.Terrain.TheVariants.{Clear};
+
+use crate::terrain::Terrain;
+use base::NoMemory;
+use std::alloc::Global;
+use std::marker::Model;
+use world_units::CPos;
+
+/// The terrain of each cell of a map, row by row.
+#[derive(Drop)]
+pub struct Tiles {
+    width: u8,
+    height: u8,
+    cells: Vec<Terrain>,
+}
+
+impl Model for Tiles {
+    ghost use Rattle.std.specs.Prelude.{◌≡◌, ◌*◌, length};
+    ghost use Rattle.game_model.specs.Grid.{Grid};
+    ghost use Rattle.game_model.specs.declared.terrain.Terrain.{Terrain};
+
+    ghost Value = { Grid Terrain };
+
+    ghost view = { λ t. record { width = t.width; height = t.height; cells = t.cells.items } };
+
+    ghost invariant = { λ t. length t.cells.items ≡ t.width * t.height };
+}
+
+impl Tiles {
+    /// Clear ground everywhere. Out of memory is its only error.
+    pub fn create(alloc: Global, w: u8, h: u8) -> Result<Tiles, NoMemory>
+        ensures { IfOk result (λ tiles. tiles ≡ (record { width = w; height = h; cells = replicate (w * h) Clear })) }
+    {
+        let mut cells = Vec::new(alloc);
+        cells.resize(usize::from(w) * usize::from(h), Terrain::Clear)?;
+        Ok(Tiles {
+            width: w,
+            height: h,
+            cells,
+        })
+    }
+
+    /// The terrain of a cell within the size.
+    pub fn get(&self, p: CPos) -> Terrain
+        requires column { p.x < self.now.width }
+        requires row { p.y < self.now.height }
+        ensures { slice_get self.now.cells (place_of self.now.width p) ≡ Some result }
+    {
+        self.cells[usize::from(p.y) * usize::from(self.width) + usize::from(p.x)]
+    }
+
+    /// Sets the terrain of a cell within the size. The other cells stay.
+    pub fn set(&mut self, p: CPos, terrain: Terrain)
+        requires column { p.x < self.old.width }
+        requires row { p.y < self.old.height }
+        ensures { self.new ≡ with_cell self.old p terrain }
+    {
+        self.cells[usize::from(p.y) * usize::from(self.width) + usize::from(p.x)] = terrain;
+    }
+}
