@@ -1,5 +1,5 @@
 -- What a match stands on: its rules and its map.
-use Rattle.std.specs.Prelude.{ℕ, List, [], ◌∷◌}
+use Rattle.std.specs.Prelude.{List, [], ◌∷◌}
 use Rattle.rule_traits.specs.declared.kind.Kind.{Kind}
 use Rattle.game_model.specs.declared.map.Map.{Map}
 use Rattle.game_model.specs.declared.limits.TheConstants.{BARE_CASH}

@@ -1,4 +1,4 @@
-ghost use Rattle.std.specs.Prelude.{◌≡◌, ◌*◌, ◌<◌, false, replicate, Some, slice_get, IfOk};
+ghost use Rattle.std.specs.Prelude.{◌≡◌, ◌*◌, ◌<◌, ◌↔◌, IsTrue, false, replicate, Some, slice_get, IfOk};
 ghost use Rattle.game_model.specs.Grid.{place_of, with_cell};
 
 use base::NoMemory;
@@ -55,5 +55,37 @@ impl Blocks {
         ensures { self.new ≡ with_cell self.old p on }
     {
         self.cells[usize::from(p.y) * usize::from(self.width) + usize::from(p.x)] = on;
+    }
+
+    /// The number of columns.
+    pub fn width(&self) -> u8
+        ensures { result ≡ self.now.width }
+    {
+        self.width
+    }
+
+    /// The number of rows.
+    pub fn height(&self) -> u8
+        ensures { result ≡ self.now.height }
+    {
+        self.height
+    }
+
+    /// Whether both are of one size and have the same flag in each cell.
+    pub fn is_same(&self, other: &Self) -> bool
+        ensures { IsTrue result ↔ (self.now ≡ other.now) }
+    {
+        self.width == other.width && self.height == other.height && self.cells == other.cells
+    }
+
+    /// Makes this the same as another of its size. It takes no memory.
+    pub fn copy_from(&mut self, other: &Self)
+        requires width { self.old.width ≡ other.now.width }
+        requires height { self.old.height ≡ other.now.height }
+        ensures { self.new ≡ other.now }
+    {
+        self.cells
+            .as_mut_slice()
+            .copy_from_slice(other.cells.as_slice());
     }
 }

@@ -11,6 +11,7 @@
 mod actor;
 mod blocks;
 mod builds;
+mod copies;
 mod ground;
 mod law;
 mod limits;
@@ -23,6 +24,7 @@ mod world;
 pub use actor::{Actor, ActorList, Body, Leg};
 pub use blocks::Blocks;
 pub use builds::{Build, Builds};
+pub use copies::copy_actors;
 pub use ground::Ground;
 pub use law::{orders_keep, ticks_keep};
 pub use limits::{

@@ -4,7 +4,7 @@ ghost use Rattle.game_model.specs.Terrain.{cost_on};
 use rule_traits::Costs;
 
 /// What the ground of a cell is.
-#[derive(Clone, Copy, Debug)]
+#[derive(Clone, Copy, Debug, PartialEq, Eq)]
 pub enum Terrain {
     /// Clear ground.
     Clear,

@@ -1,11 +1,9 @@
-ghost use Rattle.std.specs.Prelude.{◌≡◌, IfOk};
+ghost use Rattle.std.specs.Prelude.{◌≡◌};
 ghost use Rattle.game_model.specs.World.{world_with};
 
-use crate::actor::{Actor, ActorList};
+use crate::actor::ActorList;
 use crate::ore::Ore;
-use base::NoMemory;
 use game_orders::PerClient;
-use std::alloc::Global;
 
 /// The cash of each client of a match, by rising number.
 pub type Purse = PerClient<u32>;
