@@ -1,5 +1,5 @@
 -- A value for each cell of a map, row by row.
-use Rattle.std.specs.Prelude.{◌≡◌, ℕ, ◌+◌, ◌*◌, ◌<◌, ◌&&◌, nat_lt, Bool, List, Option, slice_get}
+use Rattle.std.specs.Prelude.{◌≡◌, ℕ, ◌+◌, ◌*◌, ◌<◌, ◌&&◌, nat_lt, Bool, List, Option, length, slice_get}
 use Rattle.std.specs.Prelude.{slice_set}
 use Rattle.world_units.specs.declared.cell.CPos.{CPos}
 
@@ -33,3 +33,7 @@ with_cell grid p value = record grid { cells = slice_set grid.cells (place_of gr
 pub record HasSize {T : Type 0} (across down : ℕ) (grid : Grid T) : Type 0 where
   pub width : grid.width ≡ across
   pub height : grid.height ≡ down
+
+-- The grid has a value for each cell of its size.
+pub record IsWhole {T : Type 0} (grid : Grid T) : Type 0 where
+  pub cells : length grid.cells ≡ grid.width * grid.height

@@ -20,6 +20,7 @@ use Rattle.game_model.specs.Order.{after_order}
 use Rattle.game_model.specs.Order.{after_orders}
 use Rattle.game_model.specs.Tick.{gone_after, with_departures, after_entry, after_entries}
 use Rattle.game_model.specs.Tick.{with_orders, after_turn, after_turns, tick_of}
+use Rattle.game_model.specs.ValidWorld.{IsPace}
 use Rattle.game_model.specs.Keeps.{KeepsCash, OrdersKeep, TickKeeps}
 
 pub same_cash : (cash : List ℕ) → KeepsCash cash cash
@@ -195,11 +196,6 @@ tick_keeps setup w frame =
       flags = ap length same.gone ∙ length-gone_after w.gone frame;
       gone = subst P (sym same.gone) (gone_after_tells w.gone frame);
     }
-
--- A pace within its limits.
-pub record IsPace (pace : ℕ) : Type 0 where
-  pub least : 1 ≤ pace
-  pub most : pace ≤ MAX_PACE
 
 -- Orders change no count of ticks, and keep the pace within its limits.
 pub record KeepsCounts (old new : World) : Type 0 where

@@ -3,6 +3,8 @@ pub mod Grid
 pub mod Terrain
 pub mod Setup
 pub mod World
+pub mod ValidMap
+pub mod ValidWorld
 pub mod Order
 pub mod Tick
 pub mod Keeps

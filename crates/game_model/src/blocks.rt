@@ -1,5 +1,5 @@
 ghost use Rattle.std.specs.Prelude.{◌≡◌, ◌*◌, ◌<◌, ◌↔◌, IsTrue, false, replicate, Some, slice_get, IfOk};
-ghost use Rattle.game_model.specs.Grid.{place_of, with_cell};
+ghost use Rattle.game_model.specs.Grid.{IsWhole, place_of, with_cell};
 
 use base::NoMemory;
 use std::alloc::Global;
@@ -87,5 +87,12 @@ impl Blocks {
         self.cells
             .as_mut_slice()
             .copy_from_slice(other.cells.as_slice());
+    }
+
+    /// There is a flag for each cell of the size.
+    pub fn whole(&self)
+        ensures { IsWhole self.now }
+    {
+        let _width = self.width;
     }
 }

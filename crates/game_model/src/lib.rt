@@ -28,7 +28,7 @@ pub use copies::copy_actors;
 pub use ground::Ground;
 pub use law::{orders_keep, ticks_keep};
 pub use limits::{
-    BARE_CASH, MAX_ACTORS, MAX_BUILDS, MAX_CASH, MAX_ORE, MAX_PACE, MAX_SIDE, MAX_WAITS, NEUTRAL,
+    BARE_CASH, MAX_ACTORS, MAX_BUILDS, MAX_CASH, MAX_DRAWS, MAX_ORE, MAX_PACE, MAX_SIDE, MAX_WAITS, NEUTRAL,
     OPENING_PACE,
 };
 pub use map::{Map, Start, StartList};

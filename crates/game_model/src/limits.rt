@@ -19,6 +19,9 @@ pub const MAX_ORE: u8 = 90;
 /// The greatest number of actors of a world, and of starts of a map.
 pub const MAX_ACTORS: usize = 2_048;
 
+/// The most random words that a frame draws: one for each actor at each turn.
+pub const MAX_DRAWS: u64 = 16_384;
+
 /// The greatest number of builds of an actor.
 pub const MAX_BUILDS: usize = 8;
 

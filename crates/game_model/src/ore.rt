@@ -1,5 +1,5 @@
-ghost use Rattle.std.specs.Prelude.{◌≡◌, ◌*◌, ◌<◌, replicate, Some, slice_get, IfOk};
-ghost use Rattle.game_model.specs.Grid.{place_of, with_cell};
+ghost use Rattle.std.specs.Prelude.{◌≡◌, ◌*◌, ◌<◌, length, replicate, Some, slice_get, IfOk};
+ghost use Rattle.game_model.specs.Grid.{IsWhole, place_of, with_cell};
 
 use base::NoMemory;
 use std::alloc::Global;
@@ -57,6 +57,15 @@ impl Ore {
         self.cells[usize::from(p.y) * usize::from(self.width) + usize::from(p.x)] = ore;
     }
 
+    /// The ore of each cell, row by row.
+    pub fn as_slice(&self) -> &[u8]
+        ensures value { result.now ≡ self.now.cells }
+        ensures whole { length self.now.cells ≡ self.now.width * self.now.height }
+    {
+        let _width = self.width;
+        self.cells.as_slice()
+    }
+
     /// The number of columns.
     pub fn width(&self) -> u8
         ensures { result ≡ self.now.width }
@@ -80,5 +89,12 @@ impl Ore {
             height: self.height,
             cells: self.cells.clone()?,
         })
+    }
+
+    /// There is a number for each cell of the size.
+    pub fn whole(&self)
+        ensures { IsWhole self.now }
+    {
+        let _width = self.width;
     }
 }

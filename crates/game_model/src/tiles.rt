@@ -1,5 +1,5 @@
 ghost use Rattle.std.specs.Prelude.{◌≡◌, ◌*◌, ◌<◌, ◌≤◌, ◌↔◌, IsTrue, replicate, Some, slice_get, IfOk};
-ghost use Rattle.game_model.specs.Grid.{place_of, with_cell};
+ghost use Rattle.game_model.specs.Grid.{IsWhole, place_of, with_cell};
 ghost use Rattle.game_model.specs.declared.terrain.Terrain.TheVariants.{Clear};
 
 use crate::terrain::Terrain;
@@ -90,5 +90,12 @@ impl Tiles {
         self.cells
             .as_mut_slice()
             .copy_from_slice(other.cells.as_slice());
+    }
+
+    /// There is a terrain for each cell of the size.
+    pub fn whole(&self)
+        ensures { IsWhole self.now }
+    {
+        let _width = self.width;
     }
 }
