@@ -82,13 +82,13 @@ then_keep a b c first second =
       gone = second.gone ∙ first.gone;
     }
 
-both : (p q : Bool) → (p && q) ≡ true → (p ≡ true) × (q ≡ true)
+pub both : (p q : Bool) → (p && q) ≡ true → (p ≡ true) × (q ≡ true)
 both true true holds = (refl, refl)
 both true false holds = absurd cc
 both false q holds = absurd cc
 
 -- A donation that fits only moves cash.
-donation_keeps :
+pub donation_keeps :
     (w : World) (client to amount : ℕ) → donation_fits w client to amount ≡ true →
     OrdersKeep w (after_donation w client to amount)
 donation_keeps w client to amount fits =
@@ -146,7 +146,7 @@ entries_keep setup c w (entry ∷ entries) =
 with_orders_keep : (setup : Setup) (w : World) (frame : List Entry) → OrdersKeep w (with_orders setup w frame)
 with_orders_keep setup w frame = entries_keep setup 0 w frame
 
-length-gone_after :
+pub length-gone_after :
     (flags : List Bool) (frame : List Entry) → length (gone_after flags frame) ≡ length flags
 length-gone_after [] frame = refl
 length-gone_after (before ∷ flags) [] = refl

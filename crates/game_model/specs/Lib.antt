@@ -9,3 +9,6 @@ pub mod Order
 pub mod Tick
 pub mod Keeps
 pub mod KeepsLemmas
+pub mod OwnLemmas
+pub mod StartLemmas
+pub mod ValidTickLemmas

@@ -26,10 +26,12 @@ pub use blocks::Blocks;
 pub use builds::{Build, Builds};
 pub use copies::copy_actors;
 pub use ground::Ground;
-pub use law::{orders_keep, ticks_keep};
+pub use law::{
+    orders_change_only_own, orders_keep, orders_valid, starts_valid, ticks_keep, ticks_valid,
+};
 pub use limits::{
-    BARE_CASH, MAX_ACTORS, MAX_BUILDS, MAX_CASH, MAX_DRAWS, MAX_ORE, MAX_PACE, MAX_SIDE, MAX_WAITS, NEUTRAL,
-    OPENING_PACE,
+    BARE_CASH, MAX_ACTORS, MAX_BUILDS, MAX_CASH, MAX_DRAWS, MAX_ORE, MAX_PACE, MAX_SIDE, MAX_WAITS,
+    NEUTRAL, OPENING_PACE,
 };
 pub use map::{Map, Start, StartList};
 pub use ore::Ore;
