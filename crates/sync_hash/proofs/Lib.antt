@@ -1,2 +1,3 @@
 pub mod HeaderLemmas
-pub mod FitsFieldsLemmas
+pub mod NumbersLemmas
+pub mod SumLemmas

@@ -1,3 +1,5 @@
 pub mod Fnv
+pub mod HashedBytes
 pub mod WorldHash
+pub mod Kept
 pub mod FitsFields
