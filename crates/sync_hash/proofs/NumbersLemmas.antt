@@ -87,31 +87,31 @@ pub present :
 present least [] id number d rise at = absurd cc
 present least (a ∷ l) id number d rise at =
     by_order (nat_lt a.id id) refl (λ there. present (a.id + 1) l id number d rise.1 there) where
-  by_order :
-      (lower : Bool) → nat_lt a.id id ≡ lower →
-      (is_at l (place_for l id) id ≡ true → Present l id number (place_for l id) d) →
-      Present (a ∷ l) id number (place_for (a ∷ l) id) d
-  by_order true is again =
-      let step = place_after a l id is in
-      let rest = again (subst (λ p. is_at (a ∷ l) p id ≡ true) step at) in
-      let other : (a.id == id) ≡ false = grind (arith, nat_tests) in
-      let P : ℕ → Type 0 = λ p. Present (a ∷ l) id number p d in
-      subst P (sym step) (record {
-        set_there = rw is (ap (λ r. a ∷ r) rest.set_there);
-        removed = rw other (ap (λ r. a ∷ r) rest.removed);
-        before = rw other rest.before;
-        there = omega (arith, rest.there);
-      })
-  by_order false is again =
-      let same : (a.id == id) ≡ true = rw is at at in
-      let equal : a.id ≡ id = grind (arith, nat_tests) in
-      let rest = below_all (a.id + 1) id l rise.1 (omega arith) in
-      record {
-        set_there = rw (is, same) refl;
-        removed = rw (is, same) rest.without;
-        before = rw (is, same) refl;
-        there = rw is (omega arith);
-      }
+      by_order :
+          (lower : Bool) → nat_lt a.id id ≡ lower →
+          (is_at l (place_for l id) id ≡ true → Present l id number (place_for l id) d) →
+          Present (a ∷ l) id number (place_for (a ∷ l) id) d
+      by_order true is again =
+          let step = place_after a l id is in
+          let rest = again (subst (λ p. is_at (a ∷ l) p id ≡ true) step at) in
+          let other : (a.id == id) ≡ false = grind (arith, nat_tests) in
+          let P : ℕ → Type 0 = λ p. Present (a ∷ l) id number p d in
+          subst P (sym step) (record {
+            set_there = rw is (ap (λ r. a ∷ r) rest.set_there);
+            removed = rw other (ap (λ r. a ∷ r) rest.removed);
+            before = rw other rest.before;
+            there = omega (arith, rest.there);
+          })
+      by_order false is again =
+          let same : (a.id == id) ≡ true = rw is at at in
+          let equal : a.id ≡ id = grind (arith, nat_tests) in
+          let rest = below_all (a.id + 1) id l rise.1 (omega arith) in
+          record {
+            set_there = rw (is, same) refl;
+            removed = rw (is, same) rest.without;
+            before = rw (is, same) refl;
+            there = rw is (omega arith);
+          }
 
 pub absent :
     (least : ℕ) (l : List ActorNumber) (id number : ℕ) → RiseFrom least l → is_at l (place_for l id) id ≡ false →
@@ -119,31 +119,31 @@ pub absent :
 absent least [] id number rise at = record { inserted = refl; without = refl; before = refl; none = refl }
 absent least (a ∷ l) id number rise at =
     by_order (nat_lt a.id id) refl (λ none. absent (a.id + 1) l id number rise.1 none) where
-  by_order :
-      (lower : Bool) → nat_lt a.id id ≡ lower →
-      (is_at l (place_for l id) id ≡ false → Absent l id number (place_for l id)) →
-      Absent (a ∷ l) id number (place_for (a ∷ l) id)
-  by_order true is again =
-      let step = place_after a l id is in
-      let rest = again (subst (λ p. is_at (a ∷ l) p id ≡ false) step at) in
-      let other : (a.id == id) ≡ false = grind (arith, nat_tests) in
-      let P : ℕ → Type 0 = λ p. Absent (a ∷ l) id number p in
-      subst P (sym step) (record {
-        inserted = rw is (ap (λ r. a ∷ r) rest.inserted);
-        without = rw other (ap (λ r. a ∷ r) rest.without);
-        before = rw other rest.before;
-        none = rw other rest.none;
-      })
-  by_order false is again =
-      let other : (a.id == id) ≡ false = rw is at at in
-      let above : id < a.id = grind (arith, nat_tests) in
-      let rest = below_all (a.id + 1) id l rise.1 (omega arith) in
-      record {
-        inserted = rw (is, other) refl;
-        without = rw other (ap (λ r. a ∷ r) rest.without);
-        before = rw other rest.number;
-        none = rw other rest.none;
-      }
+      by_order :
+          (lower : Bool) → nat_lt a.id id ≡ lower →
+          (is_at l (place_for l id) id ≡ false → Absent l id number (place_for l id)) →
+          Absent (a ∷ l) id number (place_for (a ∷ l) id)
+      by_order true is again =
+          let step = place_after a l id is in
+          let rest = again (subst (λ p. is_at (a ∷ l) p id ≡ false) step at) in
+          let other : (a.id == id) ≡ false = grind (arith, nat_tests) in
+          let P : ℕ → Type 0 = λ p. Absent (a ∷ l) id number p in
+          subst P (sym step) (record {
+            inserted = rw is (ap (λ r. a ∷ r) rest.inserted);
+            without = rw other (ap (λ r. a ∷ r) rest.without);
+            before = rw other rest.before;
+            none = rw other rest.none;
+          })
+      by_order false is again =
+          let other : (a.id == id) ≡ false = rw is at at in
+          let above : id < a.id = grind (arith, nat_tests) in
+          let rest = below_all (a.id + 1) id l rise.1 (omega arith) in
+          record {
+            inserted = rw (is, other) refl;
+            without = rw other (ap (λ r. a ∷ r) rest.without);
+            before = rw other rest.number;
+            none = rw other rest.none;
+          }
 
 -- One more number makes at most one more.
 pub length_with :
@@ -165,19 +165,19 @@ pub rise_with :
 rise_with least [] id number rise from = (from, tt)
 rise_with least (a ∷ l) id number rise from =
     by_order (nat_lt a.id id) refl (a.id == id) refl (λ above. rise_with (a.id + 1) l id number rise.1 above) where
-  by_order :
-      (lower : Bool) → nat_lt a.id id ≡ lower → (same : Bool) → (a.id == id) ≡ same →
-      (a.id + 1 ≤ id → RiseFrom (a.id + 1) (with_number l id number)) →
-      RiseFrom least (with_number (a ∷ l) id number)
-  by_order true is same equal again =
-      let below : a.id < id = grind (arith, nat_tests) in
-      rw is (rise.0, again (omega arith))
-  by_order false is true equal again =
-      let eq : a.id ≡ id = grind (arith, nat_tests) in
-      rw (is, equal) (from, rise_lower (id + 1) (a.id + 1) l (omega arith) rise.1)
-  by_order false is false equal again =
-      let above : id < a.id = grind (arith, nat_tests) in
-      rw (is, equal) (from, (omega arith, rise.1))
+      by_order :
+          (lower : Bool) → nat_lt a.id id ≡ lower → (same : Bool) → (a.id == id) ≡ same →
+          (a.id + 1 ≤ id → RiseFrom (a.id + 1) (with_number l id number)) →
+          RiseFrom least (with_number (a ∷ l) id number)
+      by_order true is same equal again =
+          let below : a.id < id = grind (arith, nat_tests) in
+          rw is (rise.0, again (omega arith))
+      by_order false is true equal again =
+          let eq : a.id ≡ id = grind (arith, nat_tests) in
+          rw (is, equal) (from, rise_lower (id + 1) (a.id + 1) l (omega arith) rise.1)
+      by_order false is false equal again =
+          let above : id < a.id = grind (arith, nat_tests) in
+          rw (is, equal) (from, (omega arith, rise.1))
 
 pub rise_without :
     (least : ℕ) (l : List ActorNumber) (id : ℕ) → RiseFrom least l → RiseFrom least (without_number l id)
@@ -199,19 +199,19 @@ pub sum_with :
 sum_with least [] id number rise = omega arith
 sum_with least (a ∷ l) id number rise =
     by_order (nat_lt a.id id) refl (a.id == id) refl (sum_with (a.id + 1) l id number rise.1) where
-  by_order :
-      (lower : Bool) → nat_lt a.id id ≡ lower → (same : Bool) → (a.id == id) ≡ same →
-      numbers_sum (with_number l id number) + number_in l id ≡ numbers_sum l + number →
-      numbers_sum (with_number (a ∷ l) id number) + number_in (a ∷ l) id ≡ numbers_sum (a ∷ l) + number
-  by_order true is true equal rest = absurd (grind (arith, nat_tests))
-  by_order true is false equal rest =
-      rw (is, equal) (omega (arith, rest, sum_cons a l, sum_cons a (with_number l id number)))
-  by_order false is true equal rest =
-      rw (is, equal) (omega (arith, sum_cons a l, sum_cons (record { id = id; number = number }) l))
-  by_order false is false equal rest =
-      let above : id < a.id = grind (arith, nat_tests) in
-      let none = below_all (a.id + 1) id l rise.1 (omega arith) in
-      rw (is, equal) (omega (arith, none.number, sum_cons (record { id = id; number = number }) (a ∷ l)))
+      by_order :
+          (lower : Bool) → nat_lt a.id id ≡ lower → (same : Bool) → (a.id == id) ≡ same →
+          numbers_sum (with_number l id number) + number_in l id ≡ numbers_sum l + number →
+          numbers_sum (with_number (a ∷ l) id number) + number_in (a ∷ l) id ≡ numbers_sum (a ∷ l) + number
+      by_order true is true equal rest = absurd (grind (arith, nat_tests))
+      by_order true is false equal rest =
+          rw (is, equal) (omega (arith, rest, sum_cons a l, sum_cons a (with_number l id number)))
+      by_order false is true equal rest =
+          rw (is, equal) (omega (arith, sum_cons a l, sum_cons (record { id = id; number = number }) l))
+      by_order false is false equal rest =
+          let above : id < a.id = grind (arith, nat_tests) in
+          let none = below_all (a.id + 1) id l rise.1 (omega arith) in
+          rw (is, equal) (omega (arith, none.number, sum_cons (record { id = id; number = number }) (a ∷ l)))
 
 pub sum_without :
     (least : ℕ) (l : List ActorNumber) (id : ℕ) → RiseFrom least l →

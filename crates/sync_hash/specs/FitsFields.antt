@@ -1,6 +1,6 @@
 -- Worlds whose numbers fit the fields that they have among the hashed bytes.
 use Rattle.std.specs.Prelude.{◌≡◌, ◌<◌, ◌^◌, ◌*◌, List, length, Option, Some, None}
-use Rattle.std.specs.List.{AllByRecursion}
+use Rattle.std.specs.List.{All, AllByRecursion}
 use Rattle.activities.specs.declared.activity.Activity.{Activity}
 use Rattle.activities.specs.declared.activity.Activity.TheVariants.{Move, Attack, Harvest, Deliver}
 use Rattle.game_model.specs.declared.actor.Actor.{Actor}
@@ -34,8 +34,8 @@ pub record ActorFits (a : Actor) : Type 0 where
   pub health : a.body.health < 2 ^ 32
   pub load : a.body.load < 2 ^ 16
   pub reload : a.body.reload < 2 ^ 16
-  pub acts : AllByRecursion ActivityFits a.body.acts
-  pub builds : AllByRecursion BuildFits a.body.builds
+  pub acts : All ActivityFits a.body.acts
+  pub builds : All BuildFits a.body.builds
 
 -- Each number fits its field, and each client has a departure flag. The number of actors fits its
 -- own.
@@ -47,5 +47,5 @@ pub record FitsFields (w : World) : Type 0 where
   pub cash : AllByRecursion (λ amount. amount < 2 ^ 32) w.cash
   pub flags : length w.gone ≡ length w.cash
   pub actor_count : length w.actors < 2 ^ 32
-  pub actors : AllByRecursion ActorFits w.actors
+  pub actors : All ActorFits w.actors
   pub cells : length w.ore.cells ≡ w.ore.width * w.ore.height

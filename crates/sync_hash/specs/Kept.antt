@@ -1,6 +1,6 @@
 -- What a hasher keeps: a number for each actor and for each cell.
 use Rattle.std.specs.Prelude.{◌≡◌, ℕ, ◌+◌, ◌-◌, ◌*◌, ◌/◌, ◌%◌, ◌^◌, ◌==◌, ◌≤◌, nat_lt, min, Bool, true}
-use Rattle.std.specs.Prelude.{false, not, if◌then◌else◌, List, [], ◌∷◌, fold, length, Option, Some, None, slice_get}
+use Rattle.std.specs.Prelude.{false, not, if◌then◌else◌, List, [], ◌∷◌, fold, length, map, Option, Some, None, slice_get}
 use Rattle.std.specs.List.{filter, sum_by, list_any, prefix_len}
 use Rattle.world_units.specs.declared.cell.CPos.{CPos}
 use Rattle.game_model.specs.declared.actor.Actor.{Actor}
@@ -58,6 +58,10 @@ with_numbers numbers actors =
 abbrev pub numbers_of : List Actor → List ActorNumber
 numbers_of actors = with_numbers [] actors
 
+-- The number of an actor under its id.
+abbrev pub numbered : Actor → ActorNumber
+numbered a = record { id = a.id; number = actor_number a }
+
 -- The count after so many more were hashed: it stays at the greatest 64-bit number.
 abbrev pub mixed_more : ℕ → ℕ → ℕ
 mixed_more mixed more = min (mixed + more) (2 ^ 64 - 1)
@@ -112,6 +116,13 @@ is_of id (Some a) = a.id == id
 -- The number at a place is that of the id.
 abbrev pub is_at : List ActorNumber → (place id : ℕ) → Bool
 is_at actors place id = is_of id (slice_get actors place)
+
+-- The numbers are those of the actors and the ore of a world, whose ids rise.
+pub record IsKeptOf (kept : Kept) (w : World) : Type 0 where
+  pub width : kept.width ≡ w.ore.width
+  pub height : kept.height ≡ w.ore.height
+  pub actors : kept.actors ≡ map numbered w.actors
+  pub cells : kept.cells ≡ cell_numbers w.ore.width 0 w.ore.cells
 
 -- What holds of the parts of a hasher: a number for each cell, and the sum of all numbers.
 pub record IsKept (width height : ℕ) (actors : List ActorNumber) (cells : List ℕ) (sum : ℕ) : Type 0 where

@@ -34,11 +34,11 @@ impl Model for Hasher {
     ghost Value = { Kept };
 
     ghost view = { λ h. record {
-        width = h.width;
-        height = h.height;
-        actors = h.actors;
-        cells = h.cells.items;
-        mixed = h.mixed;
+      width = h.width;
+      height = h.height;
+      actors = h.actors;
+      cells = h.cells.items;
+      mixed = h.mixed;
     } };
 
     ghost invariant = { λ h. IsKept h.width h.height h.actors h.cells.items h.sum };
@@ -71,8 +71,8 @@ impl Hasher {
     pub fn actor_set(&mut self, a: &Actor)
         requires { (has_id self.old.actors a.now.id ≡ true) ⊎ (length self.old.actors < MAX_ACTORS) }
         ensures { self.new ≡ (record self.old {
-            actors = with_number self.old.actors a.now.id (actor_number a.now);
-            mixed = mixed_more self.old.mixed 1;
+          actors = with_number self.old.actors a.now.id (actor_number a.now);
+          mixed = mixed_more self.old.mixed 1;
         }) }
     {
         let number = actor_number(a);
@@ -94,8 +94,8 @@ impl Hasher {
         requires column { cell.x < self.old.width }
         requires row { cell.y < self.old.height }
         ensures { self.new ≡ (record self.old {
-            cells = slice_set self.old.cells (place_of self.old.width cell) (cell_number cell ore);
-            mixed = mixed_more self.old.mixed (ore_cells (ore ∷ []));
+          cells = slice_set self.old.cells (place_of self.old.width cell) (cell_number cell ore);
+          mixed = mixed_more self.old.mixed (ore_cells (ore ∷ []));
         }) }
     {
         let number = cell_number(cell, ore);

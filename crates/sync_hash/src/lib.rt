@@ -33,12 +33,18 @@
 mod actor_bytes;
 mod actor_number;
 mod actor_numbers;
+mod fits;
 mod fnv_state;
 mod hasher;
 mod header;
+mod law;
 mod ore_bytes;
+#[cfg(test)]
+mod tests;
 mod whole_world;
 
+pub use fits::world_fits;
 pub use fnv_state::fnv;
 pub use hasher::Hasher;
+pub use law::{bytes_tell_the_world, kept_numbers_give_the_hash};
 pub use whole_world::world_hash;
