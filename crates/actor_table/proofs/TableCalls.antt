@@ -212,3 +212,34 @@ table_facts cells actors indexed rises limit =
       apart = differ_pairs actors indexed.cells_differ;
       count = limit;
     }
+
+-- the actor whose cell was read
+pub actor_of_cell : (o : Option Actor) (q : CPos) → option_map (λ (a : Actor). a.cell) o ≡ Some q → (a : Actor) × (o ≡ Some a) × (a.cell ≡ q)
+actor_of_cell None q read = absurd (cc)
+actor_of_cell (Some a) q read = (a, refl, cc)
+
+pub cell_on : (cells : Grid (Option ℕ)) (actors : List Actor) (id : ℕ) (q : CPos) → IsIndexed cells actors → option_map (λ (a : Actor). a.cell) (actor_of actors id) ≡ Some q → IsOn cells.width cells.height q
+cell_on cells actors id q indexed read =
+    let found = actor_of_cell (actor_of actors id) q read in
+    subst (IsOn cells.width cells.height) found.2 (found_on cells actors id found.0 indexed found.1)
+
+pub indexed_from : (cells : Grid (Option ℕ)) (actors : List Actor) (id : ℕ) (q to : CPos) → IsIndexed cells actors → ActorsRise 0 actors → option_map (λ (a : Actor). a.cell) (actor_of actors id) ≡ Some q → IsOn cells.width cells.height to → is_occupied actors to ≡ false → IsIndexed (with_value (with_value cells q None) to (Some id)) (with_cell actors id to)
+indexed_from cells actors id q to indexed rises read on free =
+    let found = actor_of_cell (actor_of actors id) q read in
+    subst (λ c. IsIndexed (with_value (with_value cells c None) to (Some id)) (with_cell actors id to)) found.2 (indexed_moved cells actors id found.0 to indexed rises found.1 on free)
+
+-- what the cells tell is whether a cell is occupied
+pub told_occupied : (cells : Grid (Option ℕ)) (actors : List Actor) (p : CPos) (told : Option ℕ) → IsIndexed cells actors → IsOn cells.width cells.height p → slice_get cells.cells (place_of cells.width p) ≡ Some told → told ≡ holder_of actors p
+told_occupied cells actors p told indexed on read =
+    let both : Some told ≡ Some (holder_of actors p) = sym read ∙ indexed.held p on in cc
+
+pub off_map_free : (cells : Grid (Option ℕ)) (actors : List Actor) (p : CPos) → IsIndexed cells actors → (IsOn cells.width cells.height p → ⊥) → is_occupied actors p ≡ false
+off_map_free cells actors p indexed off =
+    free_off cells.width cells.height actors p (recursion_from_All (λ (a : Actor). IsOn cells.width cells.height a.cell) actors indexed.on_map) off
+
+-- a burial after one more step
+pub bury_more : (first now new : Table) (left k : ℕ) → left ≡ suc k → left ≤ length first.actors → now ≡ record first { actors = take left first.actors ++ filter is_alive (drop left first.actors) } → new ≡ record now { actors = without_dead_at now.actors k } → new ≡ record first { actors = take k first.actors ++ filter is_alive (drop k first.actors) }
+bury_more first now new left k is within done stepped =
+    let before : now ≡ record first { actors = take (suc k) first.actors ++ filter is_alive (drop (suc k) first.actors) } =
+    subst (λ n. now ≡ record first { actors = take n first.actors ++ filter is_alive (drop n first.actors) }) is done in
+    stepped ∙ ap (λ (t : Table). record t { actors = without_dead_at t.actors k }) before ∙ ap (λ xs. record first { actors = xs }) (bury_step first.actors k (omega arith))
