@@ -6,6 +6,7 @@ use Rattle.world_units.specs.declared.cell.CPos.{CPos}
 use Rattle.game_model.specs.declared.actor.Actor.{Actor}
 use Rattle.game_model.specs.declared.world.Head.{Head}
 use Rattle.game_model.specs.declared.world.World.{World}
+use Rattle.game_model.specs.Grid.{Grid}
 use Rattle.sync_hash.specs.declared.actor_number.ActorNumber.{ActorNumber}
 use Rattle.sync_hash.specs.Fnv.{fnv_of}
 use Rattle.sync_hash.specs.HashedBytes.{actor_bytes, cell_at, header_bytes, ore_bytes}
@@ -117,12 +118,12 @@ is_of id (Some a) = a.id == id
 abbrev pub is_at : List ActorNumber → (place id : ℕ) → Bool
 is_at actors place id = is_of id (slice_get actors place)
 
--- The numbers are those of the actors and the ore of a world, whose ids rise.
-pub record IsKeptOf (kept : Kept) (w : World) : Type 0 where
-  pub width : kept.width ≡ w.ore.width
-  pub height : kept.height ≡ w.ore.height
-  pub actors : kept.actors ≡ map numbered w.actors
-  pub cells : kept.cells ≡ cell_numbers w.ore.width 0 w.ore.cells
+-- The numbers are those of these actors, whose ids rise, and of this ore.
+pub record IsKeptOf (kept : Kept) (actors : List Actor) (ore : Grid ℕ) : Type 0 where
+  pub width : kept.width ≡ ore.width
+  pub height : kept.height ≡ ore.height
+  pub numbers : kept.actors ≡ map numbered actors
+  pub cells : kept.cells ≡ cell_numbers ore.width 0 ore.cells
 
 -- What holds of the parts of a hasher: a number for each cell, and the sum of all numbers.
 pub record IsKept (width height : ℕ) (actors : List ActorNumber) (cells : List ℕ) (sum : ℕ) : Type 0 where

@@ -50,12 +50,12 @@ rising_numbers (a ∷ actors) rise =
 -- What a hasher begins with is that of the world.
 pub kept_begins :
     (width height : ℕ) (w : World) → w.ore.width ≡ width → w.ore.height ≡ height →
-    AllPairs (λ (a b : Actor). a.id < b.id) w.actors → IsKeptOf (kept_of width height w) w
+    AllPairs (λ (a b : Actor). a.id < b.id) w.actors → IsKeptOf (kept_of width height w) w.actors w.ore
 kept_begins width height w across down rise =
     record {
       width = sym across;
       height = sym down;
-      actors = rising_numbers w.actors rise;
+      numbers = rising_numbers w.actors rise;
       cells = ap (λ n. cell_numbers n 0 w.ore.cells) (sym across);
     }
 
@@ -109,13 +109,13 @@ world_sum w =
     omega (arith, sum_by-cons fnv_of header (actors ++ cells), sum_by-append fnv_of actors cells, actors_sum w.actors, ore_sum w.ore.width 0 w.ore.cells)
 
 -- A hasher that keeps the numbers of a world gives its hash.
-pub kept_hash : (kept : Kept) (w : World) → IsKeptOf kept w → hash_with kept (head_of w) ≡ hash_of w
+pub kept_hash : (kept : Kept) (w : World) → IsKeptOf kept w.actors w.ore → hash_with kept (head_of w) ≡ hash_of w
 unfolding hash_with hash_of
 kept_hash kept w is =
     let header : fnv_of (header_bytes (head_of w) (length kept.actors)) ≡ fnv_of (header_bytes (head_of w) (length w.actors)) =
-    ap (λ n. fnv_of (header_bytes (head_of w) n)) (ap length is.actors ∙ length-map w.actors numbered) in
+    ap (λ n. fnv_of (header_bytes (head_of w) n)) (ap length is.numbers ∙ length-map w.actors numbered) in
     let actors : numbers_sum kept.actors ≡ sum_by actor_number w.actors =
-    ap numbers_sum is.actors ∙ sum_numbered w.actors in
+    ap numbers_sum is.numbers ∙ sum_numbered w.actors in
     let cells = ap (sum_by (λ n. n)) is.cells in
     ap (λ n. n % 2 ^ 64) (ap₂ (λ a b. a + b) header (ap₂ (λ a b. a + b) actors cells) ∙ sym (world_sum w))
 

@@ -18,5 +18,5 @@ pub fn bytes_tell_the_world()
 /// world, asked with its head.
 #[tactic(auto, using(crate::specs::KeptLemmas::kept_hash))]
 pub fn kept_numbers_give_the_hash()
-    ensures { (kept : Kept) (w : World) → IsKeptOf kept w → hash_with kept (head_of w) ≡ hash_of w }
+    ensures { (kept : Kept) (w : World) → IsKeptOf kept w.actors w.ore → hash_with kept (head_of w) ≡ hash_of w }
 {}

@@ -1,2 +1,4 @@
 pub mod Departures
+pub mod Burial
 pub mod Game
+pub mod Live
