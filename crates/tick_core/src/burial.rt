@@ -39,7 +39,6 @@ fn has_dead(table: &ActorTable) -> bool
 }
 
 /// Takes the numbers of the actors without health out.
-#[tactic(auto, using(crate::proofs::BurialLemmas::kept_next))]
 fn forget_the_dead(table: &ActorTable, hasher: &mut Hasher)
     requires { hasher.old.actors ≡ map numbered table.now.actors }
     ensures { hasher.new ≡ (record hasher.old { actors = map numbered (filter is_alive table.now.actors) }) }

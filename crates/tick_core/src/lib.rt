@@ -17,6 +17,8 @@ mod live;
 mod maker;
 mod opening;
 mod orders;
+#[cfg(test)]
+mod tests;
 mod tick;
 
 pub use game::Game;
