@@ -13,12 +13,14 @@ use Rattle.game_orders.specs.declared.entry.Entry.TheVariants.{Play, Leave}
 use Rattle.game_model.specs.declared.world.World.{World}
 use Rattle.game_model.specs.declared.limits.TheConstants.{MAX_CASH, MAX_PACE}
 use Rattle.game_model.specs.Flags.{is_gone}
+use Rattle.game_model.specs.Setup.{Setup}
 use Rattle.game_model.specs.World.{HasClients}
 use Rattle.game_model.specs.Order.{can_receive, donation_fits, pace_fits, after_donation}
 use Rattle.game_model.specs.Order.{after_order}
 use Rattle.game_model.specs.Order.{after_orders}
 use Rattle.game_model.specs.Tick.{gone_after, with_departures, after_entry, after_entries}
 use Rattle.game_model.specs.Tick.{with_orders, after_turn, after_turns, tick_of}
+use Rattle.game_model.specs.ValidWorld.{IsPace}
 use Rattle.game_model.specs.Keeps.{KeepsCash, OrdersKeep, TickKeeps}
 
 pub same_cash : (cash : List ℕ) → KeepsCash cash cash
@@ -80,13 +82,13 @@ then_keep a b c first second =
       gone = second.gone ∙ first.gone;
     }
 
-both : (p q : Bool) → (p && q) ≡ true → (p ≡ true) × (q ≡ true)
+pub both : (p q : Bool) → (p && q) ≡ true → (p ≡ true) × (q ≡ true)
 both true true holds = (refl, refl)
 both true false holds = absurd cc
 both false q holds = absurd cc
 
 -- A donation that fits only moves cash.
-donation_keeps :
+pub donation_keeps :
     (w : World) (client to amount : ℕ) → donation_fits w client to amount ≡ true →
     OrdersKeep w (after_donation w client to amount)
 donation_keeps w client to amount fits =
@@ -109,42 +111,42 @@ either_keeps true w v keeps = keeps refl
 either_keeps false w v keeps = same_world w
 
 pub order_keeps :
-    (w : World) (client : ℕ) (order : Order) → OrdersKeep w (after_order w client order)
-order_keeps w client (Move actor cell queued) = same_world w
-order_keeps w client (Attack actor target queued) = same_world w
-order_keeps w client (Harvest actor cell queued) = same_world w
-order_keeps w client (Stop actor) = same_world w
-order_keeps w client (Produce actor kind) = same_world w
-order_keeps w client (Cancel actor) = same_world w
-order_keeps w client (Donate to amount) =
+    (setup : Setup) (w : World) (client : ℕ) (order : Order) → OrdersKeep w (after_order setup w client order)
+order_keeps setup w client (Move actor cell queued) = same_world w
+order_keeps setup w client (Attack actor target queued) = same_world w
+order_keeps setup w client (Harvest actor cell queued) = same_world w
+order_keeps setup w client (Stop actor) = same_world w
+order_keeps setup w client (Produce actor kind) = same_world w
+order_keeps setup w client (Cancel actor) = same_world w
+order_keeps setup w client (Donate to amount) =
     either_keeps (donation_fits w client to amount) w (after_donation w client to amount)
     (donation_keeps w client to amount)
-order_keeps w client (Pace ticks) =
+order_keeps setup w client (Pace ticks) =
     either_keeps (pace_fits client ticks) w (record w { pace = ticks })
     (λ fits. record { seed = refl; cash = same_cash w.cash; gone = refl })
 
 pub orders_keep :
-    (w : World) (client : ℕ) (orders : List Order) → OrdersKeep w (after_orders w client orders)
-orders_keep w client [] = same_world w
-orders_keep w client (order ∷ orders) =
-    then_keep w (after_order w client order) (after_orders (after_order w client order) client orders) (order_keeps w client order)
-    (orders_keep (after_order w client order) client orders)
+    (setup : Setup) (w : World) (client : ℕ) (orders : List Order) → OrdersKeep w (after_orders setup w client orders)
+orders_keep setup w client [] = same_world w
+orders_keep setup w client (order ∷ orders) =
+    then_keep w (after_order setup w client order) (after_orders setup (after_order setup w client order) client orders) (order_keeps setup w client order)
+    (orders_keep setup (after_order setup w client order) client orders)
 
 pub entry_keeps :
-    (w : World) (client : ℕ) (entry : Entry) → OrdersKeep w (after_entry w client entry)
-entry_keeps w client (Play orders) = orders_keep w client orders
-entry_keeps w client Leave = same_world w
+    (setup : Setup) (w : World) (client : ℕ) (entry : Entry) → OrdersKeep w (after_entry setup w client entry)
+entry_keeps setup w client (Play orders) = orders_keep setup w client orders
+entry_keeps setup w client Leave = same_world w
 
-entries_keep : (c : ℕ) (w : World) (entries : List Entry) → OrdersKeep w (after_entries c w entries)
-entries_keep c w [] = same_world w
-entries_keep c w (entry ∷ entries) =
-    then_keep w (after_entry w c entry) (after_entries (c + 1) (after_entry w c entry) entries) (entry_keeps w c entry)
-    (entries_keep (c + 1) (after_entry w c entry) entries)
+entries_keep : (setup : Setup) (c : ℕ) (w : World) (entries : List Entry) → OrdersKeep w (after_entries setup c w entries)
+entries_keep setup c w [] = same_world w
+entries_keep setup c w (entry ∷ entries) =
+    then_keep w (after_entry setup w c entry) (after_entries setup (c + 1) (after_entry setup w c entry) entries) (entry_keeps setup w c entry)
+    (entries_keep setup (c + 1) (after_entry setup w c entry) entries)
 
-with_orders_keep : (w : World) (frame : List Entry) → OrdersKeep w (with_orders w frame)
-with_orders_keep w frame = entries_keep 0 w frame
+with_orders_keep : (setup : Setup) (w : World) (frame : List Entry) → OrdersKeep w (with_orders setup w frame)
+with_orders_keep setup w frame = entries_keep setup 0 w frame
 
-length-gone_after :
+pub length-gone_after :
     (flags : List Bool) (frame : List Entry) → length (gone_after flags frame) ≡ length flags
 length-gone_after [] frame = refl
 length-gone_after (before ∷ flags) [] = refl
@@ -172,19 +174,19 @@ gone_after_tells (before ∷ flags) (Leave ∷ entries) zero = ((λ is. inr refl
 gone_after_tells (before ∷ flags) (entry ∷ entries) (suc c) = gone_after_tells flags entries c
 
 -- Turns change nothing of this.
-pub turns_keep : (turns : ℕ) (w : World) → OrdersKeep w (after_turns turns w)
-turns_keep zero w = same_world w
-turns_keep (suc more) w =
-    then_keep w (after_turn w) (after_turns more (after_turn w))
-    (record { seed = refl; cash = same_cash w.cash; gone = refl }) (turns_keep more (after_turn w))
+pub turns_keep : (setup : Setup) (turns : ℕ) (w : World) → OrdersKeep w (after_turns setup turns w)
+turns_keep setup zero w = same_world w
+turns_keep setup (suc more) w =
+    then_keep w (after_turn setup w) (after_turns setup more (after_turn setup w))
+    (record { seed = refl; cash = same_cash w.cash; gone = refl }) (turns_keep setup more (after_turn setup w))
 
 -- What a tick keeps.
-pub tick_keeps : (w : World) (frame : List Entry) → TickKeeps w frame (tick_of w frame)
-tick_keeps w frame =
+pub tick_keeps : (setup : Setup) (w : World) (frame : List Entry) → TickKeeps w frame (tick_of setup w frame)
+tick_keeps setup w frame =
     let departed : World = with_departures w frame in
-    let ordered : World = with_orders departed frame in
-    let same : OrdersKeep departed (tick_of w frame) =
-    then_keep departed ordered (tick_of w frame) (with_orders_keep departed frame) (turns_keep w.pace ordered) in
+    let ordered : World = with_orders setup departed frame in
+    let same : OrdersKeep departed (tick_of setup w frame) =
+    then_keep departed ordered (tick_of setup w frame) (with_orders_keep setup departed frame) (turns_keep setup w.pace ordered) in
     let P : List Bool → Type 0 =
     λ flags. (c : ℕ) →
     (is_gone flags c ≡ true) ↔ ((is_gone w.gone c ≡ true) ⊎ (slice_get frame c ≡ Some Leave)) in
@@ -194,11 +196,6 @@ tick_keeps w frame =
       flags = ap length same.gone ∙ length-gone_after w.gone frame;
       gone = subst P (sym same.gone) (gone_after_tells w.gone frame);
     }
-
--- A pace within its limits.
-pub record IsPace (pace : ℕ) : Type 0 where
-  pub least : 1 ≤ pace
-  pub most : pace ≤ MAX_PACE
 
 -- Orders change no count of ticks, and keep the pace within its limits.
 pub record KeepsCounts (old new : World) : Type 0 where
@@ -230,56 +227,56 @@ set_pace_counts w client ticks fits =
     }
 
 order_counts :
-    (w : World) (client : ℕ) (order : Order) → KeepsCounts w (after_order w client order)
-order_counts w client (Move actor cell queued) = same_counts w
-order_counts w client (Attack actor target queued) = same_counts w
-order_counts w client (Harvest actor cell queued) = same_counts w
-order_counts w client (Stop actor) = same_counts w
-order_counts w client (Produce actor kind) = same_counts w
-order_counts w client (Cancel actor) = same_counts w
-order_counts w client (Donate to amount) =
+    (setup : Setup) (w : World) (client : ℕ) (order : Order) → KeepsCounts w (after_order setup w client order)
+order_counts setup w client (Move actor cell queued) = same_counts w
+order_counts setup w client (Attack actor target queued) = same_counts w
+order_counts setup w client (Harvest actor cell queued) = same_counts w
+order_counts setup w client (Stop actor) = same_counts w
+order_counts setup w client (Produce actor kind) = same_counts w
+order_counts setup w client (Cancel actor) = same_counts w
+order_counts setup w client (Donate to amount) =
     either_counts (donation_fits w client to amount) w (after_donation w client to amount)
     (λ fits. record { tick = refl; pace = λ within. within })
-order_counts w client (Pace ticks) =
+order_counts setup w client (Pace ticks) =
     either_counts (pace_fits client ticks) w (record w { pace = ticks })
     (set_pace_counts w client ticks)
 
 orders_count :
-    (w : World) (client : ℕ) (orders : List Order) → KeepsCounts w (after_orders w client orders)
-orders_count w client [] = same_counts w
-orders_count w client (order ∷ orders) =
-    counts_then w (after_order w client order) (after_orders (after_order w client order) client orders)
-    (order_counts w client order) (orders_count (after_order w client order) client orders)
+    (setup : Setup) (w : World) (client : ℕ) (orders : List Order) → KeepsCounts w (after_orders setup w client orders)
+orders_count setup w client [] = same_counts w
+orders_count setup w client (order ∷ orders) =
+    counts_then w (after_order setup w client order) (after_orders setup (after_order setup w client order) client orders)
+    (order_counts setup w client order) (orders_count setup (after_order setup w client order) client orders)
 
 pub entry_counts :
-    (w : World) (client : ℕ) (entry : Entry) → KeepsCounts w (after_entry w client entry)
-entry_counts w client (Play orders) = orders_count w client orders
-entry_counts w client Leave = same_counts w
+    (setup : Setup) (w : World) (client : ℕ) (entry : Entry) → KeepsCounts w (after_entry setup w client entry)
+entry_counts setup w client (Play orders) = orders_count setup w client orders
+entry_counts setup w client Leave = same_counts w
 
 pub entries_count :
-    (c : ℕ) (w : World) (entries : List Entry) → KeepsCounts w (after_entries c w entries)
-entries_count c w [] = same_counts w
-entries_count c w (entry ∷ entries) =
-    counts_then w (after_entry w c entry) (after_entries (c + 1) (after_entry w c entry) entries)
-    (entry_counts w c entry) (entries_count (c + 1) (after_entry w c entry) entries)
+    (setup : Setup) (c : ℕ) (w : World) (entries : List Entry) → KeepsCounts w (after_entries setup c w entries)
+entries_count setup c w [] = same_counts w
+entries_count setup c w (entry ∷ entries) =
+    counts_then w (after_entry setup w c entry) (after_entries setup (c + 1) (after_entry setup w c entry) entries)
+    (entry_counts setup w c entry) (entries_count setup (c + 1) (after_entry setup w c entry) entries)
 
 -- Turns are counted, and keep the pace.
 pub turns_counted :
-    (turns : ℕ) (w : World) →
-    ((after_turns turns w).tick ≡ w.tick + turns) × ((after_turns turns w).pace ≡ w.pace)
-turns_counted zero w = (omega arith, refl)
-turns_counted (suc more) w =
-    let (tick, pace) = turns_counted more (after_turn w) in
+    (setup : Setup) (turns : ℕ) (w : World) →
+    ((after_turns setup turns w).tick ≡ w.tick + turns) × ((after_turns setup turns w).pace ≡ w.pace)
+turns_counted setup zero w = (omega arith, refl)
+turns_counted setup (suc more) w =
+    let (tick, pace) = turns_counted setup more (after_turn setup w) in
     (omega arith, pace)
 
 -- A tick counts as many turns as the pace was before it, and keeps the pace within its limits.
 pub tick_counted :
-    (w : World) (frame : List Entry) →
-    ((tick_of w frame).tick ≡ w.tick + w.pace) × (IsPace w.pace → IsPace (tick_of w frame).pace)
-tick_counted w frame =
+    (setup : Setup) (w : World) (frame : List Entry) →
+    ((tick_of setup w frame).tick ≡ w.tick + w.pace) × (IsPace w.pace → IsPace (tick_of setup w frame).pace)
+tick_counted setup w frame =
     let departed : World = with_departures w frame in
-    let same : KeepsCounts departed (with_orders departed frame) = entries_count 0 departed frame in
-    let (tick, pace) = turns_counted w.pace (with_orders departed frame) in
+    let same : KeepsCounts departed (with_orders setup departed frame) = entries_count setup 0 departed frame in
+    let (tick, pace) = turns_counted setup w.pace (with_orders setup departed frame) in
     (omega (arith, tick, same.tick), λ within. subst IsPace (sym pace) (same.pace within))
 
 -- Orders keep the clients of a world, and so does a tick.

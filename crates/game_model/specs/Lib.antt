@@ -1,6 +1,14 @@
 pub mod Flags
+pub mod Grid
+pub mod Terrain
+pub mod Setup
 pub mod World
+pub mod ValidMap
+pub mod ValidWorld
 pub mod Order
 pub mod Tick
 pub mod Keeps
 pub mod KeepsLemmas
+pub mod OwnLemmas
+pub mod StartLemmas
+pub mod ValidTickLemmas

@@ -7,6 +7,7 @@ use Rattle.game_orders.specs.declared.order.Order.TheVariants.{Produce, Cancel, 
 use Rattle.game_model.specs.declared.world.World.{World}
 use Rattle.game_model.specs.declared.limits.TheConstants.{MAX_CASH, MAX_PACE}
 use Rattle.game_model.specs.Flags.{is_gone}
+use Rattle.game_model.specs.Setup.{Setup}
 
 -- The receiver is another client of the match that has not departed.
 abbrev pub can_receive : World → ℕ → ℕ → Bool
@@ -32,17 +33,18 @@ abbrev pub pace_fits : ℕ → ℕ → Bool
 pace_fits client ticks = (client == 0) && nat_le 1 ticks && nat_le ticks MAX_PACE
 
 -- The world after one order of a client. Orders on actors have no effect yet.
-abbrev pub after_order : World → ℕ → Order → World
-after_order w client (Move actor cell queued) = w
-after_order w client (Attack actor target queued) = w
-after_order w client (Harvest actor cell queued) = w
-after_order w client (Stop actor) = w
-after_order w client (Produce actor kind) = w
-after_order w client (Cancel actor) = w
-after_order w client (Donate to amount) =
+abbrev pub after_order : Setup → World → ℕ → Order → World
+after_order setup w client (Move actor cell queued) = w
+after_order setup w client (Attack actor target queued) = w
+after_order setup w client (Harvest actor cell queued) = w
+after_order setup w client (Stop actor) = w
+after_order setup w client (Produce actor kind) = w
+after_order setup w client (Cancel actor) = w
+after_order setup w client (Donate to amount) =
     if donation_fits w client to amount then after_donation w client to amount else w
-after_order w client (Pace ticks) = if pace_fits client ticks then record w { pace = ticks } else w
+after_order setup w client (Pace ticks) = if pace_fits client ticks then record w { pace = ticks } else w
 
 -- The world after the orders of a client, first to last.
-abbrev pub after_orders : World → ℕ → List Order → World
-after_orders w client orders = fold (λ world order. after_order world client order) w orders
+abbrev pub after_orders : Setup → World → ℕ → List Order → World
+after_orders setup w client orders =
+    fold (λ world order. after_order setup world client order) w orders

@@ -1,51 +1,40 @@
 //! The world of the game as plain data, and in `specs/` what a tick makes of it.
 //!
-//! [`World`] is a record of numbers and lists, with a cash and a departure flag for each client of
-//! the match. The code that ticks a world stands above; here are the definitions that it is proved
-//! against: the opening world and the clients that a world has (`specs/World.antt`), the effect of
-//! an order (`specs/Order.antt`) and the tick (`specs/Tick.antt`), with what orders and ticks leave
-//! as it was (`specs/Keeps.antt`). No call of this crate takes memory.
+//! [`World`] is a record of numbers and lists: cash and a departure flag for each client of the
+//! match, the actors by rising id, and the ore of each cell. A [`Map`] and rules are what a match
+//! stands on. The code that ticks a world stands above; here are the definitions that it is proved
+//! against: the opening world (`specs/World.antt`), worlds as a match has them
+//! (`specs/ValidWorld.antt`), the effect of an order (`specs/Order.antt`) and the tick
+//! (`specs/Tick.antt`), with what orders and ticks leave as it was (`specs/Keeps.antt`).
 #![tactic(auto)]
 
+mod actor;
+mod blocks;
+mod builds;
+mod copies;
+mod ground;
 mod law;
 mod limits;
+mod map;
+mod ore;
+mod terrain;
+mod tiles;
 mod world;
 
-pub use law::{orders_keep, ticks_keep};
-pub use limits::{BARE_CASH, MAX_CASH, MAX_PACE, OPENING_PACE};
-pub use world::{Gone, Purse, World};
-
-#[cfg(test)]
-mod tests {
-    use super::*;
-
-    #[test]
-    fn a_world_is_copied_with_its_lists(rt: HostRuntime) {
-        let mut world = World {
-            tick: 3,
-            seed: 5,
-            drawn: 7,
-            next_id: 11,
-            pace: 2,
-            cash: Purse::create(2, BARE_CASH),
-            gone: Gone::create(2, false),
-        };
-        world.cash.set(1, 400);
-        world.gone.set(0, true);
-        let copy = world.copy();
-        assert_eq!(rt;
-            (copy.tick, copy.seed, copy.drawn, copy.next_id, copy.pace),
-            (3, 5, 7, 11, 2)
-        );
-        assert_eq!(rt; copy.cash.as_slice(), [1000, 400].as_slice());
-        assert_eq!(rt; copy.gone.as_slice(), [true, false].as_slice());
-        assert_eq!(rt;
-            (world.cash.get(0), world.cash.get(1), world.cash.clients()),
-            (1000, 400, 2)
-        );
-        assert_eq!(rt;
-            (world.gone.get(0), world.gone.get(1), world.gone.clients()),
-            (true, false, 2)
-        );
-    }
-}
+pub use actor::{Actor, ActorList, Body, Leg};
+pub use blocks::Blocks;
+pub use builds::{Build, Builds};
+pub use copies::copy_actors;
+pub use ground::Ground;
+pub use law::{
+    orders_change_only_own, orders_keep, orders_valid, starts_valid, ticks_keep, ticks_valid,
+};
+pub use limits::{
+    BARE_CASH, MAX_ACTORS, MAX_BUILDS, MAX_CASH, MAX_DRAWS, MAX_ORE, MAX_PACE, MAX_SIDE, MAX_WAITS,
+    NEUTRAL, OPENING_PACE,
+};
+pub use map::{Map, Start, StartList};
+pub use ore::Ore;
+pub use terrain::{Terrain, cost_on};
+pub use tiles::Tiles;
+pub use world::{Gone, Head, Purse, World};

@@ -1,5 +1,8 @@
 ghost use Rattle.std.specs.Prelude.{◌≡◌};
+ghost use Rattle.game_model.specs.World.{world_with};
 
+use crate::actor::ActorList;
+use crate::ore::Ore;
 use game_orders::PerClient;
 
 /// The cash of each client of a match, by rising number.
@@ -8,8 +11,27 @@ pub type Purse = PerClient<u32>;
 /// Whether each client of a match has departed, by rising number.
 pub type Gone = PerClient<bool>;
 
-/// All that a match has brought about so far.
+/// All of a world but its actors and its ore.
 #[derive(Debug, Drop)]
+pub struct Head {
+    /// The number of turns so far, at most 4,294,967,295.
+    pub tick: u32,
+    /// The seed of the match's random words.
+    pub seed: u32,
+    /// The number of random words drawn so far.
+    pub drawn: u64,
+    /// The id that the next new actor gets. Ids begin at 1.
+    pub next_id: u32,
+    /// How many turns a frame runs, 1 to [`crate::MAX_PACE`].
+    pub pace: u8,
+    /// The cash of each client, by rising number, at most [`crate::MAX_CASH`].
+    pub cash: Purse,
+    /// Whether each client has departed, by rising number.
+    pub gone: Gone,
+}
+
+/// All that a match has brought about so far.
+#[derive(Drop)]
 pub struct World {
     /// The number of turns so far, at most 4,294,967,295.
     pub tick: u32,
@@ -21,16 +43,20 @@ pub struct World {
     pub next_id: u32,
     /// How many turns a frame runs, 1 to [`crate::MAX_PACE`].
     pub pace: u8,
-    /// The cash of each client, by rising number. No order lifts it above [`crate::MAX_CASH`].
+    /// The cash of each client, by rising number, at most [`crate::MAX_CASH`].
     pub cash: Purse,
     /// Whether each client has departed, by rising number.
     pub gone: Gone,
+    /// The actors by rising id, at most [`crate::MAX_ACTORS`].
+    pub actors: ActorList,
+    /// The ore of each cell.
+    pub ore: Ore,
 }
 
-impl World {
-    /// The same world once more.
-    pub fn copy(&self) -> World
-        ensures { result ≡ self.now }
+impl Head {
+    /// The world of this head with these actors and this ore. Nothing is copied but the clients.
+    pub fn world_with(&self, actors: ActorList, ore: Ore) -> World
+        ensures { result ≡ world_with self.now actors ore }
     {
         World {
             tick: self.tick,
@@ -40,6 +66,8 @@ impl World {
             pace: self.pace,
             cash: self.cash.copy(),
             gone: self.gone.copy(),
+            actors,
+            ore,
         }
     }
 }

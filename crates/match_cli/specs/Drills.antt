@@ -5,16 +5,17 @@ use Rattle.drill_words.specs.Drill.{DrillPlain, read_of}
 use Rattle.drill_words.specs.DrillFault.{cause_of, line_of}
 use Rattle.drill.specs.Drilled.{match_of}
 use Rattle.drill.specs.Report.{report}
+use Rattle.game_model.specs.Setup.{bare_setup}
 use Rattle.tick_core.specs.Game.{game_start, game_after, game_hash, game_summary}
 use Rattle.match_cli.specs.Reply.{Reply, done, refusal}
 use Rattle.match_cli.specs.Step.{Step, ended}
 
--- The report of a drill of worlds without actors. Each world begins as the opening game of the
+-- The report of a drill over no kinds and the bare map. Each world begins as the opening game of the
 -- drill's seed and clients.
 unfoldable pub drill_report : DrillPlain → List ℕ
 drill_report drill =
     report
-    (match_of game_after game_hash game_summary game_start drill.seed drill.clients drill.lag)
+    (match_of game_after game_hash game_summary (game_start bare_setup) drill.seed drill.clients drill.lag)
     drill.events
 
 abbrev pub drilled_step : List ℕ → Result DrillPlain DrillFault → Step (List ℕ)

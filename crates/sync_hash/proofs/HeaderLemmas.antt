@@ -5,7 +5,13 @@ use Rattle.std.specs.Prelude.{Some, slice_get}
 use Rattle.std.specs.List.{zip, flat_map}
 use Rattle.wire_bytes.specs.Field.{field_bytes}
 use Rattle.sync_hash.specs.Fnv.{fnv_step, fnv_from}
-use Rattle.sync_hash.specs.WorldHash.{client_bytes, flag_byte}
+use Rattle.sync_hash.specs.HashedBytes.{client_bytes, flag_byte}
+
+-- What two parts make of a number is what the second makes of what the first made.
+pub fnv_from-append :
+    (hash : ℕ) (front back : List ℕ) → fnv_from hash (front ++ back) ≡ fnv_from (fnv_from hash front) back
+fnv_from-append hash [] back = refl
+fnv_from-append hash (byte ∷ front) back = fnv_from-append (fnv_step hash byte) front back
 
 -- The bytes of client c and then those of the clients after it are the bytes of the clients from c
 -- on.
@@ -33,9 +39,3 @@ clients_end hash zero (x ∷ xs) [] all = refl
 clients_end hash (suc c) (x ∷ xs) [] all = refl
 clients_end hash zero (x ∷ xs) (g ∷ gs) all = absurd (omega arith)
 clients_end hash (suc c) (x ∷ xs) (g ∷ gs) all = clients_end hash c xs gs (omega arith)
-
--- What two parts make of a number is what the second makes of what the first made.
-pub fnv_from-append :
-    (hash : ℕ) (front back : List ℕ) → fnv_from hash (front ++ back) ≡ fnv_from (fnv_from hash front) back
-fnv_from-append hash [] back = refl
-fnv_from-append hash (byte ∷ front) back = fnv_from-append (fnv_step hash byte) front back

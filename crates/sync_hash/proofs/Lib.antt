@@ -1,2 +1,4 @@
 pub mod HeaderLemmas
+pub mod NumbersLemmas
+pub mod SumLemmas
 pub mod FitsFieldsLemmas

@@ -1,3 +1,6 @@
 pub mod Fnv
+pub mod HashedBytes
 pub mod WorldHash
+pub mod Kept
+pub mod KeptLemmas
 pub mod FitsFields

@@ -1,4 +1,5 @@
-ghost use Rattle.std.specs.Prelude.{◌≡◌};
+ghost use Rattle.std.specs.Prelude.{◌≡◌, [], ◌∷◌};
+ghost use Rattle.wire_bytes.specs.Field.{field_bytes};
 ghost use Rattle.sync_hash.specs.Fnv.{fnv_start, fnv_from, fnv_of};
 
 use std::marker::Model;
@@ -37,6 +38,37 @@ impl FnvState {
         for byte in bytes {
             self.hash = (self.hash ^ u64::from(*byte)).wrapping_mul(PRIME);
         }
+    }
+
+    /// Goes on with one byte.
+    pub(crate) fn write_u8(&mut self, number: u8)
+        ensures { self.new ≡ fnv_from self.old (number ∷ []) }
+    {
+        self.write(&[number]);
+    }
+
+    /// Goes on with the two bytes of a number, the lowest first.
+    #[tactic(auto, unfolding(wire_bytes::specs::Field::field_bytes))]
+    pub(crate) fn write_u16(&mut self, number: u16)
+        ensures { self.new ≡ fnv_from self.old (field_bytes 2 number) }
+    {
+        self.write(&number.to_le_bytes());
+    }
+
+    /// Goes on with the four bytes of a number, the lowest first.
+    #[tactic(auto, unfolding(wire_bytes::specs::Field::field_bytes))]
+    pub(crate) fn write_u32(&mut self, number: u32)
+        ensures { self.new ≡ fnv_from self.old (field_bytes 4 number) }
+    {
+        self.write(&number.to_le_bytes());
+    }
+
+    /// Goes on with the eight bytes of a number, the lowest first.
+    #[tactic(auto, unfolding(wire_bytes::specs::Field::field_bytes))]
+    pub(crate) fn write_u64(&mut self, number: u64)
+        ensures { self.new ≡ fnv_from self.old (field_bytes 8 number) }
+    {
+        self.write(&number.to_le_bytes());
     }
 
     /// The number of all bytes so far.

@@ -1,38 +1,35 @@
-ghost use Rattle.std.specs.Prelude.{◌≡◌};
-ghost use Rattle.game_model.specs.World.{HasClients};
-ghost use Rattle.sync_hash.specs.Fnv.{fnv_from};
-ghost use Rattle.sync_hash.specs.WorldHash.{clients_bytes, flag_byte, hash_of};
+ghost use Rattle.std.specs.Prelude.{◌≡◌, ◌<◌, length};
+ghost use Rattle.game_model.specs.World.{AreClients};
+ghost use Rattle.sync_hash.specs.Fnv.{fnv_from, fnv_of};
+ghost use Rattle.sync_hash.specs.HashedBytes.{clients_bytes, flag_byte, header_bytes};
 
 use crate::fnv_state::FnvState;
-use game_model::World;
+use game_model::Head;
 
-/// The hash of a world with 1 to `MAX_CLIENTS` clients and one cash and one departure flag for each
-/// of them: FNV-1a of its header bytes.
-pub fn world_hash(w: &World) -> u64
-    requires { HasClients w.now }
-    ensures { result ≡ hash_of w.now }
+/// The number of the bytes of a head and a number of actors.
+pub(crate) fn header_number(head: &Head, actors: u32) -> u64
+    requires { AreClients head.now.cash head.now.gone }
+    ensures { result ≡ fnv_of (header_bytes head.now actors) }
 {
-    let actors: u32 = 0;
-    let mut header = FnvState::new();
-    header.write(&w.tick.to_le_bytes());
-    header.write(&w.seed.to_le_bytes());
-    header.write(&w.drawn.to_le_bytes());
-    header.write(&w.next_id.to_le_bytes());
-    header.write(&[w.pace]);
-    header.write(&[w.cash.clients()]);
-    write_clients(&mut header, w);
-    header.write(&actors.to_le_bytes());
-    header.finish()
+    let mut state = FnvState::new();
+    state.write_u32(head.tick);
+    state.write_u32(head.seed);
+    state.write_u64(head.drawn);
+    state.write_u32(head.next_id);
+    state.write(&[head.pace, head.cash.clients()]);
+    write_clients(&mut state, head);
+    state.write_u32(actors);
+    state.finish()
 }
 
 /// Goes on with the cash and the departure flag of each client.
-fn write_clients(header: &mut FnvState, w: &World)
-    requires { HasClients w.now }
-    ensures { header.new ≡ fnv_from header.old (clients_bytes w.now) }
+fn write_clients(state: &mut FnvState, head: &Head)
+    requires { AreClients head.now.cash head.now.gone }
+    ensures { state.new ≡ fnv_from state.old (clients_bytes head.now) }
 {
-    for c in 0..w.cash.clients() {
-        header.write(&w.cash.get(c).to_le_bytes());
-        header.write(&[byte_of(w.gone.get(c))]);
+    for c in 0..head.cash.clients() {
+        state.write_u32(head.cash.get(c));
+        state.write_u8(byte_of(head.gone.get(c)));
     }
 }
 

@@ -1,31 +1,22 @@
-ghost use Rattle.std.specs.Prelude.{◌≡◌};
+ghost use Rattle.std.specs.Prelude.{◌≡◌, ◌≤◌, length};
+ghost use Rattle.game_model.specs.declared.limits.TheConstants.{MAX_ACTORS};
 ghost use Rattle.game_model.specs.declared.world.World.{World};
-ghost use Rattle.game_model.specs.World.{HasClients};
-ghost use Rattle.sync_hash.specs.WorldHash.{header_bytes};
+ghost use Rattle.game_model.specs.World.{HasClients, head_of};
 ghost use Rattle.sync_hash.specs.FitsFields.{FitsFields};
+ghost use Rattle.sync_hash.specs.HashedBytes.{parts_of};
+ghost use Rattle.sync_hash.specs.Kept.{Kept, IsKeptOf, hash_with};
+ghost use Rattle.sync_hash.specs.WorldHash.{hash_of};
 
-use game_model::World;
-
-/// A law of the hashed bytes: they determine the whole world. No world has a map yet, so all worlds
-/// are of one size; with maps the law speaks of worlds of one size. Two worlds that differ in any field
-/// have different bytes.
-#[tactic(auto, using(crate::proofs::FitsFieldsLemmas::same_header))]
+/// A law of the hashed bytes: for worlds of one size they determine the whole world. Two worlds that
+/// differ in any field have different byte lists.
+#[tactic(auto, using(crate::proofs::FitsFieldsLemmas::same_worlds))]
 pub fn bytes_tell_the_world()
-    ensures { (w v : World) → FitsFields w → FitsFields v → header_bytes w ≡ header_bytes v → w ≡ v }
+    ensures { (w v : World) → FitsFields w → FitsFields v → w.ore.width ≡ v.ore.width → w.ore.height ≡ v.ore.height → parts_of w ≡ parts_of v → w ≡ v }
 {}
 
-/// A world that code holds fits the fields of the hashed bytes, if it has one cash and one
-/// departure flag for each of 1 to `MAX_CLIENTS` clients.
-pub fn world_fits(w: &World)
-    requires { HasClients w.now }
-    ensures { FitsFields w.now }
-{
-    // each number is read so that the proof has the range of its type
-    let _tick = w.tick;
-    let _seed = w.seed;
-    let _drawn = w.drawn;
-    let _next_id = w.next_id;
-    for amount in w.cash.as_slice() {
-        let _amount = *amount;
-    }
-}
+/// A law of hashers: one that keeps the numbers of a world's actors and cells gives the hash of that
+/// world, asked with its head.
+#[tactic(auto, using(crate::specs::KeptLemmas::kept_hash))]
+pub fn kept_numbers_give_the_hash()
+    ensures { (kept : Kept) (w : World) → IsKeptOf kept w.actors w.ore → hash_with kept (head_of w) ≡ hash_of w }
+{}

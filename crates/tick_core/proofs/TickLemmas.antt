@@ -1,6 +1,6 @@
 -- How a tick goes on from one client of a frame to the next, and from one order to the next.
 use Rattle.std.proofs.Common.{◌≡◌, ℕ, zero, suc, ◌+◌, Bool, true, List, [], ◌∷◌, length, drop, take}
-use Rattle.std.proofs.Common.{refl, ap, sym, ◌<◌, ◌-◌, ◌∙◌, add-one, arith}
+use Rattle.std.proofs.Common.{refl, ap, ap₂, sym, ◌<◌, ◌≤◌, ◌-◌, ◌^◌, ◌∙◌, add-one, arith}
 use Rattle.std.proofs.Math.ListN.{set}
 use Rattle.std.proofs.lemmas.List.{length-set}
 use Rattle.std.specs.Prelude.{Some, slice_get}
@@ -8,28 +8,95 @@ use Rattle.game_orders.specs.declared.order.Order.{Order}
 use Rattle.game_orders.specs.declared.entry.Entry.{Entry}
 use Rattle.game_orders.specs.declared.entry.Entry.TheVariants.{Play, Leave}
 use Rattle.game_model.specs.declared.world.World.{World}
+use Rattle.game_model.specs.KeepsLemmas.{order_keeps, entry_keeps, entries_count, tick_keeps}
+use Rattle.game_model.specs.Setup.{Setup}
+use Rattle.game_model.specs.World.{clients_of}
 use Rattle.game_model.specs.Order.{after_order, after_orders}
 use Rattle.game_model.specs.Tick.{gone_by, gone_after, after_entry, after_entries, after_turn}
-use Rattle.game_model.specs.Tick.{after_turns}
+use Rattle.game_model.specs.Tick.{after_turns, with_orders}
 use Rattle.tick_core.specs.Departures.{departed_by}
+use Rattle.tick_core.specs.Live.{Standing}
 
 -- The element at n begins what is left from n on.
-drop_at : {A : Type 0} (xs : List A) (n : ℕ) (x : A) → slice_get xs n ≡ Some x → drop n xs ≡ x ∷ drop (suc n) xs
+pub drop_at : {A : Type 0} (xs : List A) (n : ℕ) (x : A) → slice_get xs n ≡ Some x → drop n xs ≡ x ∷ drop (suc n) xs
 drop_at [] n x at = absurd cc
 drop_at (y ∷ xs) zero x at = let same : y ≡ x = cc in ap (λ z. z ∷ xs) same
 drop_at (y ∷ xs) (suc n) x at = drop_at xs n x at
 
 -- The next order is applied, and the rest after it.
-pub order_next :
-    (w : World) (client i : ℕ) (orders : List Order) (order : Order) → slice_get orders i ≡ Some order →
-    after_orders (after_order w client order) client (drop (i + 1) orders) ≡ after_orders w client (drop i orders)
-order_next w client i orders order at = rw (add-one, drop_at orders i order at) refl
+order_next :
+    (setup : Setup) (w : World) (client i : ℕ) (orders : List Order) (order : Order) → slice_get orders i ≡ Some order →
+    after_orders setup (after_order setup w client order) client (drop (i + 1) orders) ≡ after_orders setup w client (drop i orders)
+order_next setup w client i orders order at = rw (add-one, drop_at orders i order at) refl
 
 -- The entry of the next client is applied, and those of the clients after it.
-pub entry_next :
-    (w : World) (c : ℕ) (frame : List Entry) (entry : Entry) → slice_get frame c ≡ Some entry →
-    after_entries (c + 1) (after_entry w c entry) (drop (c + 1) frame) ≡ after_entries c w (drop c frame)
-entry_next w c frame entry at = rw (drop_at frame c entry at) (ap (λ n. after_entries (c + 1) (after_entry w c entry) (drop n frame)) (add-one c))
+entry_next :
+    (setup : Setup) (w : World) (c : ℕ) (frame : List Entry) (entry : Entry) → slice_get frame c ≡ Some entry →
+    after_entries setup (c + 1) (after_entry setup w c entry) (drop (c + 1) frame) ≡ after_entries setup c w (drop c frame)
+entry_next setup w c frame entry at =
+    rw (drop_at frame c entry at) (ap (λ n. after_entries setup (c + 1) (after_entry setup w c entry) (drop n frame)) (add-one c))
+
+-- Past the end nothing is left.
+drop_past : {A : Type 0} (xs : List A) (n : ℕ) → length xs ≤ n → drop n xs ≡ []
+drop_past [] zero past = refl
+drop_past [] (suc n) past = refl
+drop_past (x ∷ xs) zero past = absurd (omega arith)
+drop_past (x ∷ xs) (suc n) past = drop_past xs n (omega arith)
+
+-- What stands on the same, with this world.
+abbrev the_standing : Setup → World → Standing
+the_standing setup world = record { setup = setup; world = world }
+
+-- The first orders of a client were applied.
+pub record OrderedSoFar (start now : Standing) (client : ℕ) (orders : List Order) (i : ℕ) : Type 0 where
+  pub setup : now.setup ≡ start.setup
+  pub rest : after_orders now.setup now.world client (drop i orders) ≡ after_orders now.setup start.world client orders
+  pub clients : clients_of now.world ≡ clients_of start.world
+
+pub ordered_next :
+    (start now new : Standing) (client i : ℕ) (orders : List Order) (order : Order) → slice_get orders i ≡ Some order →
+    new ≡ record now { world = after_order now.setup now.world client order } →
+    OrderedSoFar start now client orders i → OrderedSoFar start new client orders (i + 1)
+ordered_next start now new client i orders order at is far =
+    rw is (record {
+      setup = far.setup;
+      rest = order_next now.setup now.world client i orders order at ∙ far.rest;
+      clients = (order_keeps now.setup now.world client order).cash.clients ∙ far.clients;
+    })
+
+pub ordered_all :
+    (start now : Standing) (client i : ℕ) (orders : List Order) → length orders ≤ i →
+    OrderedSoFar start now client orders i →
+    now ≡ record start { world = after_orders start.setup start.world client orders }
+ordered_all start now client i orders past far =
+    ap₂ the_standing far.setup
+    (sym (ap (after_orders now.setup now.world client) (drop_past orders i past)) ∙ far.rest
+    ∙ ap (λ s. after_orders s start.world client orders) far.setup)
+
+-- The entries of the first clients were applied.
+pub record EnteredSoFar (start now : Standing) (frame : List Entry) (c : ℕ) : Type 0 where
+  pub setup : now.setup ≡ start.setup
+  pub rest : after_entries now.setup c now.world (drop c frame) ≡ after_entries now.setup 0 start.world frame
+  pub clients : clients_of now.world ≡ clients_of start.world
+
+pub entered_next :
+    (start now new : Standing) (c : ℕ) (frame : List Entry) (entry : Entry) → slice_get frame c ≡ Some entry →
+    new ≡ record now { world = after_entry now.setup now.world c entry } →
+    EnteredSoFar start now frame c → EnteredSoFar start new frame (c + 1)
+entered_next start now new c frame entry at is far =
+    rw is (record {
+      setup = far.setup;
+      rest = entry_next now.setup now.world c frame entry at ∙ far.rest;
+      clients = (entry_keeps now.setup now.world c entry).cash.clients ∙ far.clients;
+    })
+
+pub entered_all :
+    (start now : Standing) (c : ℕ) (frame : List Entry) → length frame ≤ c → EnteredSoFar start now frame c →
+    now ≡ record start { world = with_orders start.setup start.world frame }
+entered_all start now c frame past far =
+    ap₂ the_standing far.setup
+    (sym (ap (after_entries now.setup c now.world) (drop_past frame c past)) ∙ far.rest
+    ∙ ap (λ s. after_entries s 0 start.world frame) far.setup)
 
 -- A frame without entries changes no flag.
 pub gone_after-nil : (flags : List Bool) → gone_after flags [] ≡ flags
@@ -75,7 +142,35 @@ length-departed_by flags c (Play orders) = refl
 length-departed_by flags c Leave = length-set flags c true
 
 -- One turn more.
-pub turn_next : (turns k : ℕ) (w : World) → k < turns → after_turns (turns - (k + 1)) (after_turn w) ≡ after_turns (turns - k) w
-turn_next turns k w below = by_count (turns - k) (turns - (k + 1)) (omega arith) where
-  by_count : (more less : ℕ) → more ≡ suc less → after_turns less (after_turn w) ≡ after_turns more w
+turn_next :
+    (setup : Setup) (turns k : ℕ) (w : World) → k < turns →
+    after_turns setup (turns - (k + 1)) (after_turn setup w) ≡ after_turns setup (turns - k) w
+turn_next setup turns k w below = by_count (turns - k) (turns - (k + 1)) (omega arith) where
+  by_count : (more less : ℕ) → more ≡ suc less → after_turns setup less (after_turn setup w) ≡ after_turns setup more w
   by_count more less same = rw same refl
+
+-- The first turns were run.
+pub record TurnedSoFar (start now : Standing) (turns k : ℕ) : Type 0 where
+  pub setup : now.setup ≡ start.setup
+  pub rest : after_turns now.setup (turns - k) now.world ≡ after_turns now.setup turns start.world
+  pub room : now.world.tick + (turns - k) < 2 ^ 32
+
+pub turned_next :
+    (start now new : Standing) (turns k : ℕ) → k < turns →
+    new ≡ record now { world = after_turn now.setup now.world } → TurnedSoFar start now turns k →
+    TurnedSoFar start new turns (k + 1)
+turned_next start now new turns k below is far =
+    rw is (record {
+      setup = far.setup;
+      rest = turn_next now.setup turns k now.world below ∙ far.rest;
+      room = omega (arith, far.room);
+    })
+
+pub turned_all :
+    (start now : Standing) (turns k : ℕ) → turns ≤ k → TurnedSoFar start now turns k →
+    now ≡ record start { world = after_turns start.setup turns start.world }
+turned_all start now turns k past far =
+    let none : turns - k ≡ 0 = omega arith in
+    ap₂ the_standing far.setup
+    (sym (ap (λ n. after_turns now.setup n now.world) none) ∙ far.rest
+    ∙ ap (λ s. after_turns s turns start.world) far.setup)

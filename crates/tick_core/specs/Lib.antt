@@ -1,2 +1,5 @@
 pub mod Departures
+pub mod Burial
 pub mod Game
+pub mod Live
+pub mod Idle

@@ -1,23 +1,26 @@
-ghost use Rattle.std.specs.Prelude.{◌≡◌, ◌+◌, ◌≤◌, ◌<◌, ◌++◌, [], length, IfOk};
-ghost use Rattle.game_model.specs.World.{HasClients};
+ghost use Rattle.std.specs.Prelude.{◌≡◌, ◌+◌, ◌≤◌, ◌<◌, length, IfOk};
 ghost use Rattle.game_model.specs.Keeps.{TickKeeps};
+ghost use Rattle.game_model.specs.ValidMap.{IsSetup};
+ghost use Rattle.game_model.specs.World.{HasClients};
 ghost use Rattle.frame_core.specs.declared.sim.TheConstants.{MAX_STEPS};
 ghost use Rattle.tick_core.specs.Game.{game_start, game_after, game_clients, game_steps};
 
-use crate::tick::tick_world;
+use crate::live::LiveWorld;
+use crate::opening::opening_world;
 use base::NoMemory;
 use frame_core::{Sim, Summary};
-use game_model::{BARE_CASH, Gone, OPENING_PACE, Purse, World};
+use game_model::{Map, World};
 use game_orders::{Frame, MAX_CLIENTS};
+use rule_traits::Rules;
 use std::alloc::Global;
 use std::marker::Model;
-use sync_hash::world_hash;
+use std::rc::Rc;
 
-/// A world of a match with 1 to `MAX_CLIENTS` clients, and the number of frames that it has been
-/// stepped by.
-#[derive(Debug, Drop)]
+/// A world of a match with 1 to `MAX_CLIENTS` clients, the rules and the map that it stands on, and
+/// the number of frames that it has been stepped by.
+#[derive(Drop)]
 pub struct Game {
-    world: World,
+    live: LiveWorld,
     steps: u32,
 }
 
@@ -26,40 +29,47 @@ impl Model for Game {
 
     ghost Value = { GameState };
 
-    ghost view = { λ game. record { world = game.world; steps = game.steps } };
+    ghost view = { λ game. record { setup = game.live.setup; world = game.live.world; steps = game.steps } };
 
-    ghost invariant = { λ game. IsGame (record { world = game.world; steps = game.steps }) };
+    ghost invariant = { λ game. IsGame (record { setup = game.live.setup; world = game.live.world; steps =
+        game.steps }) };
 }
 
 impl Game {
-    /// The opening game of a match of any seed and 1 to `MAX_CLIENTS` clients: tick 0, nothing
-    /// drawn, nobody departed, one turn a frame, and each client begins with [`BARE_CASH`]. Out of
-    /// memory is its only error.
-    pub fn create(_alloc: Global, seed: u32, clients: u8) -> Result<Game, NoMemory>
+    /// The opening game of a match of any seed and 1 to `MAX_CLIENTS` clients, over valid rules and
+    /// a map that keeps what maps keep for these rules. All memory that its steps want is taken
+    /// here; out of memory is the only error.
+    pub fn create(
+        alloc: Global,
+        rules: Rc<Rules>,
+        map: Rc<Map>,
+        seed: u32,
+        clients: u8,
+    ) -> Result<Game, NoMemory>
+        requires setup { IsSetup (record { rules = rules.value; map = map.value }) }
         requires least { 1 ≤ clients }
         requires most { clients ≤ MAX_CLIENTS }
-        ensures { IfOk result (λ game. game ≡ game_start seed clients) }
+        ensures { IfOk result (λ game. game ≡ game_start (record { rules = rules.value; map = map.value }) seed clients) }
     {
+        let world = opening_world(alloc, &rules, &map, seed, clients)?;
         Ok(Game {
-            world: World {
-                tick: 0,
-                seed,
-                drawn: 0,
-                next_id: 1,
-                pace: OPENING_PACE,
-                cash: Purse::create(clients, BARE_CASH),
-                gone: Gone::create(clients, false),
-            },
+            live: LiveWorld::of(alloc, rules, map, world)?,
             steps: 0,
         })
     }
 
     /// The world as it is now. Out of memory is its only error.
-    pub fn snapshot(&self, _alloc: Global) -> Result<World, NoMemory>
+    pub fn snapshot(&self, alloc: Global) -> Result<World, NoMemory>
         ensures world { IfOk result (λ world. world ≡ self.now.world) }
-        ensures clients { IfOk result (λ world. HasClients world) }
+        ensures clients { HasClients self.now.world }
     {
-        Ok(self.world.copy())
+        let _steps = self.steps;
+        self.live.snapshot(alloc)
+    }
+
+    /// How many actors and cells with ore were hashed so far. It stays at the greatest `u64`.
+    pub fn mixed(&self) -> u64 {
+        self.live.hasher.mixed()
     }
 }
 
@@ -78,7 +88,7 @@ impl Sim for Game {
     ghost summary_of = { game_summary };
 
     fn clients(&self) -> u8 {
-        self.world.cash.clients()
+        self.live.head.cash.clients()
     }
 
     /// Ticks the world by a frame with one entry for each client, after fewer than `MAX_STEPS`
@@ -91,21 +101,18 @@ impl Sim for Game {
         ensures counted { game_steps self.new ≡ game_steps self.old + 1 }
         ensures keeps { TickKeeps self.old.world f.now self.new.world }
     {
-        tick_world(&mut self.world, f);
+        self.live.tick(f);
         self.steps += 1;
     }
 
     fn hash(&self) -> u64 {
-        world_hash(&self.world)
+        self.live.hash()
     }
 
     fn summary(&self) -> Summary {
         Summary {
-            actors: 0,
-            cash: self.world.cash.copy(),
+            actors: self.live.table.len() as u32,
+            cash: self.live.head.cash.copy(),
         }
     }
 }
-
-#[cfg(test)]
-mod tests;

@@ -1,15 +1,24 @@
 //! The game that a match runs: a world that is stepped by frames.
 //!
-//! [`Game`] is a `frame_core::Sim` over `game_model::World`, and [`GameMaker`] makes its opening.
-//! One step is one tick of the definitions in `game_model` (`specs/Tick.antt` there), the hash is
-//! that of `sync_hash`, and the summary and the snapshot are those of the world as it is. Contracts
-//! see a game as its world and its count of steps (`specs/Game.antt`).
+//! [`Game`] is a `frame_core::Sim` over `game_model::World`, and [`GameMaker`] makes its opening
+//! over the rules and the map of a match. One step is one tick of the definitions in `game_model`
+//! (`specs/Tick.antt` there). The world is held part by part: its head as plain numbers, its actors
+//! in a table, its ore, and the numbers of which its hash is made; a step tells the hasher of what
+//! it changes alone, so that the hash costs the header. Contracts see a game as its setup, its world
+//! and its count of steps (`specs/Game.antt`).
 #![tactic(auto)]
 
+mod bare;
+mod burial;
 mod departures;
+mod filling;
 mod game;
+mod live;
 mod maker;
+mod opening;
 mod orders;
+#[cfg(test)]
+mod tests;
 mod tick;
 
 pub use game::Game;

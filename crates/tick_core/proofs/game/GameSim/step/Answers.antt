@@ -1,24 +1,23 @@
-use Rattle.std.proofs.Common.{◌≡◌, ◌+◌, ◌*◌, ◌≤◌, ◌∙◌, sym, ap, subst, arith}
-use Rattle.game_model.specs.declared.limits.TheConstants.{MAX_PACE}
-use Rattle.game_model.specs.KeepsLemmas.{IsPace, tick_keeps_clients, tick_counted}
-use Rattle.tick_core.specs.Game.{game_clients}
+use Rattle.game_model.specs.KeepsLemmas.{tick_keeps}
+use Rattle.game_model.specs.ValidTickLemmas.{tick_valid}
 use Rattle.tick_core.proofs.game.GameSim.step.Goals as goal
 
--- A tick keeps the clients, keeps the pace within its limits, and counts as many turns as the pace
--- was before it.
+-- A tick makes of a valid world one that is valid after one frame more.
 pub invariant_of-self : goal.invariant_of-self
 invariant_of-self c =
-    let (turns, pace) = tick_counted c.self.inside.world c.args.f.now in
-    let count = ap (λ w. w.tick) c.tick_world.ensures.world ∙ turns in
-    let within =
-    subst IsPace (sym (ap (λ w. w.pace) c.tick_world.ensures.world))
-    (pace (record { least = c.self.invariant.least_pace; most = c.self.invariant.most_pace })) in
-    record {
-      clients = tick_keeps_clients c.self.inside.world c.args.f.now _ c.tick_world.ensures.keeps c.self.invariant.clients;
-      least_pace = within.least;
-      most_pace = within.most;
-      turns = omega (arith, count, c.self.invariant.turns, c.self.invariant.most_pace);
-    }
+    let live = c.self.inside.live in
+    rw c.tick.ensures
+    (record {
+      stands = c.self.invariant.stands;
+      valid = tick_valid live.setup c.self.inside.steps live.world c.args.f.now c.self.invariant.valid;
+    })
 
 pub returns-clause-clients : goal.returns-clause-clients
-returns-clause-clients c = c.tick_world.ensures.keeps.cash.clients ∙ ap game_clients c.self.view_is
+returns-clause-clients c =
+    let live = c.self.inside.live in
+    rw (c.tick.ensures, ← c.self.view_is) (tick_keeps live.setup live.world c.args.f.now).cash.clients
+
+pub returns-clause-keeps : goal.returns-clause-keeps
+returns-clause-keeps c =
+    let live = c.self.inside.live in
+    rw (c.tick.ensures, ← c.self.view_is) (tick_keeps live.setup live.world c.args.f.now)

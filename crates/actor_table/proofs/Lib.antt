@@ -1,0 +1,5 @@
+pub mod Rising
+pub mod Places
+pub mod RosterCalls
+pub mod Holders
+pub mod TableCalls

@@ -1,0 +1,23 @@
+use Rattle.std.proofs.Common.{sym, ◌∙◌}
+use Rattle.actor_table.proofs.TableCalls.{found_on, indexed_without, without_none}
+use Rattle.actor_table.proofs.table.ActorTable.remove.Goals as goal
+
+pub invariant_of-self : goal.invariant_of-self
+invariant_of-self c =
+    let held = c.self.inside in
+    rw (c.remove.ensures.rest, without_none held.roster c.args.id (sym c.remove.ensures.value ∙ c.in_err-a.was)) c.self.invariant
+
+pub set-requires-clause-column : goal.set-requires-clause-column
+set-requires-clause-column c =
+    let held = c.self.inside in
+    (found_on held.cells held.roster c.args.id c.in_ok-a.a c.self.invariant (sym c.remove.ensures.value ∙ c.in_ok-a.was)).column
+
+pub set-requires-clause-row : goal.set-requires-clause-row
+set-requires-clause-row c =
+    let held = c.self.inside in
+    (found_on held.cells held.roster c.args.id c.in_ok-a.a c.self.invariant (sym c.remove.ensures.value ∙ c.in_ok-a.was)).row
+
+pub invariant_of-self-2 : goal.invariant_of-self-2
+invariant_of-self-2 c =
+    let held = c.self.inside in
+    rw (c.set.ensures, c.remove.ensures.rest) (indexed_without held.cells held.roster c.args.id c.in_ok-a.a c.self.invariant c.remove.ensures.rises (sym c.remove.ensures.value ∙ c.in_ok-a.was))

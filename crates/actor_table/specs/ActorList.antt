@@ -1,0 +1,43 @@
+-- Lists of actors: who holds a cell, and what changes of one actor make of the list.
+use Rattle.std.specs.Prelude.{◌≡◌, ℕ, suc, ◌==◌, not, false, List, [], ◌∷◌, ◌++◌, filter, take, drop}
+use Rattle.std.specs.Prelude.{Option, if◌then◌else◌}
+use Rattle.std.specs.Option.{option_map}
+use Rattle.std.specs.List.{find}
+use Rattle.world_units.specs.declared.cell.CPos.{CPos}
+use Rattle.world_units.specs.Cells.{same_cell}
+use Rattle.game_model.specs.declared.actor.Actor.{Actor}
+use Rattle.game_model.specs.declared.actor.Body.{Body}
+use Rattle.game_model.specs.World.{is_alive, is_occupied}
+
+-- The id of the actor that holds a cell.
+abbrev pub holder_of : List Actor → CPos → Option ℕ
+holder_of actors p =
+    option_map (λ (a : Actor). a.id) (find (λ (a : Actor). same_cell a.cell p) actors)
+
+-- The list with the actors of this id changed so, and the others as they are.
+abbrev pub changed_at : List Actor → ℕ → (Actor → Actor) → List Actor
+changed_at [] id change = []
+changed_at (a ∷ actors) id change =
+    (if a.id == id then change a else a) ∷ changed_at actors id change
+
+-- The list with another body of the actor of an id.
+abbrev pub with_body : List Actor → ℕ → Body → List Actor
+with_body actors id body = changed_at actors id (λ (a : Actor). record a { body = body })
+
+-- The list with the actor of an id on another cell.
+abbrev pub with_cell : List Actor → ℕ → CPos → List Actor
+with_cell actors id to = changed_at actors id (λ (a : Actor). record a { cell = to })
+
+-- The list without the actor of an id.
+abbrev pub without_id : List Actor → ℕ → List Actor
+without_id actors id = filter (λ (a : Actor). not (a.id == id)) actors
+
+-- The list without the i-th actor if that has no health.
+abbrev pub without_dead_at : List Actor → ℕ → List Actor
+without_dead_at actors i =
+    take i actors ++ (filter is_alive (take 1 (drop i actors)) ++ drop (suc i) actors)
+
+-- No two actors hold one cell.
+abbrev pub CellsDiffer : List Actor → Type 0
+CellsDiffer [] = Unit {0}
+CellsDiffer (a ∷ actors) = (is_occupied actors a.cell ≡ false) × CellsDiffer actors

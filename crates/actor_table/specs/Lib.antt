@@ -1,0 +1,5 @@
+pub mod Rising
+pub mod ActorList
+pub mod Places
+pub mod Search
+pub mod Table

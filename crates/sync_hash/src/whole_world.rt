@@ -1,0 +1,49 @@
+ghost use Rattle.std.specs.Prelude.{◌≡◌, ◌≤◌, ◌%◌, ◌^◌, length};
+ghost use Rattle.std.specs.List.{sum_by};
+ghost use Rattle.game_model.specs.World.{HasClients, head_of};
+ghost use Rattle.sync_hash.specs.Kept.{actor_number};
+ghost use Rattle.sync_hash.specs.WorldHash.{hash_of};
+
+use crate::actor_bytes::actor_number;
+use crate::header::header_number;
+use crate::ore_bytes::ore_sum;
+use game_model::{Actor, Head, MAX_ACTORS, World};
+
+/// The hash of a world with 1 to `MAX_CLIENTS` clients, with one cash and one departure flag for
+/// each of them, and at most [`MAX_ACTORS`] actors: the sum of the FNV-1a numbers of its header, of
+/// each actor and of each cell with ore, modulo 2^64.
+pub fn world_hash(w: &World) -> u64
+    requires clients { HasClients w.now }
+    requires actors { length w.now.actors ≤ MAX_ACTORS }
+    ensures { result ≡ hash_of w.now }
+{
+    let header = header_number(&head_of(w), w.actors.len() as u32);
+    let actors = actors_sum(w.actors.as_slice());
+    header.wrapping_add(actors).wrapping_add(ore_sum(&w.ore))
+}
+
+/// All of a world but its actors and its ore.
+fn head_of(w: &World) -> Head
+    ensures { result ≡ head_of w.now }
+{
+    Head {
+        tick: w.tick,
+        seed: w.seed,
+        drawn: w.drawn,
+        next_id: w.next_id,
+        pace: w.pace,
+        cash: w.cash.copy(),
+        gone: w.gone.copy(),
+    }
+}
+
+/// The sum of the numbers of actors, modulo 2^64.
+fn actors_sum(actors: &[Actor]) -> u64
+    ensures { result ≡ sum_by actor_number actors.now % 2 ^ 64 }
+{
+    let mut sum: u64 = 0;
+    for actor in actors {
+        sum = sum.wrapping_add(actor_number(actor));
+    }
+    sum
+}
