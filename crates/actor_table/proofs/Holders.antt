@@ -102,8 +102,10 @@ holder_without least (b ∷ actors) id a p rises differ found = elim (eqb_tells 
   where
     some_here : eqb b.id id ≡ true → cond (eqb b.id id) (Some b) (actor_of actors id) ≡ Some a → b ≡ a
     some_here met found = let some : Some b ≡ Some a = rw met at found in cc
+
     free_here : same_cell b.cell p ≡ true → b.cell ≡ p → holder_of actors p ≡ None
     free_here met is = holder_free actors p (subst (λ c. is_occupied actors c ≡ false) is differ.0)
+
     here : eqb b.id id ≡ true → b.id ≡ id → b ≡ a → holder_of (without_id (b ∷ actors) id) p ≡ cond (same_cell a.cell p) None (holder_of (b ∷ actors) p)
     here met same is =
         let rest : without_id actors id ≡ actors = without_absent actors id (rising_absent id (b.id + 1) actors (omega arith) rises.1) in
@@ -111,6 +113,7 @@ holder_without least (b ∷ actors) id a p rises differ found = elim (eqb_tells 
           | inl same ↦ rw same.0 (free_here same.0 same.1)
           | inr fails ↦ rw fails refl
         ]))
+
     later : eqb b.id id ≡ false → actor_of actors id ≡ Some a → holder_of (without_id actors id) p ≡ cond (same_cell a.cell p) None (holder_of actors p) → holder_of (without_id (b ∷ actors) id) p ≡ cond (same_cell a.cell p) None (holder_of (b ∷ actors) p)
     later fails found rest =
         rw fails (elim (cell_cases b.cell p) [
@@ -128,10 +131,13 @@ holder_moved least (b ∷ actors) id a to p rises differ found free = elim (eqb_
   where
     parts : (same_cell b.cell to ≡ false) × (is_occupied actors to ≡ false)
     parts = or_false (same_cell b.cell to) (is_occupied actors to) free
+
     some_here : eqb b.id id ≡ true → cond (eqb b.id id) (Some b) (actor_of actors id) ≡ Some a → b ≡ a
     some_here met found = let some : Some b ≡ Some a = rw met at found in cc
+
     free_here : b.cell ≡ p → holder_of actors p ≡ None
     free_here is = holder_free actors p (subst (λ c. is_occupied actors c ≡ false) is differ.0)
+
     here : eqb b.id id ≡ true → b.id ≡ id → b ≡ a → holder_of (with_cell (b ∷ actors) id to) p ≡ cond (same_cell to p) (Some id) (cond (same_cell a.cell p) None (holder_of (b ∷ actors) p))
     here met same is =
         let rest : with_cell actors id to ≡ actors = changed_absent actors id _ (rising_absent id (b.id + 1) actors (omega arith) rises.1) in
@@ -142,6 +148,7 @@ holder_moved least (b ∷ actors) id a to p rises differ found free = elim (eqb_
             | inr off ↦ rw off refl
           ])
         ]))
+
     later : eqb b.id id ≡ false → actor_of actors id ≡ Some a → holder_of (with_cell actors id to) p ≡ cond (same_cell to p) (Some id) (cond (same_cell a.cell p) None (holder_of actors p)) → holder_of (with_cell (b ∷ actors) id to) p ≡ cond (same_cell to p) (Some id) (cond (same_cell a.cell p) None (holder_of (b ∷ actors) p))
     later fails found rest =
         rw fails (elim (cell_cases b.cell p) [
@@ -155,8 +162,8 @@ holder_body [] id body p = refl
 holder_body (b ∷ actors) id body p =
     let rest = holder_body actors id body p in
     elim (bool_cases (eqb b.id id)) [
-      | inl met ↦ rw met (elim (bool_cases (same_cell b.cell p)) [ | inl hit ↦ rw hit refl | inr miss ↦ rw miss rest ])
-      | inr fails ↦ rw fails (elim (bool_cases (same_cell b.cell p)) [ | inl hit ↦ rw hit refl | inr miss ↦ rw miss rest ])
+      | inl met ↦ rw met (elim (bool_cases (same_cell b.cell p)) [ inl hit ↦ rw hit refl | inr miss ↦ rw miss rest ])
+      | inr fails ↦ rw fails (elim (bool_cases (same_cell b.cell p)) [ inl hit ↦ rw hit refl | inr miss ↦ rw miss rest ])
     ]
 
 pub occupied_body : (actors : List Actor) (id : ℕ) (body : Body) (p : CPos) → is_occupied (with_body actors id body) p ≡ is_occupied actors p

@@ -77,6 +77,7 @@ searched slots order id (Ok at) rises filed in_range equal =
   where
     d : Place
     d = record { id = 0; key = 0 }
+
     here : IsAt (actors_in slots order) id at
     here = found_is_at slots order id at d filed in_range (ranked _ id _ (sym (equal d)))
 searched slots order id (Err at) rises filed in_range parted =
@@ -134,6 +135,7 @@ pushed slots room order a new space p old named below above vacant updates len c
     ids_below : (slots : Slab Actor) (order : List Place) (bound id : ℕ) → id ≡ bound → AreFiled slots order → AllByRecursion (λ (other : Actor). other.id < bound) (actors_in slots order) → AllByRecursion (λ (q : Place). q.id < id) order
     ids_below slots [] bound id same filed above = tt
     ids_below slots (q ∷ order) bound id same filed above = (omega (arith, filed.0.named, above.0), ids_below slots order bound id same filed.1 above.1)
+
     filed_append : (slots : Slab Actor) (xs ys : List Place) → AreFiled slots xs → AreFiled slots ys → AreFiled slots (xs ++ ys)
     filed_append slots [] ys fx fy = fy
     filed_append slots (x ∷ xs) ys fx fy = (fx.0, filed_append slots xs ys fx.1 fy)

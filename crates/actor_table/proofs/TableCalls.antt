@@ -54,6 +54,7 @@ same_place w q p q_on p_on = elim (cell_cases q p) [
   where
     self_same : (n : ℕ) → eqb n n ≡ true
     self_same n = grind (arith, nat_tests)
+
     clash : place_of w q ≡ place_of w p → same_cell q p ≡ false → ⊥
     clash hit other =
         let rows : q.y ≡ p.y = sym (div-mul-add q.y w q.x q_on) ∙ ap (λ n. n / w) hit ∙ div-mul-add p.y w p.x p_on in
@@ -170,6 +171,7 @@ dead_taken least (b ∷ actors) (suc i) a rises at dead = rw (passed b.id a.id (
   where
     passed : (n m : ℕ) → n + 1 ≤ m → eqb n m ≡ false
     passed n m lt = grind (arith, nat_tests)
+
     later : (least : ℕ) (xs : List Actor) (i : ℕ) (x : Actor) → ActorsRise least xs → slice_get xs i ≡ Some x → least ≤ x.id
     later least [] i x rises at = absurd (cc)
     later least (y ∷ xs) zero x rises at = let same : y ≡ x = cc in subst (λ (z : Actor). least ≤ z.id) same rises.0
