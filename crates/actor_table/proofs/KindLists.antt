@@ -2,7 +2,11 @@
 use Rattle.std.proofs.Common.{◌≡◌, ℕ, zero, suc, ◌+◌, ◌-◌, ◌*◌, ◌<◌, ◌≤◌, ◌≢◌, ◌⊎◌, eqb, ltb, Bool, true, false, not, ◌&&◌, ◌||◌, cond, List, [], ◌∷◌, ◌++◌, length, get_or, take, drop, map, Option, Some, None, inl, inr, refl, sym, subst, ap, ap₂, ◌∙◌, arith}
 use Rattle.std.specs.List.{filter, insert, list_any, All, AllWithin, AllByRecursion}
 use Rattle.std.specs.List.Sorted.{IsNonDecreasingBy, IsPartitionPoint, IsPartitionedBy}
+use Rattle.std.specs.Option.{option_map}
 use Rattle.std.proofs.lemmas.Bool.Decides.{eqb_tells, nat_tests}
+use Rattle.std.proofs.lemmas.List.{length-append}
+use Rattle.std.proofs.lemmas.Option.{some_pair_parts}
+use Rattle.world_units.specs.declared.cell.CPos.{CPos}
 use Rattle.std.proofs.lemmas.List.Elements.{recursion_from_All, All-append, All-filter}
 use Rattle.std.proofs.lemmas.List.Sorted.{IsNonDecreasingBy-insert}
 use Rattle.std.proofs.lemmas.List.Kept.{IsNonDecreasingBy-filter}
@@ -10,7 +14,7 @@ use Rattle.game_model.specs.declared.actor.Actor.{Actor}
 use Rattle.game_model.specs.declared.actor.Body.{Body}
 use Rattle.game_model.specs.World.{actor_of, ids_of}
 use Rattle.actor_table.specs.ActorList.{changed_at, with_body, with_cell, without_id}
-use Rattle.actor_table.specs.Kinds.{is_of, ids_of_kind, is_listed, listed_id, ids_listed, rank_of, id_inserted, IsEntry, ListsActors}
+use Rattle.actor_table.specs.Kinds.{is_of, owner_and_kind_of, ids_of_kind, is_listed, listed_id, ids_listed, rank_of, id_inserted, GainsId, MovesId, IsEntry, ListsActors}
 use Rattle.actor_table.specs.declared.listed.Listed.{Listed}
 use Rattle.actor_table.proofs.Rising.{rises_weaker}
 use Rattle.actor_table.proofs.Holders.{bool_cases, true_false, ActorsRise, rising_absent}
@@ -92,10 +96,10 @@ ids_after_remove owner kind id (x ∷ xs) =
       ]
     ]
 
-pub ids_without : (owner kind id : ℕ) (actors : List Actor) → ids_of_kind (without_id actors id) owner kind ≡ filter (λ n. not (eqb n id)) (ids_of_kind actors owner kind)
-ids_without owner kind id [] = refl
-ids_without owner kind id (a ∷ actors) =
-    let rest = ids_without owner kind id actors in
+pub kept_without : (owner kind id : ℕ) (actors : List Actor) → ids_of_kind (without_id actors id) owner kind ≡ filter (λ n. not (eqb n id)) (ids_of_kind actors owner kind)
+kept_without owner kind id [] = refl
+kept_without owner kind id (a ∷ actors) =
+    let rest = kept_without owner kind id actors in
     elim (bool_cases (is_of owner kind a)) [
       | inl ma ↦ elim (bool_cases (eqb a.id id)) [
         | inl hit ↦ rw (ma, hit) rest
@@ -129,7 +133,7 @@ ids_push owner kind (b ∷ actors) a above =
     none fails = rw fails refl
 
 -- one moved
-pub ids_moved : (owner kind id : ℕ) (actors : List Actor) (to : _) → ids_of_kind (with_cell actors id to) owner kind ≡ ids_of_kind actors owner kind
+pub ids_moved : (owner kind id : ℕ) (actors : List Actor) (to : CPos) → ids_of_kind (with_cell actors id to) owner kind ≡ ids_of_kind actors owner kind
 ids_moved owner kind id [] to = refl
 ids_moved owner kind id (a ∷ actors) to =
     let rest = ids_moved owner kind id actors to in
@@ -224,3 +228,114 @@ ids_same_owner owner kind id (b ∷ actors) a body least rises found same = elim
           | inl mb ↦ rw mb refl
           | inr fb ↦ rw fb refl
         ])
+
+-- an id that is listed is dropped by its removal
+shorter : (test : Listed → Bool) (xs : List Listed) → length (filter test xs) ≤ length xs
+shorter test [] = omega arith
+shorter test (x ∷ xs) = elim (bool_cases (test x)) [
+  | inl met ↦ rw met (omega (arith, shorter test xs))
+  | inr fails ↦ rw fails (omega (arith, shorter test xs))
+]
+
+pub fewer : (id : ℕ) (xs : List Listed) → list_any (λ (e : Listed). eqb e.id id) xs ≡ true → length (filter (λ (e : Listed). not (eqb e.id id)) xs) + 1 ≤ length xs
+fewer id [] there = absurd (cc)
+fewer id (x ∷ xs) there = elim (bool_cases (eqb x.id id)) [
+  | inl hit ↦ rw hit (omega (arith, shorter (λ (e : Listed). not (eqb e.id id)) xs))
+  | inr miss ↦ rw miss (omega (arith, fewer id xs (rw miss at there)))
+]
+
+in_kind : (actors : List Actor) (id : ℕ) (a : Actor) → actor_of actors id ≡ Some a → list_any (λ n. eqb n id) (ids_of_kind actors a.body.owner a.kind) ≡ true
+in_kind [] id a found = absurd (cc)
+in_kind (b ∷ actors) id a found = elim (bool_cases (eqb b.id id)) [
+  | inl hit ↦ subst (λ (x : Actor). list_any (λ n. eqb n id) (ids_of_kind (b ∷ actors) x.body.owner x.kind) ≡ true) (some_here hit found) (here hit)
+  | inr miss ↦ later miss (in_kind actors id a (rw miss at found))
+]
+  where
+    some_here : eqb b.id id ≡ true → cond (eqb b.id id) (Some b) (actor_of actors id) ≡ Some a → b ≡ a
+    some_here met found = let some : Some b ≡ Some a = rw met at found in cc
+    self_same : (n : ℕ) → eqb n n ≡ true
+    self_same n = grind (arith, nat_tests)
+    here : eqb b.id id ≡ true → list_any (λ n. eqb n id) (ids_of_kind (b ∷ actors) b.body.owner b.kind) ≡ true
+    here hit = rw (self_same b.body.owner, self_same b.kind, hit) refl
+    later : eqb b.id id ≡ false → list_any (λ n. eqb n id) (ids_of_kind actors a.body.owner a.kind) ≡ true → list_any (λ n. eqb n id) (ids_of_kind (b ∷ actors) a.body.owner a.kind) ≡ true
+    later miss rest = elim (bool_cases (is_of a.body.owner a.kind b)) [
+      | inl mb ↦ rw (mb, miss) rest
+      | inr fb ↦ rw fb rest
+    ]
+
+in_list : (owner kind id : ℕ) (xs : List Listed) → list_any (λ n. eqb n id) (ids_listed xs owner kind) ≡ true → list_any (λ (e : Listed). eqb e.id id) xs ≡ true
+in_list owner kind id [] there = absurd (cc)
+in_list owner kind id (x ∷ xs) there = elim (bool_cases (eqb x.id id)) [
+  | inl hit ↦ rw hit refl
+  | inr miss ↦ rw miss (in_list owner kind id xs (rest miss there))
+]
+  where
+    rest : eqb x.id id ≡ false → list_any (λ n. eqb n id) (ids_listed (x ∷ xs) owner kind) ≡ true → list_any (λ n. eqb n id) (ids_listed xs owner kind) ≡ true
+    rest miss there = elim (bool_cases (is_listed owner kind x)) [
+      | inl mx ↦ rw (mx, miss) at there
+      | inr fx ↦ rw fx at there
+    ]
+
+-- an actor that is there is listed
+pub is_in_index : (entries : List Listed) (actors : List Actor) (id : ℕ) (a : Actor) → ListsActors entries actors → actor_of actors id ≡ Some a → list_any (λ (e : Listed). eqb e.id id) entries ≡ true
+is_in_index entries actors id a lists found =
+    in_list a.body.owner a.kind id entries (rw lists.ids (in_kind actors id a found))
+
+length_changed : (actors : List Actor) (id : ℕ) (change : Actor → Actor) → length (changed_at actors id change) ≡ length actors
+length_changed [] id change = refl
+length_changed (a ∷ actors) id change = ap suc (length_changed actors id change)
+
+length_without : (least : ℕ) (actors : List Actor) (id : ℕ) (a : Actor) → ActorsRise least actors → actor_of actors id ≡ Some a → length (without_id actors id) + 1 ≡ length actors
+length_without least [] id a rises found = absurd (cc)
+length_without least (b ∷ actors) id a rises found = elim (eqb_tells b.id id) [
+  | inl hit ↦ rw (hit.0, without_absent actors id (rising_absent id (b.id + 1) actors (omega (arith, hit.1)) rises.1)) (omega arith)
+  | inr miss ↦ rw miss.0 (omega (arith, length_without (b.id + 1) actors id a rises.1 (rw miss.0 at found)))
+]
+
+-- the index after each call
+pub lists_none : ListsActors [] []
+lists_none = record { count = omega arith; ids = λ o k. refl }
+
+pub lists_push : (old new : List Listed) (actors : List Actor) (a : Actor) → ListsActors old actors → All (λ (x : Actor). x.id < a.id) actors → length new ≡ length old + 1 → GainsId old new a.body.owner a.kind a.id → ListsActors new (actors ++ a ∷ [])
+lists_push old new actors a lists above count gains =
+    record {
+      count = omega (arith, lists.count, length-append actors (a ∷ []));
+      ids = λ o k. gains o k ∙ ap (λ ids. cond (is_of o k a) (id_inserted a.id ids) ids) (lists.ids o k) ∙ sym (ids_push o k actors a (recursion_from_All (λ (x : Actor). x.id < a.id) actors above));
+    }
+
+pub lists_without : (old : List Listed) (actors : List Actor) (id : ℕ) (a : Actor) → ListsActors old actors → ActorsRise 0 actors → actor_of actors id ≡ Some a → ListsActors (filter (λ (e : Listed). not (eqb e.id id)) old) (without_id actors id)
+lists_without old actors id a lists rises found =
+    let gone = fewer id old (is_in_index old actors id a lists found) in
+    let left = length_without 0 actors id a rises found in
+    record {
+      count = omega (arith, lists.count);
+      ids = λ o k. ids_after_remove o k id old ∙ ap (λ ids. filter (λ n. not (eqb n id)) ids) (lists.ids o k) ∙ sym (kept_without o k id actors);
+    }
+
+pub lists_moved : (old : List Listed) (actors : List Actor) (id : ℕ) (to : CPos) → ListsActors old actors → ListsActors old (with_cell actors id to)
+lists_moved old actors id to lists =
+    record {
+      count = omega (arith, lists.count, length_changed actors id (λ (a : Actor). record a { cell = to }));
+      ids = λ o k. lists.ids o k ∙ sym (ids_moved o k id actors to);
+    }
+
+-- the owner and the kind that were read
+pub is_read : (o : Option Actor) (owner kind : ℕ) → option_map owner_and_kind_of o ≡ Some (owner, kind) → (a : Actor) × (o ≡ Some a) × (a.body.owner ≡ owner) × (a.kind ≡ kind)
+is_read None owner kind read = absurd (cc)
+is_read (Some a) owner kind read =
+    let parts = some_pair_parts a.body.owner owner a.kind kind read in
+    (a, refl, parts.0, parts.1)
+
+pub lists_body : (old new : List Listed) (actors : List Actor) (id : ℕ) (body : Body) (owner kind : ℕ) → ListsActors old actors → ActorsRise 0 actors → option_map owner_and_kind_of (actor_of actors id) ≡ Some (owner, kind) → length new ≤ length old → MovesId old new owner body.owner kind id → ListsActors new (with_body actors id body)
+lists_body old new actors id body owner kind lists rises read least moves =
+    let a = is_read (actor_of actors id) owner kind read in
+    record {
+      count = omega (arith, lists.count, length_changed actors id (λ (a : Actor). record a { body = body }));
+      ids = λ o k. moves o k ∙ after a.0 a.1 a.2 a.3 o k;
+    }
+  where
+    after : (a : Actor) → actor_of actors id ≡ Some a → a.body.owner ≡ owner → a.kind ≡ kind → (o k : ℕ) → cond (eqb owner body.owner) (ids_listed old o k) (cond ((eqb body.owner o) && (eqb kind k)) (id_inserted id (filter (λ n. not (eqb n id)) (ids_listed old o k))) (filter (λ n. not (eqb n id)) (ids_listed old o k))) ≡ ids_of_kind (with_body actors id body) o k
+    after a found owned kinded o k = elim (eqb_tells owner body.owner) [
+      | inl hit ↦ rw (hit.0, lists.ids o k) (sym (ids_same_owner o k id actors a body 0 rises found (owned ∙ hit.1)))
+      | inr miss ↦ rw (miss.0, lists.ids o k, ← kinded) (sym (ids_body o k id 0 actors a body rises found))
+    ]

@@ -1,5 +1,5 @@
 -- Actors listed by owner and kind.
-use Rattle.std.specs.Prelude.{◌≡◌, ℕ, ◌+◌, ◌*◌, ◌<◌, ◌≤◌, ◌==◌, ◌&&◌, nat_lt, Bool, List, [], ◌∷◌}
+use Rattle.std.specs.Prelude.{◌≡◌, ℕ, ◌+◌, ◌*◌, ◌<◌, ◌≤◌, ◌==◌, ◌&&◌, nat_lt, not, Bool, List, [], ◌∷◌}
 use Rattle.std.specs.Prelude.{map, filter, length, if◌then◌else◌}
 use Rattle.std.specs.List.{All}
 use Rattle.std.specs.List.Sorted.{IsNonDecreasingBy}
@@ -11,6 +11,10 @@ use Rattle.actor_table.specs.declared.listed.Listed.{Listed}
 -- The actor is one of this owner and this kind.
 abbrev pub is_of : (owner kind : ℕ) → Actor → Bool
 is_of owner kind a = (a.body.owner == owner) && (a.kind == kind)
+
+-- The owner and the kind of an actor.
+abbrev pub owner_and_kind_of : Actor → ℕ × ℕ
+owner_and_kind_of a = (a.body.owner, a.kind)
 
 -- The ids of the actors of an owner and a kind, in order.
 abbrev pub ids_of_kind : List Actor → (owner kind : ℕ) → List ℕ
@@ -41,6 +45,18 @@ abbrev pub GainsId : (old new : List Listed) → (owner kind id : ℕ) → Type 
 GainsId old new owner kind id =
     (o k : ℕ) → ids_listed new o k
     ≡ (if (owner == o) && (kind == k) then id_inserted id (ids_listed old o k) else ids_listed old o k)
+
+-- The ids without one.
+abbrev pub ids_without : ℕ → List ℕ → List ℕ
+ids_without id ids = filter (λ n. not (n == id)) ids
+
+-- An id goes from the lists of one owner to the list of another owner and a kind. Where both are
+-- the same, all stays.
+abbrev pub MovesId : (old new : List Listed) → (from to kind id : ℕ) → Type 0
+MovesId old new from to kind id =
+    (o k : ℕ) → ids_listed new o k
+    ≡ (if from == to then ids_listed old o k
+    else (if (to == o) && (kind == k) then id_inserted id (ids_without id (ids_listed old o k)) else ids_without id (ids_listed old o k)))
 
 -- What the fields of an entry hold.
 pub record IsEntry (e : Listed) : Type 0 where

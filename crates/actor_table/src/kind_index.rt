@@ -1,4 +1,5 @@
-ghost use Rattle.std.specs.Prelude.{◌≡◌, ◌+◌, ◌<◌, ◌==◌, [], length, not, filter, IfOk};
+ghost use Rattle.std.specs.Prelude.{◌≡◌, ◌+◌, ◌<◌, ◌≤◌, ◌==◌, [], length, not, true, filter, slice_range, IfOk};
+ghost use Rattle.std.specs.List.{list_any};
 
 use crate::listed::{ID_NUMBERS, Listed};
 use base::NoMemory;
@@ -26,7 +27,7 @@ impl Model for KindIndex {
 }
 
 impl KindIndex {
-    ghost use Rattle.actor_table.specs.Kinds.{is_listed, GainsId};
+    ghost use Rattle.actor_table.specs.Kinds.{is_listed, GainsId, MovesId};
 
     /// No actors, with room for [`MAX_ACTORS`]. Out of memory is its only error.
     pub(crate) fn create(alloc: Global) -> Result<KindIndex, NoMemory>
@@ -45,7 +46,7 @@ impl KindIndex {
         let end = first + ID_NUMBERS;
         let from = self.entries.partition_point(|e| e.rank() < first);
         let to = self.entries.partition_point(|e| e.rank() < end);
-        &self.entries[from..to]
+        part(&self.entries, from, to)
     }
 
     /// Adds an actor at its place. There is room.
@@ -64,8 +65,30 @@ impl KindIndex {
 
     /// Takes the actor of an id out, if it is there.
     pub(crate) fn remove(&mut self, id: u32)
-        ensures { self.new ≡ filter (λ (e : Listed). not (e.id == id)) self.old }
+        ensures rest { self.new ≡ filter (λ (e : Listed). not (e.id == id)) self.old }
+        ensures limit { length self.old ≤ MAX_ACTORS }
     {
         self.entries.retain(|e| e.id != id);
     }
+
+    /// Lists an actor, which is there, under another owner, if that is another.
+    pub(crate) fn set_owner(&mut self, from: u8, to: u8, kind: u16, id: u32)
+        requires { list_any (λ (e : Listed). e.id == id) self.old ≡ true }
+        ensures count { length self.new ≤ length self.old }
+        ensures ids { MovesId self.old self.new from to kind id }
+    {
+        if from != to {
+            self.remove(id);
+            self.insert(to, kind, id);
+        }
+    }
+}
+
+/// The entries from one place up to another.
+fn part(entries: &[Listed], from: usize, to: usize) -> &[Listed]
+    requires ordered { from ≤ to }
+    requires within { to ≤ length entries.now }
+    ensures { result.now ≡ slice_range entries.now from to }
+{
+    &entries[from..to]
 }

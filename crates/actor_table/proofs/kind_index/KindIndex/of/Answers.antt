@@ -6,8 +6,8 @@ use Rattle.actor_table.specs.declared.listed.Listed.{Listed}
 use Rattle.actor_table.proofs.KindCalls.{EndsAt, ends_from_point, first_rank, listed_part, places_in_order}
 use Rattle.actor_table.proofs.kind_index.KindIndex.of.Goals as goal
 
-pub slice_bounds-result-count : goal.slice_bounds-result-count
-slice_bounds-result-count c =
+pub part-requires-clause-ordered : goal.part-requires-clause-ordered
+part-requires-clause-ordered c =
     let held = c.self.inside.entries in
     let first = c.rank-first.result in
     let parted = IsPartitionedBy-ltb rank_of c.deref.result.now first (rw c.deref.ensures.value c.self.invariant.sorted) in
@@ -17,9 +17,6 @@ slice_bounds-result-count c =
     let point-2 = IsPartitionPoint-from_clause (λ (e : Listed). ltb (rank_of e) (first + 4294967296)) c.deref-2.result.now c.partition_point-to.result c.partition_point-to.ensures.partitioned parted-2 (λ a r q k. search rules) in
     let high : EndsAt (first + 4294967296) held.items c.partition_point-to.result = rw c.deref-2.ensures.value at (ends_from_point (first + 4294967296) c.deref-2.result.now _ point-2) in
     places_in_order first (first + 4294967296) held.items _ _ (record { owner = 0; kind = 0; id = 0 }) (omega arith) (rw c.deref.ensures.value at c.partition_point-from.ensures.bound) low high
-
-pub slice_bounds-result-start : goal.slice_bounds-result-start
-slice_bounds-result-start c = ?
 
 pub returns : goal.returns
 returns c =
@@ -38,4 +35,4 @@ returns c =
     let is_first : first ≡ first_rank c.args.owner c.args.kind = c.rank-first.ensures in
     let low' : EndsAt (first_rank c.args.owner c.args.kind) held.items from = subst (λ n. EndsAt n held.items from) is_first low in
     let high' : EndsAt (first_rank c.args.owner c.args.kind + 4294967296) held.items (from + (to - from)) = subst (λ n. EndsAt (n + 4294967296) held.items (from + (to - from))) is_first (subst (EndsAt (first + 4294967296) held.items) together high) in
-    rw (c.deref-3.ensures.value, ← c.self.view_is) (listed_part c.args.owner c.args.kind held.items from (to - from) (omega arith) (recursion_from_All IsEntry held.items c.self.invariant.fit) low' high')
+    rw (c.part.ensures, c.deref-3.ensures.value, ← c.self.view_is) (listed_part c.args.owner c.args.kind held.items from (to - from) (omega arith) (recursion_from_All IsEntry held.items c.self.invariant.fit) low' high')

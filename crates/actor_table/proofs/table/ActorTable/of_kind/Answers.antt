@@ -1,0 +1,6 @@
+use Rattle.std.proofs.Common.{map, ap, ◌∙◌}
+use Rattle.actor_table.specs.Kinds.{listed_id}
+use Rattle.actor_table.proofs.table.ActorTable.of_kind.Goals as goal
+
+pub returns : goal.returns
+returns c = rw (c.of.ensures, ← c.self.view_is) (c.self.invariant.listed.ids c.args.owner c.args.kind)
