@@ -1,15 +1,14 @@
 -- Who holds a cell, after an actor more, one less, one moved and one with another body.
-use Rattle.std.proofs.Common.{◌≡◌, ℕ, zero, suc, ◌+◌, ◌<◌, ◌≤◌, ◌≢◌, ◌⊎◌, eqb, Bool, true, false, not, ◌||◌, cond, List, [], ◌∷◌, ◌++◌, length, get_or, Option, Some, None, is_some, slice_get, inl, inr, refl, sym, subst, ap, ap₂, ◌∙◌, arith}
-use Rattle.std.specs.List.{filter, find, list_any, All, AllPairs}
-use Rattle.std.specs.Option.{option_map}
-use Rattle.std.proofs.lemmas.Bool.Decides.{eqb_tells, nat_tests}
+use Rattle.std.proofs.Common.{◌≡◌, ℕ, ◌+◌, ◌<◌, ◌⊎◌, eqb, Bool, true, false, ◌||◌, cond, List, [], ◌∷◌, ◌++◌, Some, None, is_some, inl, inr, refl, sym, subst, ap, ◌∙◌, arith}
+use Rattle.std.specs.List.{filter}
+use Rattle.std.proofs.lemmas.Bool.Decides.{eqb_tells}
 use Rattle.world_units.specs.declared.cell.CPos.{CPos}
 use Rattle.world_units.specs.Cells.{same_cell}
 use Rattle.world_units.specs.CellLemmas.{cell_decides}
 use Rattle.game_model.specs.declared.actor.Actor.{Actor}
 use Rattle.game_model.specs.declared.actor.Body.{Body}
-use Rattle.game_model.specs.World.{actor_of, is_occupied, ids_of}
-use Rattle.actor_table.specs.ActorList.{holder_of, changed_at, with_body, with_cell, without_id, CellsDiffer}
+use Rattle.game_model.specs.World.{actor_of, is_occupied}
+use Rattle.actor_table.specs.ActorList.{holder_of, with_body, with_cell, without_id, CellsDiffer}
 use Rattle.actor_table.specs.Rising.{RisesFrom}
 use Rattle.actor_table.specs.Search.{IsAbsent}
 use Rattle.actor_table.proofs.Places.{changed_absent, without_absent}

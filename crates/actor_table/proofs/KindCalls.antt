@@ -1,17 +1,17 @@
 -- The calls of the index by owner and kind, over its entries.
-use Rattle.std.proofs.Common.{◌≡◌, ℕ, zero, suc, ◌+◌, ◌-◌, ◌*◌, ◌<◌, ◌≤◌, ◌≢◌, ◌⊎◌, eqb, ltb, Bool, true, false, not, ◌&&◌, cond, List, [], ◌∷◌, ◌++◌, length, get_or, take, drop, map, inl, inr, refl, sym, subst, ap, ap₂, ◌∙◌, arith}
-use Rattle.std.specs.List.{filter, insert, All, AllWithin, AllByRecursion}
-use Rattle.std.specs.List.Sorted.{IsNonDecreasingBy, IsPartitionPoint}
+use Rattle.std.proofs.Common.{◌≡◌, ℕ, zero, suc, ◌+◌, ◌*◌, ◌<◌, ◌≤◌, ltb, Bool, true, false, List, [], ◌∷◌, length, get_or, take, drop, inl, inr, refl, subst, ap, arith}
+use Rattle.std.specs.List.{filter, insert, AllByRecursion}
+use Rattle.std.specs.List.Sorted.{IsPartitionPoint}
 use Rattle.std.proofs.lemmas.Bool.Decides.{nat_tests}
 use Rattle.std.proofs.lemmas.List.Edits.{length-insert}
-use Rattle.std.proofs.lemmas.List.Elements.{All-append, All-cons, All-take, All-drop, All-filter, recursion_from_All}
+use Rattle.std.proofs.lemmas.List.Elements.{All-append, All-cons, All-take, All-drop, All-filter}
 use Rattle.std.proofs.lemmas.List.Kept.{IsNonDecreasingBy-filter}
 use Rattle.std.proofs.lemmas.List.Sorted.{IsNonDecreasingBy-insert}
 use Rattle.game_model.specs.declared.limits.TheConstants.{MAX_ACTORS}
-use Rattle.actor_table.specs.Kinds.{is_listed, ids_listed, rank_of, id_inserted, IsEntry, IsSortedIndex}
+use Rattle.actor_table.specs.Kinds.{is_listed, rank_of, IsEntry, IsSortedIndex}
 use Rattle.actor_table.specs.declared.listed.Listed.{Listed}
-use Rattle.actor_table.proofs.Holders.{bool_cases, true_false}
-use Rattle.actor_table.proofs.KindLists.{IsRankGap, ids_after_insert}
+use Rattle.actor_table.proofs.Holders.{bool_cases}
+use Rattle.actor_table.proofs.KindLists.{IsRankGap}
 
 -- the entries below a rank end at a place
 pub record EndsAt (rank : ℕ) (xs : List Listed) (at : ℕ) : Type 0 where

@@ -1,23 +1,19 @@
 -- Entries by owner and kind, after an entry more and one less, and the actors that they list.
-use Rattle.std.proofs.Common.{◌≡◌, ℕ, zero, suc, ◌+◌, ◌-◌, ◌*◌, ◌<◌, ◌≤◌, ◌≢◌, ◌⊎◌, eqb, ltb, Bool, true, false, not, ◌&&◌, ◌||◌, cond, List, [], ◌∷◌, ◌++◌, length, get_or, take, drop, map, Option, Some, None, inl, inr, refl, sym, subst, ap, ap₂, ◌∙◌, arith}
-use Rattle.std.specs.List.{filter, insert, list_any, All, AllWithin, AllByRecursion}
-use Rattle.std.specs.List.Sorted.{IsNonDecreasingBy, IsPartitionPoint, IsPartitionedBy}
+use Rattle.std.proofs.Common.{◌≡◌, ℕ, zero, suc, ◌+◌, ◌<◌, ◌≤◌, eqb, Bool, true, false, not, ◌&&◌, cond, List, [], ◌∷◌, ◌++◌, length, take, drop, Option, Some, None, inl, inr, refl, sym, subst, ap, ◌∙◌, arith}
+use Rattle.std.specs.List.{filter, insert, list_any, All, AllByRecursion}
 use Rattle.std.specs.Option.{option_map}
 use Rattle.std.proofs.lemmas.Bool.Decides.{eqb_tells, nat_tests}
 use Rattle.std.proofs.lemmas.List.{length-append}
 use Rattle.std.proofs.lemmas.Option.{some_pair_parts}
 use Rattle.world_units.specs.declared.cell.CPos.{CPos}
-use Rattle.std.proofs.lemmas.List.Elements.{recursion_from_All, All-append, All-filter}
-use Rattle.std.proofs.lemmas.List.Sorted.{IsNonDecreasingBy-insert}
-use Rattle.std.proofs.lemmas.List.Kept.{IsNonDecreasingBy-filter}
+use Rattle.std.proofs.lemmas.List.Elements.{recursion_from_All}
 use Rattle.game_model.specs.declared.actor.Actor.{Actor}
 use Rattle.game_model.specs.declared.actor.Body.{Body}
-use Rattle.game_model.specs.World.{actor_of, ids_of}
+use Rattle.game_model.specs.World.{actor_of}
 use Rattle.actor_table.specs.ActorList.{changed_at, with_body, with_cell, without_id}
-use Rattle.actor_table.specs.Kinds.{is_of, owner_and_kind_of, ids_of_kind, is_listed, listed_id, ids_listed, rank_of, id_inserted, GainsId, MovesId, IsEntry, ListsActors}
+use Rattle.actor_table.specs.Kinds.{is_of, owner_and_kind_of, ids_of_kind, is_listed, ids_listed, rank_of, id_inserted, GainsId, MovesId, ListsActors}
 use Rattle.actor_table.specs.declared.listed.Listed.{Listed}
-use Rattle.actor_table.proofs.Rising.{rises_weaker}
-use Rattle.actor_table.proofs.Holders.{bool_cases, true_false, ActorsRise, rising_absent}
+use Rattle.actor_table.proofs.Holders.{bool_cases, ActorsRise, rising_absent}
 use Rattle.actor_table.proofs.Places.{without_absent, changed_absent}
 
 -- both of two tests hold, or they fail together
@@ -77,6 +73,7 @@ ids_after_insert owner kind e (x ∷ xs) (suc at) gap =
   where
     sum : is_listed owner kind e ≡ true → cond (is_listed owner kind e) (id_inserted e.id (ids_listed xs owner kind)) (ids_listed xs owner kind) ≡ id_inserted e.id (ids_listed xs owner kind)
     sum met = rw met refl
+
     none : is_listed owner kind e ≡ false → cond (is_listed owner kind e) (id_inserted e.id (ids_listed xs owner kind)) (ids_listed xs owner kind) ≡ ids_listed xs owner kind
     none fails = rw fails refl
 
@@ -129,6 +126,7 @@ ids_push owner kind (b ∷ actors) a above =
   where
     some : is_of owner kind a ≡ true → cond (is_of owner kind a) (id_inserted a.id (ids_of_kind actors owner kind)) (ids_of_kind actors owner kind) ≡ id_inserted a.id (ids_of_kind actors owner kind)
     some met = rw met refl
+
     none : is_of owner kind a ≡ false → cond (is_of owner kind a) (id_inserted a.id (ids_of_kind actors owner kind)) (ids_of_kind actors owner kind) ≡ ids_of_kind actors owner kind
     none fails = rw fails refl
 
@@ -138,8 +136,8 @@ ids_moved owner kind id [] to = refl
 ids_moved owner kind id (a ∷ actors) to =
     let rest = ids_moved owner kind id actors to in
     elim (bool_cases (eqb a.id id)) [
-      | inl hit ↦ rw hit (elim (bool_cases (is_of owner kind a)) [ | inl ma ↦ rw ma (ap (λ ids. a.id ∷ ids) rest) | inr fa ↦ rw fa rest ])
-      | inr miss ↦ rw miss (elim (bool_cases (is_of owner kind a)) [ | inl ma ↦ rw ma (ap (λ ids. a.id ∷ ids) rest) | inr fa ↦ rw fa rest ])
+      | inl hit ↦ rw hit (elim (bool_cases (is_of owner kind a)) [ inl ma ↦ rw ma (ap (λ ids. a.id ∷ ids) rest) | inr fa ↦ rw fa rest ])
+      | inr miss ↦ rw miss (elim (bool_cases (is_of owner kind a)) [ inl ma ↦ rw ma (ap (λ ids. a.id ∷ ids) rest) | inr fa ↦ rw fa rest ])
     ]
 
 -- later ids are all above
@@ -166,16 +164,20 @@ ids_body owner kind id least (b ∷ actors) a body rises found = elim (eqb_tells
   where
     ids : List ℕ
     ids = ids_of_kind actors owner kind
+
     left : List ℕ
     left = filter (λ n. not (eqb n id)) ids
+
     some_here : eqb b.id id ≡ true → cond (eqb b.id id) (Some b) (actor_of actors id) ≡ Some a → b ≡ a
     some_here met found = let some : Some b ≡ Some a = rw met at found in cc
+
     found_later : (least : ℕ) (xs : List Actor) (id : ℕ) (x : Actor) → ActorsRise least xs → actor_of xs id ≡ Some x → least ≤ id
     found_later least [] id x rises found = absurd (cc)
     found_later least (y ∷ xs) id x rises found = elim (eqb_tells y.id id) [
       | inl hit ↦ omega (arith, rises.0, hit.1)
       | inr miss ↦ omega (arith, rises.0, found_later (y.id + 1) xs id x rises.1 (rw miss.0 at found))
     ]
+
     here : eqb b.id id ≡ true → b.id ≡ id → b ≡ a → ids_of_kind (with_body (b ∷ actors) id body) owner kind ≡ cond ((eqb body.owner owner) && (eqb a.kind kind)) (id_inserted id (filter (λ n. not (eqb n id)) (ids_of_kind (b ∷ actors) owner kind))) (filter (λ n. not (eqb n id)) (ids_of_kind (b ∷ actors) owner kind))
     here met same is =
         let later = later_above owner kind id (b.id + 1) actors (omega arith) rises.1 in
@@ -192,6 +194,7 @@ ids_body owner kind id least (b ∷ actors) a body rises found = elim (eqb_tells
           | inl mb ↦ rw (mb, met) later
           | inr fb ↦ rw fb later
         ]
+
     passed : eqb b.id id ≡ false → b.id + 1 ≤ id → ids_of_kind (with_body actors id body) owner kind ≡ cond ((eqb body.owner owner) && (eqb a.kind kind)) (id_inserted id left) left → ids_of_kind (with_body (b ∷ actors) id body) owner kind ≡ cond ((eqb body.owner owner) && (eqb a.kind kind)) (id_inserted id (filter (λ n. not (eqb n id)) (ids_of_kind (b ∷ actors) owner kind))) (filter (λ n. not (eqb n id)) (ids_of_kind (b ∷ actors) owner kind))
     passed miss below rest = rw miss (elim (bool_cases (is_of owner kind b)) [
       | inr fb ↦ rw fb rest
@@ -203,6 +206,7 @@ ids_body owner kind id least (b ∷ actors) a body rises found = elim (eqb_tells
       where
         taken : ((eqb body.owner owner) && (eqb a.kind kind)) ≡ true → cond ((eqb body.owner owner) && (eqb a.kind kind)) (id_inserted id left) left ≡ id_inserted id left
         taken mn = rw mn refl
+
         passed_by : ((eqb body.owner owner) && (eqb a.kind kind)) ≡ false → cond ((eqb body.owner owner) && (eqb a.kind kind)) (id_inserted id left) left ≡ left
         passed_by fn = rw fn refl
 
@@ -219,6 +223,7 @@ ids_same_owner owner kind id (b ∷ actors) a body least rises found same = elim
   where
     some_here : eqb b.id id ≡ true → cond (eqb b.id id) (Some b) (actor_of actors id) ≡ Some a → b ≡ a
     some_here met found = let some : Some b ≡ Some a = rw met at found in cc
+
     here : eqb b.id id ≡ true → b.id ≡ id → b ≡ a → ids_of_kind (with_body (b ∷ actors) id body) owner kind ≡ ids_of_kind (b ∷ actors) owner kind
     here met named is =
         let tail : with_body actors id body ≡ actors = changed_absent actors id _ (rising_absent id (b.id + 1) actors (omega arith) rises.1) in
@@ -253,10 +258,13 @@ in_kind (b ∷ actors) id a found = elim (bool_cases (eqb b.id id)) [
   where
     some_here : eqb b.id id ≡ true → cond (eqb b.id id) (Some b) (actor_of actors id) ≡ Some a → b ≡ a
     some_here met found = let some : Some b ≡ Some a = rw met at found in cc
+
     self_same : (n : ℕ) → eqb n n ≡ true
     self_same n = grind (arith, nat_tests)
+
     here : eqb b.id id ≡ true → list_any (λ n. eqb n id) (ids_of_kind (b ∷ actors) b.body.owner b.kind) ≡ true
     here hit = rw (self_same b.body.owner, self_same b.kind, hit) refl
+
     later : eqb b.id id ≡ false → list_any (λ n. eqb n id) (ids_of_kind actors a.body.owner a.kind) ≡ true → list_any (λ n. eqb n id) (ids_of_kind (b ∷ actors) a.body.owner a.kind) ≡ true
     later miss rest = elim (bool_cases (is_of a.body.owner a.kind b)) [
       | inl mb ↦ rw (mb, miss) rest

@@ -1,5 +1,5 @@
 -- The calls of a roster, over its slots and its order.
-use Rattle.std.proofs.Common.{◌≡◌, ℕ, zero, suc, ◌+◌, ◌<◌, ◌≤◌, ◌≢◌, Bool, true, false, List, [], ◌∷◌, ◌++◌, length, get_or, map, take, Option, Some, None, is_some, IsSome, Result, Ok, Err, IfOk, IfErr, slice_get, cond, inl, inr, refl, sym, subst, ap, ap₂, ◌∙◌, arith}
+use Rattle.std.proofs.Common.{◌≡◌, ℕ, suc, ◌+◌, ◌<◌, ◌≤◌, ◌≢◌, List, [], ◌∷◌, ◌++◌, length, get_or, map, take, Option, Some, None, is_some, Result, Ok, Err, IfOk, IfErr, slice_get, cond, inl, inr, refl, sym, ap, ap₂, ◌∙◌, arith}
 use Rattle.std.specs.List.{AllByRecursion, All, remove}
 use Rattle.std.specs.List.Sorted.{IsSearchInRange, IsBinarySearchResult, IsNonDecreasingBy}
 use Rattle.std.specs.Option.{unwrap_or, option_map}
@@ -18,12 +18,11 @@ use Rattle.game_model.specs.declared.actor.Actor.{Actor}
 use Rattle.game_model.specs.declared.limits.TheConstants.{MAX_ACTORS}
 use Rattle.game_model.specs.World.{actor_of, ids_of}
 use Rattle.actor_table.specs.ActorList.{changed_at, without_id}
-use Rattle.actor_table.specs.Rising.{RisesFrom}
 use Rattle.actor_table.specs.Places.{nobody, actor_in, actors_in, IsFiled, AreFiled, IsRoster}
 use Rattle.actor_table.specs.Search.{IsAt, IsAbsent}
 use Rattle.actor_table.specs.declared.place.Place.{Place}
-use Rattle.actor_table.proofs.Rising.{rises_pair, rises_index, rises_remove, rises_push}
-use Rattle.actor_table.proofs.Places.{Rises, ids_along, actors_rise, filed_at, found_at, absent_is_none, fresh_key, actors_stay, filed_stay, Changes, changes_at, Removes, removes_at}
+use Rattle.actor_table.proofs.Rising.{rises_pair, rises_remove, rises_push}
+use Rattle.actor_table.proofs.Places.{Rises, ids_along, filed_at, found_at, fresh_key, actors_stay, filed_stay, changes_at, removes_at}
 
 -- the place that stands at an index
 pub record Found (slots : Slab Actor) (order : List Place) (id at : ℕ) (p : Place) : Type 0 where

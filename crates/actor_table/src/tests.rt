@@ -87,15 +87,20 @@ fn bodies_are_exchanged_and_the_dead_buried(rt: HostRuntime) -> Result<(), Fail>
     table.insert(actor(1, 0, 10));
     table.insert(actor(2, 1, 20));
     table.insert(actor(3, 2, 30));
+    assert_eq!(rt; table.of_kind(0, 0).len(), 3);
     let mut other = body(7, 0);
     table.swap_body(2, &mut other);
     assert_eq!(rt; (other.owner, other.health), (0, 20));
+    assert_eq!(rt;
+        (table.of_kind(0, 0).len(), table.of_kind(7, 0).len()),
+        (2, 1)
+    );
     table.bury();
     assert_eq!(rt;
         (table.nth(0), table.nth(1), table.len()),
         (Some(1), Some(3), 2)
     );
-    assert!(rt; table.at_cell(SECOND).is_none() && table.get(2).is_none());
+    assert!(rt; table.at_cell(SECOND).is_none() && table.of_kind(7, 0).is_empty());
     assert_eq!(rt; table.at_cell(THIRD), Some(3));
     assert!(rt; table.nth_actor(1).is_some_and(|a| a.body.health == 30));
     Ok(())

@@ -1,5 +1,4 @@
 use Rattle.std.proofs.Common.{◌<◌, ltb, length, arith, rules}
-use Rattle.std.specs.List.{insert}
 use Rattle.std.proofs.lemmas.List.Sorted.{IsPartitionPoint-from_clause, IsPartitionedBy-ltb}
 use Rattle.game_model.specs.declared.limits.TheConstants.{MAX_ACTORS}
 use Rattle.actor_table.specs.Kinds.{rank_of, IsEntry}

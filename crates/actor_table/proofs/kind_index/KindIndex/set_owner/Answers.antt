@@ -1,6 +1,6 @@
-use Rattle.std.proofs.Common.{◌≡◌, ◌≤◌, ◌+◌, ℕ, eqb, false, ◌&&◌, cond, length, ap, ◌∙◌, arith}
+use Rattle.std.proofs.Common.{◌≡◌, ◌≤◌, ◌+◌, eqb, false, ◌&&◌, cond, length, ap, ◌∙◌, arith}
 use Rattle.std.proofs.lemmas.Bool.Decides.{nat_tests}
-use Rattle.actor_table.specs.Kinds.{id_inserted, ids_listed}
+use Rattle.actor_table.specs.Kinds.{id_inserted}
 use Rattle.actor_table.proofs.KindLists.{fewer, ids_after_remove}
 use Rattle.actor_table.proofs.kind_index.KindIndex.set_owner.Goals as goal
 

@@ -1,6 +1,5 @@
-use Rattle.std.proofs.Common.{Some, refl, sym, ap, ◌∙◌, arith}
+use Rattle.std.proofs.Common.{sym, ap, ◌∙◌, arith}
 use Rattle.std.specs.Option.{option_map}
-use Rattle.game_model.specs.declared.actor.Actor.{Actor}
 use Rattle.actor_table.specs.Kinds.{owner_and_kind_of}
 use Rattle.actor_table.proofs.Places.{actors_rise}
 use Rattle.actor_table.proofs.RosterCalls.{at_within, found_actor, found_key}

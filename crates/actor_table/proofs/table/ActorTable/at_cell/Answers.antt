@@ -1,6 +1,5 @@
-use Rattle.std.proofs.Common.{◌≡◌, false, is_some, ap, sym, ◌∙◌, arith}
+use Rattle.std.proofs.Common.{is_some, ap, sym, ◌∙◌, arith}
 use Rattle.game_model.specs.Grid.{IsOn}
-use Rattle.game_model.specs.World.{is_occupied}
 use Rattle.actor_table.proofs.Holders.{holder_free, holder_is_some}
 use Rattle.actor_table.proofs.TableCalls.{told_occupied, off_map_free}
 use Rattle.actor_table.proofs.table.ActorTable.at_cell.Goals as goal

@@ -1,5 +1,4 @@
-use Rattle.std.proofs.Common.{length, arith}
-use Rattle.game_model.specs.Grid.{IsOn}
+use Rattle.std.proofs.Common.{arith}
 use Rattle.actor_table.proofs.TableCalls.{indexed_push}
 use Rattle.actor_table.proofs.KindLists.{lists_push}
 use Rattle.actor_table.proofs.table.ActorTable.insert.Goals as goal

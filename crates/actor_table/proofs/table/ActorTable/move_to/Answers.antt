@@ -1,4 +1,3 @@
-use Rattle.game_model.specs.Grid.{IsOn}
 use Rattle.actor_table.proofs.TableCalls.{cell_on, indexed_from}
 use Rattle.actor_table.proofs.KindLists.{lists_moved}
 use Rattle.actor_table.proofs.table.ActorTable.move_to.Goals as goal

@@ -1,5 +1,3 @@
-use Rattle.std.proofs.Common.{map, ap, ◌∙◌}
-use Rattle.actor_table.specs.Kinds.{listed_id}
 use Rattle.actor_table.proofs.table.ActorTable.of_kind.Goals as goal
 
 pub returns : goal.returns
