@@ -1,6 +1,6 @@
 -- Actors listed by owner and kind.
-use Rattle.std.specs.Prelude.{◌≡◌, ℕ, ◌+◌, ◌*◌, ◌<◌, ◌≤◌, ◌==◌, ◌&&◌, nat_lt, not, Bool, List, [], ◌∷◌}
-use Rattle.std.specs.Prelude.{map, filter, length, if◌then◌else◌}
+use Rattle.std.specs.Prelude.{◌≡◌, ℕ, ◌+◌, ◌*◌, ◌<◌, ◌≤◌, ◌==◌, ◌&&◌, nat_lt, not, Bool}
+use Rattle.std.specs.Prelude.{List, [], ◌∷◌, map, filter, length, if◌then◌else◌}
 use Rattle.std.specs.List.{All}
 use Rattle.std.specs.List.Sorted.{IsNonDecreasingBy}
 use Rattle.game_model.specs.declared.actor.Actor.{Actor}
@@ -44,7 +44,8 @@ id_inserted id (n ∷ ids) = if nat_lt n id then n ∷ id_inserted id ids else i
 abbrev pub GainsId : (old new : List Listed) → (owner kind id : ℕ) → Type 0
 GainsId old new owner kind id =
     (o k : ℕ) → ids_listed new o k
-    ≡ (if (owner == o) && (kind == k) then id_inserted id (ids_listed old o k) else ids_listed old o k)
+    ≡ (if (owner == o) && (kind == k) then id_inserted id (ids_listed old o k)
+    else ids_listed old o k)
 
 -- The ids without one.
 abbrev pub ids_without : ℕ → List ℕ → List ℕ
@@ -56,7 +57,8 @@ abbrev pub MovesId : (old new : List Listed) → (from to kind id : ℕ) → Typ
 MovesId old new from to kind id =
     (o k : ℕ) → ids_listed new o k
     ≡ (if from == to then ids_listed old o k
-    else (if (to == o) && (kind == k) then id_inserted id (ids_without id (ids_listed old o k)) else ids_without id (ids_listed old o k)))
+    else (if (to == o) && (kind == k) then id_inserted id (ids_without id (ids_listed old o k))
+    else ids_without id (ids_listed old o k)))
 
 -- What the fields of an entry hold.
 pub record IsEntry (e : Listed) : Type 0 where

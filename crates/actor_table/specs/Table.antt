@@ -30,6 +30,7 @@ pub record IsIndexed (cells : Grid (Option ℕ)) (actors : List Actor) : Type 0 
       → slice_get cells.cells (place_of cells.width p) ≡ Some (holder_of actors p)
 
 -- The cells and the entries by owner and kind tell of these actors.
-pub record IsTied (cells : Grid (Option ℕ)) (entries : List Listed) (actors : List Actor) : Type 0 where
+pub record IsTied (cells : Grid (Option ℕ)) (entries : List Listed) (actors : List Actor)
+    : Type 0 where
   pub indexed : IsIndexed cells actors
   pub listed : ListsActors entries actors

@@ -1,4 +1,5 @@
-ghost use Rattle.std.specs.Prelude.{◌≡◌, ◌+◌, ◌<◌, ◌≤◌, ◌==◌, [], length, not, true, filter, slice_range, IfOk};
+ghost use Rattle.std.specs.Prelude.{◌≡◌, ◌+◌, ◌<◌, ◌≤◌, ◌==◌, [], length, not, true, filter};
+ghost use Rattle.std.specs.Prelude.{slice_range, IfOk};
 ghost use Rattle.std.specs.List.{list_any};
 
 use crate::listed::{ID_NUMBERS, Listed};

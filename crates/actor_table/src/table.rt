@@ -1,9 +1,10 @@
-ghost use Rattle.std.specs.Prelude.{◌≡◌, ◌<◌, [], ◌∷◌, ◌++◌, length, false, Some, is_some, slice_get};
-ghost use Rattle.std.specs.Prelude.{◌↔◌, filter, map, IfOk, IsSome, IsTrue};
+ghost use Rattle.std.specs.Prelude.{◌≡◌, ◌<◌, [], ◌∷◌, ◌++◌, length, false, Some, is_some};
+ghost use Rattle.std.specs.Prelude.{◌↔◌, slice_get, filter, map, IfOk, IsSome, IsTrue};
 ghost use Rattle.std.specs.List.{All};
 ghost use Rattle.std.specs.Option.{option_copied, option_map};
 ghost use Rattle.game_model.specs.World.{actor_of, ids_of, is_alive, is_occupied};
-ghost use Rattle.actor_table.specs.ActorList.{holder_of, with_body, with_cell, without_dead_at, without_id};
+ghost use Rattle.actor_table.specs.ActorList.{holder_of, with_body, with_cell};
+ghost use Rattle.actor_table.specs.ActorList.{without_dead_at, without_id};
 
 use crate::cell_index::CellIndex;
 use crate::kind_index::KindIndex;
@@ -90,8 +91,8 @@ impl ActorTable {
         self.roster.get(id)
     }
 
-    /// The id of the actor that holds a cell, at once. `None` exactly where there is none, as at any
-    /// cell off the map.
+    /// The id of the actor that holds a cell, at once. `None` exactly where there is none, as at
+    /// any cell off the map.
     pub fn at_cell(&self, p: CPos) -> Option<u32>
         ensures value { result ≡ holder_of self.now.actors p }
         ensures occupied { is_some result ≡ is_occupied self.now.actors p }
@@ -136,8 +137,8 @@ impl ActorTable {
         Some(a)
     }
 
-    /// Exchanges the body of the actor of an id, which is there, with this one. It takes logarithmic
-    /// time, and one pass over the actors where the two have different owners.
+    /// Exchanges the body of the actor of an id, which is there, with this one. It takes
+    /// logarithmic time, and one pass over the actors where the two have different owners.
     pub fn swap_body(&mut self, id: u32, body: &mut Body)
         requires { IsSome (actor_of self.old.actors id) }
         ensures given { self.new ≡ record self.old { actors = with_body self.old.actors id body.old } }
