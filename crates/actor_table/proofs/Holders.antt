@@ -1,15 +1,14 @@
 -- Who holds a cell, after an actor more, one less, one moved and one with another body.
-use Rattle.std.proofs.Common.{◌≡◌, ℕ, zero, suc, ◌+◌, ◌<◌, ◌≤◌, ◌≢◌, ◌⊎◌, eqb, Bool, true, false, not, ◌||◌, cond, List, [], ◌∷◌, ◌++◌, length, get_or, Option, Some, None, is_some, slice_get, inl, inr, refl, sym, subst, ap, ap₂, ◌∙◌, arith}
-use Rattle.std.specs.List.{filter, find, list_any, All, AllPairs}
-use Rattle.std.specs.Option.{option_map}
-use Rattle.std.proofs.lemmas.Bool.Decides.{eqb_tells, nat_tests}
+use Rattle.std.proofs.Common.{◌≡◌, ℕ, ◌+◌, ◌<◌, ◌⊎◌, eqb, Bool, true, false, ◌||◌, cond, List, [], ◌∷◌, ◌++◌, Some, None, is_some, inl, inr, refl, sym, subst, ap, ◌∙◌, arith}
+use Rattle.std.specs.List.{filter}
+use Rattle.std.proofs.lemmas.Bool.Decides.{eqb_tells}
 use Rattle.world_units.specs.declared.cell.CPos.{CPos}
 use Rattle.world_units.specs.Cells.{same_cell}
 use Rattle.world_units.specs.CellLemmas.{cell_decides}
 use Rattle.game_model.specs.declared.actor.Actor.{Actor}
 use Rattle.game_model.specs.declared.actor.Body.{Body}
-use Rattle.game_model.specs.World.{actor_of, is_occupied, ids_of}
-use Rattle.actor_table.specs.ActorList.{holder_of, changed_at, with_body, with_cell, without_id, CellsDiffer}
+use Rattle.game_model.specs.World.{actor_of, is_occupied}
+use Rattle.actor_table.specs.ActorList.{holder_of, with_body, with_cell, without_id, CellsDiffer}
 use Rattle.actor_table.specs.Rising.{RisesFrom}
 use Rattle.actor_table.specs.Search.{IsAbsent}
 use Rattle.actor_table.proofs.Places.{changed_absent, without_absent}
@@ -102,8 +101,10 @@ holder_without least (b ∷ actors) id a p rises differ found = elim (eqb_tells 
   where
     some_here : eqb b.id id ≡ true → cond (eqb b.id id) (Some b) (actor_of actors id) ≡ Some a → b ≡ a
     some_here met found = let some : Some b ≡ Some a = rw met at found in cc
+
     free_here : same_cell b.cell p ≡ true → b.cell ≡ p → holder_of actors p ≡ None
     free_here met is = holder_free actors p (subst (λ c. is_occupied actors c ≡ false) is differ.0)
+
     here : eqb b.id id ≡ true → b.id ≡ id → b ≡ a → holder_of (without_id (b ∷ actors) id) p ≡ cond (same_cell a.cell p) None (holder_of (b ∷ actors) p)
     here met same is =
         let rest : without_id actors id ≡ actors = without_absent actors id (rising_absent id (b.id + 1) actors (omega arith) rises.1) in
@@ -111,6 +112,7 @@ holder_without least (b ∷ actors) id a p rises differ found = elim (eqb_tells 
           | inl same ↦ rw same.0 (free_here same.0 same.1)
           | inr fails ↦ rw fails refl
         ]))
+
     later : eqb b.id id ≡ false → actor_of actors id ≡ Some a → holder_of (without_id actors id) p ≡ cond (same_cell a.cell p) None (holder_of actors p) → holder_of (without_id (b ∷ actors) id) p ≡ cond (same_cell a.cell p) None (holder_of (b ∷ actors) p)
     later fails found rest =
         rw fails (elim (cell_cases b.cell p) [
@@ -128,10 +130,13 @@ holder_moved least (b ∷ actors) id a to p rises differ found free = elim (eqb_
   where
     parts : (same_cell b.cell to ≡ false) × (is_occupied actors to ≡ false)
     parts = or_false (same_cell b.cell to) (is_occupied actors to) free
+
     some_here : eqb b.id id ≡ true → cond (eqb b.id id) (Some b) (actor_of actors id) ≡ Some a → b ≡ a
     some_here met found = let some : Some b ≡ Some a = rw met at found in cc
+
     free_here : b.cell ≡ p → holder_of actors p ≡ None
     free_here is = holder_free actors p (subst (λ c. is_occupied actors c ≡ false) is differ.0)
+
     here : eqb b.id id ≡ true → b.id ≡ id → b ≡ a → holder_of (with_cell (b ∷ actors) id to) p ≡ cond (same_cell to p) (Some id) (cond (same_cell a.cell p) None (holder_of (b ∷ actors) p))
     here met same is =
         let rest : with_cell actors id to ≡ actors = changed_absent actors id _ (rising_absent id (b.id + 1) actors (omega arith) rises.1) in
@@ -142,6 +147,7 @@ holder_moved least (b ∷ actors) id a to p rises differ found free = elim (eqb_
             | inr off ↦ rw off refl
           ])
         ]))
+
     later : eqb b.id id ≡ false → actor_of actors id ≡ Some a → holder_of (with_cell actors id to) p ≡ cond (same_cell to p) (Some id) (cond (same_cell a.cell p) None (holder_of actors p)) → holder_of (with_cell (b ∷ actors) id to) p ≡ cond (same_cell to p) (Some id) (cond (same_cell a.cell p) None (holder_of (b ∷ actors) p))
     later fails found rest =
         rw fails (elim (cell_cases b.cell p) [
@@ -155,8 +161,8 @@ holder_body [] id body p = refl
 holder_body (b ∷ actors) id body p =
     let rest = holder_body actors id body p in
     elim (bool_cases (eqb b.id id)) [
-      | inl met ↦ rw met (elim (bool_cases (same_cell b.cell p)) [ | inl hit ↦ rw hit refl | inr miss ↦ rw miss rest ])
-      | inr fails ↦ rw fails (elim (bool_cases (same_cell b.cell p)) [ | inl hit ↦ rw hit refl | inr miss ↦ rw miss rest ])
+      | inl met ↦ rw met (elim (bool_cases (same_cell b.cell p)) [ inl hit ↦ rw hit refl | inr miss ↦ rw miss rest ])
+      | inr fails ↦ rw fails (elim (bool_cases (same_cell b.cell p)) [ inl hit ↦ rw hit refl | inr miss ↦ rw miss rest ])
     ]
 
 pub occupied_body : (actors : List Actor) (id : ℕ) (body : Body) (p : CPos) → is_occupied (with_body actors id body) p ≡ is_occupied actors p

@@ -3,3 +3,5 @@ pub mod Places
 pub mod RosterCalls
 pub mod Holders
 pub mod TableCalls
+pub mod KindLists
+pub mod KindCalls

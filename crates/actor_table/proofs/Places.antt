@@ -1,6 +1,6 @@
 -- What a change of one slot makes of the actors along the order.
-use Rattle.std.proofs.Common.{◌≡◌, ℕ, zero, suc, ◌+◌, ◌<◌, ◌≤◌, ◌≢◌, eqb, Bool, true, false, not, List, [], ◌∷◌, ◌++◌, length, get_or, map, Option, Some, None, cond, slice_get, refl, sym, subst, ap, ap₂, ◌∙◌, arith}
-use Rattle.std.specs.List.{AllByRecursion, filter, remove, find}
+use Rattle.std.proofs.Common.{◌≡◌, ℕ, zero, suc, ◌+◌, ◌<◌, ◌≤◌, ◌≢◌, eqb, List, [], ◌∷◌, map, Option, Some, None, cond, slice_get, refl, sym, subst, ap, ap₂, ◌∙◌, arith}
+use Rattle.std.specs.List.{AllByRecursion, remove}
 use Rattle.std.specs.Option.{unwrap_or}
 use Rattle.std.proofs.lemmas.Option.{same_Some}
 use Rattle.std.proofs.lemmas.Bool.Decides.{nat_tests}
@@ -10,9 +10,9 @@ use Rattle.game_model.specs.World.{actor_of, ids_of}
 use Rattle.actor_table.specs.ActorList.{changed_at, without_id}
 use Rattle.actor_table.specs.Rising.{RisesFrom}
 use Rattle.actor_table.specs.Places.{nobody, actor_in, actors_in, IsFiled, AreFiled}
-use Rattle.actor_table.specs.Search.{IsAt, IsAbsent}
+use Rattle.actor_table.specs.Search.{IsAbsent}
 use Rattle.actor_table.specs.declared.place.Place.{Place}
-use Rattle.actor_table.proofs.Rising.{rises_weaker, rises_at}
+use Rattle.actor_table.proofs.Rising.{rises_at}
 
 -- the order of places
 abbrev pub Rises : ℕ → List Place → Type 0

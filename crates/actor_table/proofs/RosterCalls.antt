@@ -1,5 +1,5 @@
 -- The calls of a roster, over its slots and its order.
-use Rattle.std.proofs.Common.{◌≡◌, ℕ, zero, suc, ◌+◌, ◌<◌, ◌≤◌, ◌≢◌, Bool, true, false, List, [], ◌∷◌, ◌++◌, length, get_or, map, take, Option, Some, None, is_some, IsSome, Result, Ok, Err, IfOk, IfErr, slice_get, cond, inl, inr, refl, sym, subst, ap, ap₂, ◌∙◌, arith}
+use Rattle.std.proofs.Common.{◌≡◌, ℕ, suc, ◌+◌, ◌<◌, ◌≤◌, ◌≢◌, List, [], ◌∷◌, ◌++◌, length, get_or, map, take, Option, Some, None, is_some, Result, Ok, Err, IfOk, IfErr, slice_get, cond, inl, inr, refl, sym, ap, ap₂, ◌∙◌, arith}
 use Rattle.std.specs.List.{AllByRecursion, All, remove}
 use Rattle.std.specs.List.Sorted.{IsSearchInRange, IsBinarySearchResult, IsNonDecreasingBy}
 use Rattle.std.specs.Option.{unwrap_or, option_map}
@@ -18,12 +18,11 @@ use Rattle.game_model.specs.declared.actor.Actor.{Actor}
 use Rattle.game_model.specs.declared.limits.TheConstants.{MAX_ACTORS}
 use Rattle.game_model.specs.World.{actor_of, ids_of}
 use Rattle.actor_table.specs.ActorList.{changed_at, without_id}
-use Rattle.actor_table.specs.Rising.{RisesFrom}
 use Rattle.actor_table.specs.Places.{nobody, actor_in, actors_in, IsFiled, AreFiled, IsRoster}
 use Rattle.actor_table.specs.Search.{IsAt, IsAbsent}
 use Rattle.actor_table.specs.declared.place.Place.{Place}
-use Rattle.actor_table.proofs.Rising.{rises_pair, rises_index, rises_remove, rises_push}
-use Rattle.actor_table.proofs.Places.{Rises, ids_along, actors_rise, filed_at, found_at, absent_is_none, fresh_key, actors_stay, filed_stay, Changes, changes_at, Removes, removes_at}
+use Rattle.actor_table.proofs.Rising.{rises_pair, rises_remove, rises_push}
+use Rattle.actor_table.proofs.Places.{Rises, ids_along, filed_at, found_at, fresh_key, actors_stay, filed_stay, changes_at, removes_at}
 
 -- the place that stands at an index
 pub record Found (slots : Slab Actor) (order : List Place) (id at : ℕ) (p : Place) : Type 0 where
@@ -77,6 +76,7 @@ searched slots order id (Ok at) rises filed in_range equal =
   where
     d : Place
     d = record { id = 0; key = 0 }
+
     here : IsAt (actors_in slots order) id at
     here = found_is_at slots order id at d filed in_range (ranked _ id _ (sym (equal d)))
 searched slots order id (Err at) rises filed in_range parted =
@@ -134,6 +134,7 @@ pushed slots room order a new space p old named below above vacant updates len c
     ids_below : (slots : Slab Actor) (order : List Place) (bound id : ℕ) → id ≡ bound → AreFiled slots order → AllByRecursion (λ (other : Actor). other.id < bound) (actors_in slots order) → AllByRecursion (λ (q : Place). q.id < id) order
     ids_below slots [] bound id same filed above = tt
     ids_below slots (q ∷ order) bound id same filed above = (omega (arith, filed.0.named, above.0), ids_below slots order bound id same filed.1 above.1)
+
     filed_append : (slots : Slab Actor) (xs ys : List Place) → AreFiled slots xs → AreFiled slots ys → AreFiled slots (xs ++ ys)
     filed_append slots [] ys fx fy = fy
     filed_append slots (x ∷ xs) ys fx fy = (fx.0, filed_append slots xs ys fx.1 fy)

@@ -1,12 +1,12 @@
 -- The calls of a table, over its cells and its actors.
-use Rattle.std.proofs.Common.{◌≡◌, ℕ, zero, suc, ◌+◌, ◌*◌, ◌/◌, ◌%◌, ◌<◌, ◌≤◌, ◌≢◌, ◌⊎◌, eqb, Bool, true, false, not, cond, List, [], ◌∷◌, ◌++◌, length, get_or, take, drop, set, replicate, Option, Some, None, slice_get, inl, inr, refl, sym, subst, ap, ap₂, ◌∙◌, arith}
-use Rattle.std.specs.List.{filter, find, All, AllPairs, AllByRecursion}
+use Rattle.std.proofs.Common.{◌≡◌, ℕ, zero, suc, ◌+◌, ◌*◌, ◌/◌, ◌%◌, ◌<◌, ◌≤◌, ◌≢◌, eqb, true, false, cond, List, [], ◌∷◌, ◌++◌, length, get_or, take, drop, set, replicate, Option, Some, None, slice_get, inl, inr, refl, sym, subst, ap, ap₂, ◌∙◌, arith}
+use Rattle.std.specs.List.{filter, AllPairs, AllByRecursion}
 use Rattle.std.specs.Option.{option_map}
 use Rattle.std.proofs.lemmas.Bool.Decides.{eqb_tells, nat_tests}
 use Rattle.std.proofs.lemmas.List.{get_or-replicate, length-replicate}
 use Rattle.std.proofs.lemmas.List.Elements.{All-from_recursion, recursion_from_All, All-push, All-filter}
 use Rattle.std.proofs.lemmas.Nat.{mul-add-lt, div-mul-add, mod-mul-add}
-use Rattle.std.proofs.lemmas.Option.{slice_get-get_or, slice_get_within}
+use Rattle.std.proofs.lemmas.Option.{slice_get-get_or}
 use Rattle.world_units.specs.declared.cell.CPos.{CPos}
 use Rattle.world_units.specs.Cells.{same_cell}
 use Rattle.world_units.specs.CellLemmas.{cell_decides}
@@ -16,11 +16,10 @@ use Rattle.game_model.specs.declared.limits.TheConstants.{MAX_ACTORS}
 use Rattle.game_model.specs.Grid.{Grid, IsOn, place_of, with_cell as with_value}
 use Rattle.game_model.specs.World.{actor_of, is_alive, is_occupied}
 use Rattle.actor_table.specs.ActorList.{holder_of, changed_at, with_body, with_cell, without_id, without_dead_at, CellsDiffer}
-use Rattle.actor_table.specs.Rising.{RisesFrom}
 use Rattle.actor_table.specs.Table.{Table, IsTable, IsIndexed}
 use Rattle.actor_table.proofs.Rising.{rises_pair}
 use Rattle.actor_table.proofs.Places.{without_absent}
-use Rattle.actor_table.proofs.Holders.{bool_cases, or_false, true_false, cell_cases, ActorsRise, rising_absent, holder_free, holder_is_some, holder_push, holder_without, holder_moved, holder_body, differ_body, differ_push, differ_filter, differ_moved}
+use Rattle.actor_table.proofs.Holders.{bool_cases, or_false, true_false, cell_cases, ActorsRise, rising_absent, holder_push, holder_without, holder_moved, holder_body, differ_body, differ_push, differ_filter, differ_moved}
 
 apart : (i j : ℕ) → i ≢ j → eqb i j ≡ false
 apart i j differs = grind (arith, nat_tests)
@@ -54,6 +53,7 @@ same_place w q p q_on p_on = elim (cell_cases q p) [
   where
     self_same : (n : ℕ) → eqb n n ≡ true
     self_same n = grind (arith, nat_tests)
+
     clash : place_of w q ≡ place_of w p → same_cell q p ≡ false → ⊥
     clash hit other =
         let rows : q.y ≡ p.y = sym (div-mul-add q.y w q.x q_on) ∙ ap (λ n. n / w) hit ∙ div-mul-add p.y w p.x p_on in
@@ -170,6 +170,7 @@ dead_taken least (b ∷ actors) (suc i) a rises at dead = rw (passed b.id a.id (
   where
     passed : (n m : ℕ) → n + 1 ≤ m → eqb n m ≡ false
     passed n m lt = grind (arith, nat_tests)
+
     later : (least : ℕ) (xs : List Actor) (i : ℕ) (x : Actor) → ActorsRise least xs → slice_get xs i ≡ Some x → least ≤ x.id
     later least [] i x rises at = absurd (cc)
     later least (y ∷ xs) zero x rises at = let same : y ≡ x = cc in subst (λ (z : Actor). least ≤ z.id) same rises.0

@@ -1,6 +1,6 @@
 -- Lists of actors: who holds a cell, and what changes of one actor make of the list.
-use Rattle.std.specs.Prelude.{◌≡◌, ℕ, suc, ◌==◌, not, false, List, [], ◌∷◌, ◌++◌, filter, take, drop}
-use Rattle.std.specs.Prelude.{Option, if◌then◌else◌}
+use Rattle.std.specs.Prelude.{◌≡◌, ℕ, suc, ◌==◌, not, false, List, [], ◌∷◌, ◌++◌}
+use Rattle.std.specs.Prelude.{filter, take, drop, Option, if◌then◌else◌}
 use Rattle.std.specs.Option.{option_map}
 use Rattle.std.specs.List.{find}
 use Rattle.world_units.specs.declared.cell.CPos.{CPos}

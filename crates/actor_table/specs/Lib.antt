@@ -3,3 +3,4 @@ pub mod ActorList
 pub mod Places
 pub mod Search
 pub mod Table
+pub mod Kinds

@@ -1,6 +1,5 @@
 -- Where actors stand in a slab, and the list that they are seen as.
-use Rattle.std.specs.Prelude.{◌≡◌, ℕ, ◌≤◌, List, [], ◌∷◌, map, length, Option, Some, None}
-use Rattle.std.specs.Prelude.{slice_index_or}
+use Rattle.std.specs.Prelude.{◌≡◌, ℕ, ◌≤◌, List, [], ◌∷◌, map, length, Some}
 use Rattle.std.specs.Option.{unwrap_or}
 use Rattle.slab.specs.Slab.{Slab, slab_len, get}
 use Rattle.game_model.specs.declared.actor.Actor.{Actor}

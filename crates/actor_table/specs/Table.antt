@@ -6,6 +6,8 @@ use Rattle.game_model.specs.declared.actor.Actor.{Actor}
 use Rattle.game_model.specs.declared.limits.TheConstants.{MAX_ACTORS}
 use Rattle.game_model.specs.Grid.{Grid, IsOn, place_of}
 use Rattle.actor_table.specs.ActorList.{holder_of, CellsDiffer}
+use Rattle.actor_table.specs.Kinds.{ListsActors}
+use Rattle.actor_table.specs.declared.listed.Listed.{Listed}
 
 pub record Table : Type 0 where
   pub width : ℕ
@@ -26,3 +28,9 @@ pub record IsIndexed (cells : Grid (Option ℕ)) (actors : List Actor) : Type 0 
   pub cells_differ : CellsDiffer actors
   pub held : (p : CPos) → IsOn cells.width cells.height p
       → slice_get cells.cells (place_of cells.width p) ≡ Some (holder_of actors p)
+
+-- The cells and the entries by owner and kind tell of these actors.
+pub record IsTied (cells : Grid (Option ℕ)) (entries : List Listed) (actors : List Actor)
+    : Type 0 where
+  pub indexed : IsIndexed cells actors
+  pub listed : ListsActors entries actors

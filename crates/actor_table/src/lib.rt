@@ -7,8 +7,14 @@
 #![tactic(auto)]
 
 mod cell_index;
+mod kind_index;
+mod listed;
 mod place;
 mod roster;
 mod table;
 
+pub use listed::Listed;
 pub use table::ActorTable;
+
+#[cfg(test)]
+mod tests;

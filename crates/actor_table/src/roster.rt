@@ -36,6 +36,7 @@ impl Model for Roster {
 }
 
 impl Roster {
+    ghost use Rattle.actor_table.specs.Kinds.{owner_and_kind_of};
     ghost use Rattle.actor_table.specs.Search.{IsAt, IsAbsent};
 
     /// No actors, with room for [`MAX_ACTORS`]. Out of memory is its only error.
@@ -112,6 +113,16 @@ impl Roster {
         ensures { option_map (λ (a : Actor). a.cell) (actor_of self.now id) ≡ Some result }
     {
         self.slots[self.order[self.place_of(id)].key].cell
+    }
+
+    /// The owner and the kind of the actor of an id, which is there.
+    pub(crate) fn owner_and_kind(&self, id: u32) -> (u8, u16)
+        requires { IsSome (actor_of self.now id) }
+        ensures value { option_map owner_and_kind_of (actor_of self.now id) ≡ Some result }
+        ensures rises { RisesFrom (λ (a : Actor). a.id) 0 self.now }
+    {
+        let a = &self.slots[self.order[self.place_of(id)].key];
+        (a.body.owner, a.kind)
     }
 
     /// Adds an actor last. There is room, and its id is above all ids.

@@ -1,11 +1,14 @@
-ghost use Rattle.std.specs.Prelude.{◌≡◌, ◌<◌, [], ◌∷◌, ◌++◌, length, false, Some, is_some, slice_get};
-ghost use Rattle.std.specs.Prelude.{◌↔◌, filter, IfOk, IsSome, IsTrue};
+ghost use Rattle.std.specs.Prelude.{◌≡◌, ◌<◌, [], ◌∷◌, ◌++◌, length, false, Some, is_some};
+ghost use Rattle.std.specs.Prelude.{◌↔◌, slice_get, filter, map, IfOk, IsSome, IsTrue};
 ghost use Rattle.std.specs.List.{All};
 ghost use Rattle.std.specs.Option.{option_copied, option_map};
 ghost use Rattle.game_model.specs.World.{actor_of, ids_of, is_alive, is_occupied};
-ghost use Rattle.actor_table.specs.ActorList.{holder_of, with_body, with_cell, without_dead_at, without_id};
+ghost use Rattle.actor_table.specs.ActorList.{holder_of, with_body, with_cell};
+ghost use Rattle.actor_table.specs.ActorList.{without_dead_at, without_id};
 
 use crate::cell_index::CellIndex;
+use crate::kind_index::KindIndex;
+use crate::listed::Listed;
 use crate::roster::Roster;
 use base::NoMemory;
 use game_model::{Actor, ActorList, Body, MAX_ACTORS};
@@ -18,20 +21,22 @@ use world_units::CPos;
 pub struct ActorTable {
     roster: Roster,
     cells: CellIndex,
+    kinds: KindIndex,
 }
 
 impl Model for ActorTable {
-    ghost use Rattle.actor_table.specs.Table.{Table, IsIndexed};
+    ghost use Rattle.actor_table.specs.Table.{Table, IsTied};
 
     ghost Value = { Table };
 
     ghost view = { λ t. record { width = t.cells.width; height = t.cells.height; actors = t.roster } };
 
-    ghost invariant = { λ t. IsIndexed t.cells t.roster };
+    ghost invariant = { λ t. IsTied t.cells t.kinds t.roster };
 }
 
 impl ActorTable {
     ghost use Rattle.actor_table.specs.Table.{IsTable};
+    ghost use Rattle.actor_table.specs.Kinds.{ids_of_kind, listed_id};
 
     /// No actors on a map of this size, with room for [`MAX_ACTORS`]. Out of memory is its only
     /// error.
@@ -41,6 +46,7 @@ impl ActorTable {
         Ok(ActorTable {
             roster: Roster::create(alloc)?,
             cells: CellIndex::create(alloc, w, h)?,
+            kinds: KindIndex::create(alloc)?,
         })
     }
 
@@ -85,8 +91,8 @@ impl ActorTable {
         self.roster.get(id)
     }
 
-    /// The id of the actor that holds a cell, at once. `None` exactly where there is none, as at any
-    /// cell off the map.
+    /// The id of the actor that holds a cell, at once. `None` exactly where there is none, as at
+    /// any cell off the map.
     pub fn at_cell(&self, p: CPos) -> Option<u32>
         ensures value { result ≡ holder_of self.now.actors p }
         ensures occupied { is_some result ≡ is_occupied self.now.actors p }
@@ -96,6 +102,13 @@ impl ActorTable {
         } else {
             None
         }
+    }
+
+    /// The actors of an owner and a kind, by rising id, in logarithmic time.
+    pub fn of_kind(&self, owner: u8, kind: u16) -> &[Listed]
+        ensures { map listed_id result.now ≡ ids_of_kind self.now.actors owner kind }
+    {
+        self.kinds.of(owner, kind)
     }
 
     /// Adds an actor. There is room, its cell is on the map and free, and its id is above all ids.
@@ -108,6 +121,7 @@ impl ActorTable {
         ensures { self.new ≡ record self.old { actors = self.old.actors ++ a ∷ [] } }
     {
         self.cells.set(a.cell, Some(a.id));
+        self.kinds.insert(a.body.owner, a.kind, a.id);
         self.roster.push(a);
     }
 
@@ -119,15 +133,19 @@ impl ActorTable {
     {
         let a = self.roster.remove(id)?;
         self.cells.set(a.cell, None);
+        self.kinds.remove(id);
         Some(a)
     }
 
-    /// Exchanges the body of the actor of an id, which is there, with this one, in logarithmic time.
+    /// Exchanges the body of the actor of an id, which is there, with this one. It takes
+    /// logarithmic time, and one pass over the actors where the two have different owners.
     pub fn swap_body(&mut self, id: u32, body: &mut Body)
         requires { IsSome (actor_of self.old.actors id) }
         ensures given { self.new ≡ record self.old { actors = with_body self.old.actors id body.old } }
         ensures taken { option_map (λ (a : Actor). a.body) (actor_of self.old.actors id) ≡ Some body.new }
     {
+        let (owner, kind) = self.roster.owner_and_kind(id);
+        self.kinds.set_owner(owner, body.owner, kind, id);
         self.roster.swap_body(id, body);
     }
 

@@ -1,4 +1,3 @@
-use Rattle.std.proofs.Common.{refl, arith}
 use Rattle.actor_table.proofs.Places.{actors_rise}
 use Rattle.actor_table.proofs.RosterCalls.{places_count, key_here, actor_here}
 use Rattle.actor_table.proofs.roster.Roster.actor_at.Goals as goal

@@ -1,4 +1,4 @@
-use Rattle.std.proofs.Common.{Some, refl, sym, ap, ◌∙◌, arith}
+use Rattle.std.proofs.Common.{sym, ap, ◌∙◌, arith}
 use Rattle.std.specs.Option.{option_map}
 use Rattle.game_model.specs.declared.actor.Actor.{Actor}
 use Rattle.actor_table.proofs.RosterCalls.{at_within, found_actor, found_key}

@@ -1,5 +1,5 @@
-use Rattle.std.proofs.Common.{ℕ, ◌<◌, length, refl, arith}
-use Rattle.actor_table.proofs.RosterCalls.{key_there, next_actor}
+use Rattle.std.proofs.Common.{◌<◌, length, arith}
+use Rattle.actor_table.proofs.RosterCalls.{key_there}
 use Rattle.actor_table.proofs.roster.Roster.copy.Goals as goal
 
 pub index-requires : goal.index-requires

@@ -1,4 +1,3 @@
-use Rattle.std.proofs.Common.{arith}
 use Rattle.actor_table.proofs.Places.{absent_is_none}
 use Rattle.actor_table.proofs.roster.Roster.place_of.Goals as goal
 

@@ -1,5 +1,5 @@
-use Rattle.std.proofs.Common.{refl, ap, arith}
-use Rattle.actor_table.proofs.RosterCalls.{Pushed, pushed}
+use Rattle.std.proofs.Common.{refl}
+use Rattle.actor_table.proofs.RosterCalls.{pushed}
 use Rattle.actor_table.specs.declared.place.Place.{Place}
 use Rattle.actor_table.proofs.roster.Roster.push.Goals as goal
 

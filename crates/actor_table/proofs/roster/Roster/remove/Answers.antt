@@ -1,4 +1,4 @@
-use Rattle.std.proofs.Common.{Some, sym, ap, ◌∙◌, arith}
+use Rattle.std.proofs.Common.{sym, ◌∙◌, arith}
 use Rattle.actor_table.proofs.Places.{absent_is_none, actors_rise, without_absent}
 use Rattle.actor_table.proofs.RosterCalls.{at_within, found_actor, found_key, removed}
 use Rattle.actor_table.proofs.roster.Roster.remove.Goals as goal

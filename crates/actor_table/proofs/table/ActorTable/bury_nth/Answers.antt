@@ -1,7 +1,6 @@
 use Rattle.std.proofs.Common.{◌≡◌, true, false, ap, arith}
 use Rattle.std.proofs.lemmas.Bool.Decides.{nat_tests}
 use Rattle.game_model.specs.World.{is_alive}
-use Rattle.actor_table.specs.Table.{Table}
 use Rattle.actor_table.proofs.TableCalls.{dead_taken, living_stays}
 use Rattle.actor_table.proofs.table.ActorTable.bury_nth.Goals as goal
 

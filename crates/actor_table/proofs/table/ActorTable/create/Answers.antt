@@ -1,5 +1,7 @@
 use Rattle.actor_table.proofs.TableCalls.{indexed_none}
+use Rattle.actor_table.proofs.KindLists.{lists_none}
 use Rattle.actor_table.proofs.table.ActorTable.create.Goals as goal
 
 pub invariant_of-result : goal.invariant_of-result
-invariant_of-result c = rw (c.in_ok-create-2.ensures, c.in_ok-create.ensures) (indexed_none c.args.w c.args.h)
+invariant_of-result c =
+    rw (c.in_ok-create-2.ensures, c.in_ok-create.ensures, c.in_ok-create-3.ensures) (record { indexed = indexed_none c.args.w c.args.h; listed = lists_none })

@@ -7,4 +7,4 @@ pub returns-clause-list : goal.returns-clause-list
 returns-clause-list c =
     let held = c.self.inside in
     let limit : length held.roster ≤ MAX_ACTORS = omega (arith, c.len.ensures.value, c.len.ensures.limit) in
-    rw (← c.self.view_is) (table_facts held.cells held.roster c.self.invariant c.len.ensures.rises limit)
+    rw (← c.self.view_is) (table_facts held.cells held.roster c.self.invariant.indexed c.len.ensures.rises limit)

@@ -1,5 +1,6 @@
 use Rattle.std.proofs.Common.{sym, ◌∙◌}
 use Rattle.actor_table.proofs.TableCalls.{found_on, indexed_without, without_none}
+use Rattle.actor_table.proofs.KindLists.{lists_without}
 use Rattle.actor_table.proofs.table.ActorTable.remove.Goals as goal
 
 pub invariant_of-self : goal.invariant_of-self
@@ -10,14 +11,18 @@ invariant_of-self c =
 pub set-requires-clause-column : goal.set-requires-clause-column
 set-requires-clause-column c =
     let held = c.self.inside in
-    (found_on held.cells held.roster c.args.id c.in_ok-a.a c.self.invariant (sym c.remove.ensures.value ∙ c.in_ok-a.was)).column
+    (found_on held.cells held.roster c.args.id c.in_ok-a.a c.self.invariant.indexed (sym c.remove.ensures.value ∙ c.in_ok-a.was)).column
 
 pub set-requires-clause-row : goal.set-requires-clause-row
 set-requires-clause-row c =
     let held = c.self.inside in
-    (found_on held.cells held.roster c.args.id c.in_ok-a.a c.self.invariant (sym c.remove.ensures.value ∙ c.in_ok-a.was)).row
+    (found_on held.cells held.roster c.args.id c.in_ok-a.a c.self.invariant.indexed (sym c.remove.ensures.value ∙ c.in_ok-a.was)).row
 
 pub invariant_of-self-2 : goal.invariant_of-self-2
 invariant_of-self-2 c =
     let held = c.self.inside in
-    rw (c.set.ensures, c.remove.ensures.rest) (indexed_without held.cells held.roster c.args.id c.in_ok-a.a c.self.invariant c.remove.ensures.rises (sym c.remove.ensures.value ∙ c.in_ok-a.was))
+    let found = sym c.remove.ensures.value ∙ c.in_ok-a.was in
+    rw (c.set.ensures, c.remove.ensures.rest, c.remove-2.ensures.rest) (record {
+      indexed = indexed_without held.cells held.roster c.args.id c.in_ok-a.a c.self.invariant.indexed c.remove.ensures.rises found;
+      listed = lists_without held.kinds held.roster c.args.id c.in_ok-a.a c.self.invariant.listed c.remove.ensures.rises found;
+    })
