@@ -1,0 +1,5 @@
+pub mod Walks
+pub mod Values
+pub mod Tolls
+pub mod Labels
+pub mod Held
