@@ -20,7 +20,7 @@ apart w p q here there same =
     let made : ℕ → ℕ → CPos = λ x y. record { x = x; y = y } in
     ap₂ made parts.1 parts.0
 
-is_on-true : (w h : ℕ) (p : CPos) → IsOn w h p → is_on w h p ≡ true
+pub is_on-true : (w h : ℕ) (p : CPos) → IsOn w h p → is_on w h p ≡ true
 is_on-true w h p on = let a : p.x < w = on.column in let b : p.y < h = on.row in grind (arith, nat_tests)
 
 pub is_on-on : (w h : ℕ) (p : CPos) → is_on w h p ≡ true → IsOn w h p

@@ -12,9 +12,11 @@ pub record Distances : Type 0 where
   pub labels : Grid ℕ
   pub level : ℕ
 
--- There is a number for each cell.
+-- There is a number for each cell, and the sides fit a byte.
 pub record IsFull (grid : Grid ℕ) : Type 0 where
   pub size : length grid.cells ≡ grid.width * grid.height
+  pub wide : grid.width < 256
+  pub high : grid.height < 256
 
 -- The label of a cell. Off the map there is none.
 abbrev pub label_of : Grid ℕ → CPos → ℕ

@@ -3,3 +3,4 @@ pub mod Values
 pub mod Tolls
 pub mod Labels
 pub mod Held
+pub mod Steps

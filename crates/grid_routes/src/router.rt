@@ -31,7 +31,7 @@ impl Router {
     fn find(&mut self, map: &Map, blocks: &Blocks, costs: &Costs, from: CPos, goal: CPos) {
         self.search.begin(map, blocks, costs, goal);
         self.computed = self.computed.saturating_add(1);
-        self.search.settle(from);
+        self.search.settle(from, goal);
     }
 
     /// The least direction whose allowed step begins a walk of least cost to the goal. `None` comes

@@ -1,3 +1,13 @@
+ghost use Rattle.std.specs.Prelude.{◌≡◌, ◌≢◌, ℕ, ◌+◌, ◌*◌, ◌%◌, ◌^◌, ◌<◌, ◌≤◌, false, Some, IfOk, IsTrue, IsFalse, MatchOption, length};
+ghost use Rattle.world_units.specs.declared.cell.CPos.{CPos};
+ghost use Rattle.world_units.specs.Directions.{opposite_of, step_of};
+ghost use Rattle.game_model.specs.Grid.{IsOn, HasSize};
+ghost use Rattle.grid_routes.specs.Walks.{IsStep, land_of};
+ghost use Rattle.grid_routes.specs.Tolls.{toll_in};
+ghost use Rattle.grid_routes.specs.Labels.{IsFull, label_of};
+ghost use Rattle.grid_routes.specs.Held.{IsAt};
+ghost use Rattle.grid_routes.specs.Steps.{AreQueued, HasLabel, IsClear, IsExpanded, IsFilled, IsNext, IsSearch, Lowers, rings_left};
+
 use crate::buckets::{BUCKETS, Buckets};
 use crate::field::{Field, NONE};
 use crate::tolls::Tolls;
@@ -43,7 +53,17 @@ impl Search {
     }
 
     /// Offers a cell the walk by its step in direction `d`, which enters a cell of this level.
-    fn relax(&mut self, p: CPos, d: u8, q: CPos, level: u32) {
+    fn relax(&mut self, p: CPos, d: u8, q: CPos, level: u32)
+        requires direction { d < 8 }
+        requires on { IsOn self.old.field.labels.width self.old.field.labels.height p }
+        requires enters { step_of p d ≡ Some q }
+        requires from { label_of self.old.field.labels q ≡ level }
+        requires low { level < 2 ^ 31 }
+        ensures tolls { self.new.tolls ≡ self.old.tolls }
+        ensures level { self.new.field.level ≡ self.old.field.level }
+        ensures lowers { Lowers (toll_in self.old.tolls) level self.old.field.labels self.old.buckets self.new.field.labels self.new.buckets }
+        ensures done { (k : ℕ) → IsStep (toll_in self.old.tolls) p d q k → label_of self.new.field.labels p ≤ level + k }
+    {
         let fare = self.tolls.fare(p, d, q);
         if fare > 0 && level + fare < self.field.label(p) {
             self.field.lower(p, level + fare);
@@ -51,22 +71,47 @@ impl Search {
         }
     }
 
-    /// Offers each neighbour of a cell of this level the walk that enters the cell.
-    fn expand(&mut self, q: CPos, level: u32) {
-        if self.tolls.toll(q) == 0 {
-            return;
-        }
-        for d in 0..DIRECTIONS {
-            if let Some(p) = step(q, d) {
-                if self.field.has(p) {
-                    self.relax(p, opposite(d), q, level);
-                }
+    /// Offers the neighbour in direction `d` the walk that enters a cell of this level.
+    fn offer(&mut self, q: CPos, d: u8, level: u32)
+        requires direction { d < 8 }
+        requires from { label_of self.old.field.labels q ≡ level }
+        requires low { level < 2 ^ 31 }
+        ensures tolls { self.new.tolls ≡ self.old.tolls }
+        ensures level { self.new.field.level ≡ self.old.field.level }
+        ensures lowers { Lowers (toll_in self.old.tolls) level self.old.field.labels self.old.buckets self.new.field.labels self.new.buckets }
+        ensures done { (p : CPos) (k : ℕ) → step_of q d ≡ Some p → IsOn self.old.field.labels.width self.old.field.labels.height p → IsStep (toll_in self.old.tolls) p (opposite_of d) q k → label_of self.new.field.labels p ≤ level + k }
+    {
+        if let Some(p) = step(q, d) {
+            if self.field.has(p) {
+                self.relax(p, opposite(d), q, level);
             }
         }
     }
 
+    /// Offers each neighbour of a cell of this level the walk that enters the cell.
+    fn expand(&mut self, q: CPos, level: u32)
+        requires full { IsFull self.old.field.labels }
+        requires from { label_of self.old.field.labels q ≡ level }
+        requires low { level < 2 ^ 31 }
+        ensures tolls { self.new.tolls ≡ self.old.tolls }
+        ensures level { self.new.field.level ≡ self.old.field.level }
+        ensures lowers { Lowers (toll_in self.old.tolls) level self.old.field.labels self.old.buckets self.new.field.labels self.new.buckets }
+        ensures done { IsExpanded (toll_in self.old.tolls) self.new.field.labels level q }
+    {
+        for d in 0..DIRECTIONS {
+            self.offer(q, d, level);
+        }
+    }
+
     /// Expands the cells of this level.
-    fn ring(&mut self, level: u32) {
+    fn ring(&mut self, level: u32)
+        requires full { IsFull self.old.field.labels }
+        requires low { level < 2 ^ 31 }
+        ensures tolls { self.new.tolls ≡ self.old.tolls }
+        ensures level { self.new.field.level ≡ self.old.field.level }
+        ensures lowers { Lowers (toll_in self.old.tolls) level self.old.field.labels self.old.buckets self.new.field.labels self.new.buckets }
+        ensures done { (i : ℕ) (q : CPos) → IsAt self.old.buckets (level % 71) i q → label_of self.old.field.labels q ≡ level → IsExpanded (toll_in self.old.tolls) self.new.field.labels level q }
+    {
         let bucket = (level % BUCKETS) as usize;
         for i in 0..self.buckets.len(bucket) {
             let q = self.buckets.get(bucket, i);
@@ -74,13 +119,17 @@ impl Search {
                 self.expand(q, level);
             }
         }
-        self.buckets.clear(bucket);
     }
 
     /// Whether a cell of a bucket has this label.
-    fn has_label(&self, bucket: usize, label: u32) -> bool {
+    fn has_label(&self, bucket: usize, label: u32) -> bool
+        requires { bucket < 71 }
+        ensures found { IsTrue result → HasLabel self.now.field.labels label }
+        ensures missing { IsFalse result → (i : ℕ) (p : CPos) → IsAt self.now.buckets bucket i p → label_of self.now.field.labels p ≢ label }
+    {
         for i in 0..self.buckets.len(bucket) {
-            if self.field.label(self.buckets.get(bucket, i)) == label {
+            let p = self.buckets.get(bucket, i);
+            if self.field.label(p) == label {
                 return true;
             }
         }
@@ -88,9 +137,13 @@ impl Search {
     }
 
     /// The least label from the level on, if any cell has one.
-    fn next_level(&self) -> Option<u32> {
+    fn next_level(&self) -> Option<u32>
+        requires { self.now.field.level < 2 ^ 30 }
+        ensures { MatchOption result (IsClear self.now.field self.now.buckets (self.now.field.level + 71)) (λ label. IsNext self.now.field self.now.buckets label) }
+    {
+        let level = self.field.level();
         for k in 0..BUCKETS {
-            let label = self.field.level() + k;
+            let label = level + k;
             if self.has_label((label % BUCKETS) as usize, label) {
                 return Some(label);
             }
@@ -99,7 +152,15 @@ impl Search {
     }
 
     /// Fills the buckets from the labels.
-    fn refill(&mut self) {
+    fn refill(&mut self)
+        requires full { IsFull self.old.field.labels }
+        requires room { self.old.buckets.room ≡ length self.old.field.labels.cells }
+        ensures tolls { self.new.tolls ≡ self.old.tolls }
+        ensures field { self.new.field ≡ self.old.field }
+        ensures room { self.new.buckets.room ≡ self.old.buckets.room }
+        ensures whole { self.new.buckets.lost ≡ false }
+        ensures queued { AreQueued self.new.field self.new.buckets }
+    {
         self.buckets.clear_all();
         for y in 0..self.field.height() {
             self.refill_row(y);
@@ -107,34 +168,93 @@ impl Search {
     }
 
     /// Fills the buckets from the labels of a row.
-    fn refill_row(&mut self, y: u8) {
+    fn refill_row(&mut self, y: u8)
+        requires full { IsFull self.old.field.labels }
+        requires room { self.old.buckets.room ≡ length self.old.field.labels.cells }
+        requires row { y < self.old.field.labels.height }
+        requires filled { IsFilled self.old.field self.old.buckets y 0 }
+        ensures tolls { self.new.tolls ≡ self.old.tolls }
+        ensures field { self.new.field ≡ self.old.field }
+        ensures room { self.new.buckets.room ≡ self.old.buckets.room }
+        ensures filled { IsFilled self.new.field self.new.buckets (y + 1) 0 }
+    {
         for x in 0..self.field.width() {
-            let p = CPos { x, y };
-            let label = self.field.label(p);
-            if self.field.level() <= label && label < NONE {
-                self.buckets.push((label % BUCKETS) as usize, p);
-            }
+            self.refill_cell(CPos { x, y });
         }
     }
 
-    /// Raises the level by a ring, or to the end where no cell is left.
-    fn advance(&mut self) {
+    /// Puts a cell into its bucket, if its label is at least the level.
+    fn refill_cell(&mut self, p: CPos)
+        requires full { IsFull self.old.field.labels }
+        requires room { self.old.buckets.room ≡ length self.old.field.labels.cells }
+        requires on { IsOn self.old.field.labels.width self.old.field.labels.height p }
+        requires filled { IsFilled self.old.field self.old.buckets p.y p.x }
+        ensures tolls { self.new.tolls ≡ self.old.tolls }
+        ensures field { self.new.field ≡ self.old.field }
+        ensures room { self.new.buckets.room ≡ self.old.buckets.room }
+        ensures filled { IsFilled self.new.field self.new.buckets p.y (p.x + 1) }
+    {
+        let label = self.field.label(p);
+        if self.field.level() <= label && label < NONE {
+            self.buckets.push((label % BUCKETS) as usize, p);
+        }
+    }
+
+    /// Fills the buckets where a cell may be missing.
+    fn make_whole(&mut self, goal: CPos)
+        requires { IsSearch (record { toll = toll_in self.old.tolls; goal = goal }) self.old.field self.old.buckets }
+        ensures tolls { self.new.tolls ≡ self.old.tolls }
+        ensures field { self.new.field ≡ self.old.field }
+        ensures search { IsSearch (record { toll = toll_in self.new.tolls; goal = goal }) self.new.field self.new.buckets }
+        ensures whole { self.new.buckets.lost ≡ false }
+    {
         if self.buckets.has_lost() {
             self.refill();
         }
+    }
+
+    /// Expands the ring of the least label and raises the level above it.
+    fn pass(&mut self, goal: CPos, label: u32)
+        requires search { IsSearch (record { toll = toll_in self.old.tolls; goal = goal }) self.old.field self.old.buckets }
+        requires whole { self.old.buckets.lost ≡ false }
+        requires next { IsNext self.old.field self.old.buckets label }
+        requires open { self.old.field.level < NONE }
+        ensures tolls { self.new.tolls ≡ self.old.tolls }
+        ensures search { IsSearch (record { toll = toll_in self.new.tolls; goal = goal }) self.new.field self.new.buckets }
+        ensures size { HasSize self.old.field.labels.width self.old.field.labels.height self.new.field.labels }
+        ensures fewer { rings_left self.new.field < rings_left self.old.field }
+    {
+        self.ring(label);
+        self.buckets.clear((label % BUCKETS) as usize);
+        self.field.raise(label + 1);
+    }
+
+    /// Raises the level by a ring, or to the end where no cell is left.
+    fn advance(&mut self, goal: CPos)
+        requires search { IsSearch (record { toll = toll_in self.old.tolls; goal = goal }) self.old.field self.old.buckets }
+        requires open { self.old.field.level < NONE }
+        ensures tolls { self.new.tolls ≡ self.old.tolls }
+        ensures search { IsSearch (record { toll = toll_in self.new.tolls; goal = goal }) self.new.field self.new.buckets }
+        ensures size { HasSize self.old.field.labels.width self.old.field.labels.height self.new.field.labels }
+        ensures fewer { rings_left self.new.field < rings_left self.old.field }
+    {
+        self.make_whole(goal);
         match self.next_level() {
-            Some(level) => {
-                self.ring(level);
-                self.field.raise(level + 1);
-            }
+            Some(label) => self.pass(goal, label),
             None => self.field.raise(NONE),
         }
     }
 
     /// Goes on until the label of a cell is final.
-    pub(crate) fn settle(&mut self, from: CPos) {
+    pub(crate) fn settle(&mut self, from: CPos, goal: CPos)
+        requires search { IsSearch (record { toll = toll_in self.old.tolls; goal = goal }) self.old.field self.old.buckets }
+        ensures tolls { self.new.tolls ≡ self.old.tolls }
+        ensures search { IsSearch (record { toll = toll_in self.new.tolls; goal = goal }) self.new.field self.new.buckets }
+        ensures size { HasSize self.old.field.labels.width self.old.field.labels.height self.new.field.labels }
+        ensures settled { label_of self.new.field.labels from ≤ self.new.field.level }
+    {
         while self.field.level() < self.field.label(from) {
-            self.advance();
+            self.advance(goal);
         }
     }
 
