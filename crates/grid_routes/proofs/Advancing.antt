@@ -63,9 +63,9 @@ lost-or : (b : Bool) → (b ≡ false) ⊎ (b ≡ true)
 lost-or true = inr refl
 lost-or false = inl refl
 
-no-both : (b : Bool) → b ≡ false → b ≡ true → ⊥
-no-both true no yes = absurd (cc)
-no-both false no yes = absurd (cc)
+pub no-both : (b : Bool) → b ≡ false → b ≡ true → ⊥
+no-both true off on = absurd (cc)
+no-both false off on = absurd (cc)
 
 -- A cell below the next level is below the old one.
 pub skipped :
@@ -79,12 +79,12 @@ skipped land f s l search whole clear p below less =
         absurd (clear.none (label_of f.labels p) held.place p high below held.at refl)
     ]
 
-module _ (toll : CPos → ℕ) (goal : CPos) (f : Distances) (s : Shelves) (l : ℕ) (g : Grid ℕ) (t : Shelves) (search : IsSearch (record { toll = toll; goal = goal }) f s) (whole : s.lost ≡ false) (next : IsNext f s l) (low : Lowers toll l f.labels s g t) (done : (i : ℕ) (q : CPos) → IsAt s (l % 71) i q → label_of f.labels q ≡ l → IsExpanded toll g l q) (open : f.level < NONE) where
+module _ (toll : CPos → ℕ) (goal : CPos) (f : Distances) (s : Shelves) (l : ℕ) (g : Grid ℕ) (t : Shelves) (search : IsSearch (record { toll = toll; goal = goal }) f s) (whole : s.lost ≡ false) (next : IsNext f s l) (low : Lowers toll l f.labels s g t) (done : (i : ℕ) (q : CPos) → IsAt s (l % 71) i q → label_of f.labels q ≡ l → IsExpanded toll g l q) (unfinished : f.level < NONE) where
   few : length f.labels.cells < 65536
   few = omega (arith, search.full.size, mul-lt f.labels.width f.labels.height 256 256 search.full.wide search.full.high)
 
   bound : f.level + 71 * open_count f.level f.labels ≤ 71 * length f.labels.cells
-  bound = search.right.rises open
+  bound = search.right.rises unfinished
 
   l-small : l < NONE
   l-small = omega (arith, few, bound, next.near)
@@ -93,7 +93,7 @@ module _ (toll : CPos → ℕ) (goal : CPos) (f : Distances) (s : Shelves) (l : 
   some-open =
       omega (arith, open-dropped f.labels l search.full l-small next.cell, open-fewer f.labels f.level l next.from)
 
-  pub pass-low : l + 70 < 71 * length f.labels.cells
+  pub pass-low : l < 71 * length f.labels.cells
   pass-low = omega (arith, some-open, bound, next.near)
 
   new-land : Land
@@ -179,6 +179,12 @@ module _ (toll : CPos → ℕ) (goal : CPos) (f : Distances) (s : Shelves) (l : 
       goal = record { column = rw low.size.width search.goal.column; row = rw low.size.height search.goal.row };
       full = full-stays toll l f.labels s g t low search.full;
       room = low.room ∙ search.room ∙ sym low.cells;
+      fair = record {
+        inside = λ q allowed.
+          let on = search.fair.inside q allowed in
+          record { column = rw low.size.width on.column; row = rw low.size.height on.row };
+        cheap = search.fair.cheap;
+      };
       right = right;
       queued = queued;
     }
@@ -199,6 +205,7 @@ dry land f s search whole clear = record {
     goal = search.goal;
     full = search.full;
     room = search.room;
+    fair = search.fair;
     right = record {
       goal = search.right.goal;
       walks = search.right.walks;
@@ -214,7 +221,6 @@ dry land f s search whole clear = record {
 
 pub dry-fewer : (f : Distances) → f.level < NONE → rings_left (record { labels = f.labels; level = NONE }) < rings_left f
 unfolding rings_left
-dry-fewer f open =
+dry-fewer f unfinished =
     let a : nat_lt f.level NONE ≡ true = grind (arith, nat_tests) in
-    let b : nat_lt NONE NONE ≡ false = refl in
-    rw (a, b) (omega arith)
+    rw a (omega arith)

@@ -1,4 +1,6 @@
 pub mod Advancing
+pub mod Beginning
+pub mod Best
 pub mod Cells
 pub mod Directions
 pub mod Expanding
@@ -6,3 +8,4 @@ pub mod Filling
 pub mod Lowering
 pub mod Rows
 pub mod Shelves
+pub mod Walking

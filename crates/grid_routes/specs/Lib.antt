@@ -4,3 +4,4 @@ pub mod Tolls
 pub mod Labels
 pub mod Held
 pub mod Steps
+pub mod Routing

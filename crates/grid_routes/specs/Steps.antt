@@ -1,10 +1,11 @@
 -- What the steps of a search change.
-use Rattle.std.specs.Prelude.{◌≡◌, ℕ, ◌+◌, ◌*◌, ◌%◌, ◌<◌, ◌≤◌, ◌⊎◌, true, false, length, nat_lt, suc}
+use Rattle.std.specs.Prelude.{◌≡◌, ℕ, ◌+◌, ◌*◌, ◌%◌, ◌<◌, ◌≤◌, ◌⊎◌, true, false, length, nat_lt, suc, Option, Some, None}
 use Rattle.std.specs.Prelude.{if◌then◌else◌}
 use Rattle.world_units.specs.declared.cell.CPos.{CPos}
 use Rattle.game_model.specs.Grid.{Grid, IsOn, HasSize}
 use Rattle.grid_routes.specs.declared.field.TheConstants.{NONE}
-use Rattle.grid_routes.specs.Walks.{Land, IsStep}
+use Rattle.grid_routes.specs.declared.route.Route.{Route}
+use Rattle.grid_routes.specs.Walks.{Land, HasNoWalk, IsBest, IsRouteOver, IsStep}
 use Rattle.grid_routes.specs.Labels.{Distances, IsFull, IsRight, label_of, open_count}
 use Rattle.grid_routes.specs.Held.{Shelves, IsAt, IsHeld, len_of}
 
@@ -44,12 +45,18 @@ pub record AreQueued (field : Distances) (shelves : Shelves) : Type 0 where
     (p : CPos) → field.level ≤ label_of field.labels p → label_of field.labels p < NONE →
     IsHeld shelves (label_of field.labels p % 71) p
 
+-- Only cells of the map can be entered, and no step costs more than 70.
+pub record IsFair (toll : CPos → ℕ) (width height : ℕ) : Type 0 where
+  pub inside : (q : CPos) → 0 < toll q → IsOn width height q
+  pub cheap : (p q : CPos) (d k : ℕ) → IsStep toll p d q k → k ≤ 70
+
 -- A search on its way: its labels are right, its sizes agree, and its buckets have what they must
 -- unless they say that a cell may be missing.
 pub record IsSearch (land : Land) (field : Distances) (shelves : Shelves) : Type 0 where
   pub goal : IsOn field.labels.width field.labels.height land.goal
   pub full : IsFull field.labels
   pub room : shelves.room ≡ length field.labels.cells
+  pub fair : IsFair land.toll field.labels.width field.labels.height
   pub right : IsRight land field
   pub queued : shelves.lost ≡ false → AreQueued field shelves
 
@@ -86,3 +93,34 @@ pub record IsFilled (field : Distances) (shelves : Shelves) (y x : ℕ) : Type 0
   pub before :
     (p : CPos) → p.y ≡ y → p.x < x → field.level ≤ label_of field.labels p →
     label_of field.labels p < NONE → IsHeld shelves (label_of field.labels p % 71) p
+
+-- The step in direction d enters a cell whose label is the distance less the step's cost.
+pub record IsLead (toll : CPos → ℕ) (labels : Grid ℕ) (p : CPos) (distance d : ℕ) : Type 0 where
+  pub entered : CPos
+  pub cost : ℕ
+  pub step : IsStep toll p d entered cost
+  pub label : label_of labels entered + cost ≡ distance
+
+-- The least such direction.
+pub record IsLeastLead (toll : CPos → ℕ) (labels : Grid ℕ) (p : CPos) (distance d : ℕ) : Type 0 where
+  pub leads : IsLead toll labels p distance d
+  pub least : (e : ℕ) → IsLead toll labels p distance e → d ≤ e
+
+-- All that a search keeps has the size of the map.
+pub record FitsTogether (width height : ℕ) (tolls : Grid ℕ) (field : Distances) (shelves : Shelves) : Type 0 where
+  pub of_tolls : HasSize width height tolls
+  pub of_labels : HasSize width height field.labels
+  pub room : shelves.room ≡ width * height
+
+-- The best step from a cell enters q, whose label is less by what the step costs.
+pub record IsOnward (land : Land) (labels : Grid ℕ) (p q : CPos) : Type 0 where
+  pub direction : ℕ
+  pub cost : ℕ
+  pub step : IsStep land.toll p direction q cost
+  pub best : IsBest land p direction
+  pub label : label_of labels q + cost ≡ label_of labels p
+
+-- What is told of a route: it is none exactly where there is no walk or the cell is the goal.
+abbrev pub IsRoute : Land → CPos → Option Route → Type 0
+IsRoute land from (Some route) = IsRouteOver land from route.cost route.cells
+IsRoute land from None = (from ≡ land.goal) ⊎ HasNoWalk land from

@@ -98,3 +98,11 @@ abbrev pub FollowsBest : Land → CPos → List CPos → Type 0
 FollowsBest land p [] = p ≡ land.goal
 FollowsBest land p (q ∷ cells) =
     (d : ℕ) × IsBest land p d × (step_of p d ≡ Some q) × FollowsBest land q cells
+
+-- A walk of least cost over these cells, which takes the best direction at each of them.
+pub record IsRouteOver (land : Land) (from : CPos) (cost : ℕ) (cells : List CPos) : Type 0 where
+  pub entered : List CPos
+  pub all : cells ≡ from ∷ entered
+  pub walk : IsWalk land from entered cost
+  pub best : FollowsBest land from entered
+  pub least : (other : List CPos) (m : ℕ) → IsWalk land from other m → cost ≤ m

@@ -2,11 +2,11 @@ ghost use Rattle.std.specs.Prelude.{◌≡◌, ◌≢◌, ℕ, ◌+◌, ◌*◌,
 ghost use Rattle.world_units.specs.declared.cell.CPos.{CPos};
 ghost use Rattle.world_units.specs.Directions.{opposite_of, step_of};
 ghost use Rattle.game_model.specs.Grid.{IsOn, HasSize};
-ghost use Rattle.grid_routes.specs.Walks.{IsStep, land_of};
-ghost use Rattle.grid_routes.specs.Tolls.{toll_in};
+ghost use Rattle.grid_routes.specs.Walks.{IsBestDirection, IsStep, toll_of};
+ghost use Rattle.grid_routes.specs.Tolls.{IsCheap, toll_in};
 ghost use Rattle.grid_routes.specs.Labels.{IsFull, label_of};
 ghost use Rattle.grid_routes.specs.Held.{IsAt};
-ghost use Rattle.grid_routes.specs.Steps.{AreQueued, HasLabel, IsClear, IsExpanded, IsFilled, IsNext, IsSearch, Lowers, rings_left};
+ghost use Rattle.grid_routes.specs.Steps.{AreQueued, FitsTogether, HasLabel, IsClear, IsExpanded, IsFilled, IsLead, IsLeastLead, IsNext, IsOnward, IsRoute, IsSearch, Lowers, rings_left};
 
 use crate::buckets::{BUCKETS, Buckets};
 use crate::field::{Field, NONE};
@@ -31,7 +31,9 @@ pub(crate) struct Search {
 
 impl Search {
     /// Room for searches on maps of this size. Out of memory is its only error.
-    pub(crate) fn create(alloc: Global, w: u8, h: u8) -> Result<Search, NoMemory> {
+    pub(crate) fn create(alloc: Global, w: u8, h: u8) -> Result<Search, NoMemory>
+        ensures { IfOk result (λ search. FitsTogether w h search.tolls search.field search.buckets) }
+    {
         Ok(Search {
             tolls: Tolls::create(alloc, w, h)?,
             field: Field::create(alloc, w, h)?,
@@ -40,13 +42,16 @@ impl Search {
     }
 
     /// Begins a search to another goal.
-    pub(crate) fn begin(
-        &mut self,
-        map: &Map,
-        blocks: &Blocks,
-        costs: &Costs,
-        goal: CPos,
-    ) {
+    pub(crate) fn begin(&mut self, map: &Map, blocks: &Blocks, costs: &Costs, goal: CPos)
+        requires fits { FitsTogether map.now.width map.now.height self.old.tolls self.old.field self.old.buckets }
+        requires terrain { HasSize map.now.width map.now.height map.now.terrain }
+        requires blocks { HasSize map.now.width map.now.height blocks.now }
+        requires costs { IsCheap costs.now }
+        requires goal { IsOn map.now.width map.now.height goal }
+        ensures fits { FitsTogether map.now.width map.now.height self.new.tolls self.new.field self.new.buckets }
+        ensures tolls { (p : CPos) → toll_in self.new.tolls p ≡ toll_of map.now.terrain blocks.now costs.now goal p }
+        ensures search { IsSearch (record { toll = toll_in self.new.tolls; goal = goal }) self.new.field self.new.buckets }
+    {
         self.tolls.lay(map, blocks, costs, goal);
         self.field.begin(goal);
         self.buckets.lose();
@@ -259,16 +264,40 @@ impl Search {
     }
 
     /// The least direction whose step begins a walk of least cost.
-    pub(crate) fn best(&self, from: CPos) -> Option<u8> {
+    pub(crate) fn best(&self, from: CPos, goal: CPos) -> Option<u8>
+        requires search { IsSearch (record { toll = toll_in self.now.tolls; goal = goal }) self.now.field self.now.buckets }
+        requires on { IsOn self.now.field.labels.width self.now.field.labels.height from }
+        requires settled { label_of self.now.field.labels from ≤ self.now.field.level }
+        ensures { IsBestDirection (record { toll = toll_in self.now.tolls; goal = goal }) from result }
+    {
         let distance = self.field.label(from);
-        if distance == NONE || distance == 0 {
-            return None;
+        if distance == NONE {
+            None
+        } else {
+            self.least_lead(from, distance)
         }
-        (0..DIRECTIONS).find(|d| self.leads(from, *d, distance))
     }
 
-    /// Whether the step in direction `d` begins a walk of least cost from a cell at this distance.
-    fn leads(&self, from: CPos, d: u8, distance: u32) -> bool {
+    /// The least direction whose step leads to a label that is less by the step's cost.
+    fn least_lead(&self, from: CPos, distance: u32) -> Option<u8>
+        requires { distance < NONE }
+        ensures { MatchOption result ((d : ℕ) → IsLead (toll_in self.now.tolls) self.now.field.labels from distance d → ⊥) (λ d. IsLeastLead (toll_in self.now.tolls) self.now.field.labels from distance d) }
+    {
+        for d in 0..DIRECTIONS {
+            if self.leads(from, d, distance) {
+                return Some(d);
+            }
+        }
+        None
+    }
+
+    /// Whether the step in direction `d` leads to a label that is less by the step's cost.
+    fn leads(&self, from: CPos, d: u8, distance: u32) -> bool
+        requires direction { d < 8 }
+        requires distance { distance < NONE }
+        ensures yes { IsTrue result → IsLead (toll_in self.now.tolls) self.now.field.labels from distance d }
+        ensures no { IsFalse result → IsLead (toll_in self.now.tolls) self.now.field.labels from distance d → ⊥ }
+    {
         match step(from, d) {
             Some(q) => {
                 let fare = self.tolls.fare(from, d, q);
@@ -278,26 +307,42 @@ impl Search {
         }
     }
 
-    /// The walk that takes the best direction at each cell. `None` comes exactly where there is none.
-    pub(crate) fn route(&self, from: CPos, alloc: Global) -> Result<Option<Route>, NoMemory> {
+    /// The walk that takes the best direction at each cell. `None` comes exactly where there is no
+    /// walk or the cell is the goal. Out of memory is its only error.
+    pub(crate) fn route(&self, from: CPos, goal: CPos, alloc: Global) -> Result<Option<Route>, NoMemory>
+        requires search { IsSearch (record { toll = toll_in self.now.tolls; goal = goal }) self.now.field self.now.buckets }
+        requires on { IsOn self.now.field.labels.width self.now.field.labels.height from }
+        requires settled { label_of self.now.field.labels from ≤ self.now.field.level }
+        ensures { IfOk result (IsRoute (record { toll = toll_in self.now.tolls; goal = goal }) from) }
+    {
         let cost = self.field.label(from);
-        if cost == NONE || cost == 0 {
+        if cost == NONE {
+            return Ok(None);
+        }
+        if cost == 0 {
             return Ok(None);
         }
         let mut cells = List::new(alloc);
         cells.push(from)?;
         let mut at = from;
         while self.field.label(at) > 0 {
-            at = self.next(at);
+            at = self.next(at, goal);
             cells.push(at)?;
         }
         Ok(Some(Route { cost, cells }))
     }
 
     /// The cell that the best step enters.
-    fn next(&self, from: CPos) -> CPos {
-        match self.best(from) {
-            Some(d) => match step(from, d) {
+    fn next(&self, at: CPos, goal: CPos) -> CPos
+        requires search { IsSearch (record { toll = toll_in self.now.tolls; goal = goal }) self.now.field self.now.buckets }
+        requires on { IsOn self.now.field.labels.width self.now.field.labels.height at }
+        requires settled { label_of self.now.field.labels at ≤ self.now.field.level }
+        requires labelled { label_of self.now.field.labels at < NONE }
+        requires away { 0 < label_of self.now.field.labels at }
+        ensures { IsOnward (record { toll = toll_in self.now.tolls; goal = goal }) self.now.field.labels at result }
+    {
+        match self.least_lead(at, self.field.label(at)) {
+            Some(d) => match step(at, d) {
                 Some(q) => q,
                 None => unreachable!(),
             },

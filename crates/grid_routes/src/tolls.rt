@@ -59,10 +59,12 @@ impl Tolls {
         requires costs { IsCheap costs.now }
         ensures size { HasSize self.old.width self.old.height self.new }
         ensures tolls { (p : CPos) → toll_in self.new p ≡ toll_of map.now.terrain blocks.now costs.now goal p }
+        ensures cheap { AreTolls self.new }
     {
         for y in 0..self.height {
             self.lay_row(map, blocks, costs, goal, y);
         }
+        let _cells = &self.cells;
     }
 
     /// Takes in the tolls of a row.

@@ -4,11 +4,11 @@ use Rattle.grid_routes.specs.Tolls.{toll_in}
 use Rattle.grid_routes.specs.Steps.{IsSearch, rings_left}
 use Rattle.grid_routes.proofs.search.Search.settle.Given as goal
 
-abbrev pub invariant-loop-self : goal.invariant-loop-self
-invariant-loop-self l =
+abbrev pub invariant-loop-from : goal.invariant-loop-from
+invariant-loop-from l =
     (l.self.tolls ≡ l.fn.self.tolls)
     × IsSearch (record { toll = toll_in l.self.tolls; goal = l.goal }) l.self.field l.self.buckets
     × HasSize l.fn.self.field.labels.width l.fn.self.field.labels.height l.self.field.labels
 
-abbrev pub decreases-loop-self : goal.decreases-loop-self
-decreases-loop-self l = rings_left l.self.field
+abbrev pub decreases-loop-from : goal.decreases-loop-from
+decreases-loop-from l = rings_left l.self.field
