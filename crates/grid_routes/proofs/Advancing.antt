@@ -18,7 +18,6 @@ use Rattle.grid_routes.proofs.Lowering.{falls, level-stays, level-was, label-rea
 use Rattle.grid_routes.proofs.Expanding.{full-stays}
 use Rattle.grid_routes.proofs.Shelves.{emptied-kept}
 
-
 counts : (bound x : ℕ) (xs : List ℕ) → count_by (λ l. not (nat_lt l bound)) (x ∷ xs) ≡ cond (not (nat_lt x bound)) 1 0 + count_by (λ l. not (nat_lt l bound)) xs
 counts bound x xs = sum_by-cons (λ l. cond (not (nat_lt l bound)) 1 0) x xs
 
@@ -44,7 +43,7 @@ dropped level (x ∷ xs) zero d within is =
     let rest = fewer x (x + 1) xs (omega arith) in
     let same : x ≡ level = is in
     subst (λ (n : ℕ). count_by (λ l. not (nat_lt l (n + 1))) (x ∷ xs) + 1 ≤ count_by (λ l. not (nat_lt l n)) (x ∷ xs)) same
-      (omega (arith, counts x x xs, counts (x + 1) x xs, ends.0, ends.1, rest))
+    (omega (arith, counts x x xs, counts (x + 1) x xs, ends.0, ends.1, rest))
 dropped level (x ∷ xs) (suc i) d within is =
     omega (arith, counts level x xs, counts (level + 1) x xs, fewer-one level (level + 1) x (omega arith), dropped level xs i d (omega arith) is)
 
@@ -73,10 +72,10 @@ pub skipped :
     (p : CPos) → label_of f.labels p < l → label_of f.labels p < NONE → label_of f.labels p < f.level
 skipped land f s l search whole clear p below less =
     elim (cases_lt (label_of f.labels p) f.level) [
-      inl low ↦ low
-    | inr high ↦
-        let held = (search.queued whole).each p high less in
-        absurd (clear.none (label_of f.labels p) held.place p high below held.at refl)
+      | inl low ↦ low
+      | inr high ↦
+          let held = (search.queued whole).each p high less in
+          absurd (clear.none (label_of f.labels p) held.place p high below held.at refl)
     ]
 
 module _ (toll : CPos → ℕ) (goal : CPos) (f : Distances) (s : Shelves) (l : ℕ) (g : Grid ℕ) (t : Shelves) (search : IsSearch (record { toll = toll; goal = goal }) f s) (whole : s.lost ≡ false) (next : IsNext f s l) (low : Lowers toll l f.labels s g t) (done : (i : ℕ) (q : CPos) → IsAt s (l % 71) i q → label_of f.labels q ≡ l → IsExpanded toll g l q) (unfinished : f.level < NONE) where
@@ -103,13 +102,14 @@ module _ (toll : CPos → ℕ) (goal : CPos) (f : Distances) (s : Shelves) (l : 
       (p : CPos) → label_of g p < NONE → (cells : List CPos) × IsWalk (record { toll = toll; goal = goal }) p cells (label_of g p)
   walks p less =
       elim (low.each p) [
-        inl same ↦
-          let old = search.right.walks p (rw same at less) in
-          (old.0, subst (λ (n : ℕ). IsWalk (record { toll = toll; goal = goal }) p old.0 n) (sym same) old.1)
-      | inr made ↦
-          let old = search.right.walks made.entered (omega (arith, made.from, l-small)) in
-          (made.entered ∷ old.0,
-            (made.direction, made.cost, label_of f.labels made.entered, made.step, omega (arith, made.label, made.from), old.1))
+        | inl same ↦
+            let old = search.right.walks p (rw same at less) in
+            (old.0, subst (λ (n : ℕ). IsWalk (record { toll = toll; goal = goal }) p old.0 n) (sym same) old.1)
+        | inr made ↦
+            let old = search.right.walks made.entered (omega (arith, made.from, l-small)) in (
+              made.entered ∷ old.0,
+              (made.direction, made.cost, label_of f.labels made.entered, made.step, omega (arith, made.label, made.from), old.1),
+            )
       ]
 
   closed :
@@ -122,72 +122,72 @@ module _ (toll : CPos → ℕ) (goal : CPos) (f : Distances) (s : Shelves) (l : 
       let high : g.height ≡ f.labels.height = low.size.height in
       let here : IsOn f.labels.width f.labels.height p = record { column = rw wide at on.column; row = rw high at on.row } in
       elim (cases_eq (label_of f.labels q) l) [
-        inl same ↦
-          let held = (search.queued whole).each q (omega (arith, next.from)) (omega (arith, l-small)) in
-          let place = subst (λ (n : ℕ). IsAt s (n % 71) held.place q) same held.at in
-          let most = done held.place q place same p d k on step in
-          omega (arith, most, was, same)
-      | inr other ↦
-          let less : label_of f.labels q < l = omega (arith, was) in
-          let before = skipped (record { toll = toll; goal = goal }) f s l search whole next.clear q less (omega (arith, l-small)) in
-          let most = search.right.closed p q d k here step before in
-          omega (arith, most, fell, was)
+        | inl same ↦
+            let held = (search.queued whole).each q (omega (arith, next.from)) (omega (arith, l-small)) in
+            let place = subst (λ (n : ℕ). IsAt s (n % 71) held.place q) same held.at in
+            let most = done held.place q place same p d k on step in
+            omega (arith, most, was, same)
+        | inr other ↦
+            let less : label_of f.labels q < l = omega (arith, was) in
+            let before = skipped (record { toll = toll; goal = goal }) f s l search whole next.clear q less (omega (arith, l-small)) in
+            let most = search.right.closed p q d k here step before in
+            omega (arith, most, fell, was)
       ]
 
   right : IsRight (record { toll = toll; goal = goal }) (record { labels = g; level = l + 1 })
   right = record {
-      goal = level-stays toll l f.labels s g t low goal (omega (arith, search.right.goal)) ∙ search.right.goal;
-      walks = walks;
-      closed = closed;
-      near = λ p less.
+    goal = level-stays toll l f.labels s g t low goal (omega (arith, search.right.goal)) ∙ search.right.goal;
+    walks = walks;
+    closed = closed;
+    near = λ p less.
         elim (low.each p) [
-          inl same ↦ let old = search.right.near p (rw same at less) in omega (arith, old, same, next.from)
-        | inr made ↦ omega (arith, made.label, made.cheap)
+          | inl same ↦ let old = search.right.near p (rw same at less) in omega (arith, old, same, next.from)
+          | inr made ↦ omega (arith, made.label, made.cheap)
         ];
-      small = λ p less.
+    small = λ p less.
         elim (low.each p) [
-          inl same ↦ let old = search.right.small p (rw same at less) in omega (arith, old, same, low.cells)
-        | inr made ↦ omega (arith, made.label, made.cheap, pass-low, low.cells)
+          | inl same ↦ let old = search.right.small p (rw same at less) in omega (arith, old, same, low.cells)
+          | inr made ↦ omega (arith, made.label, made.cheap, pass-low, low.cells)
         ];
-      rises = λ less. omega (arith, some-open, bound, next.near, low.count, low.cells);
-    }
+    rises = λ less. omega (arith, some-open, bound, next.near, low.count, low.cells);
+  }
 
   queued : (emptied t (l % 71)).lost ≡ false → AreQueued (record { labels = g; level = l + 1 }) (emptied t (l % 71))
   queued still = record {
-      each = λ p from to.
+    each = λ p from to.
         elim (low.each p) [
-          inl same ↦
-            let to_old = rw same at to in
-            let held = (search.queued whole).each p (omega (arith, same, next.from)) to_old in
-            let near = search.right.near p to_old in
-            let apart : label_of g p % 71 ≢ l % 71 = λ (equal : label_of g p % 71 ≡ l % 71). omega (arith, same, near, next.from) in
-            let at = subst (λ (n : ℕ). IsAt t (n % 71) held.place p) (sym same) (low.kept _ _ _ held.at) in
-            record { place = held.place; at = emptied-kept t (l % 71) (label_of g p % 71) held.place p apart at }
-        | inr made ↦
-            let apart : label_of g p % 71 ≢ l % 71 = λ (equal : label_of g p % 71 ≡ l % 71). omega (arith, made.label, made.cheap, made.step.allowed) in
-            elim made.held [
-              inl lost ↦ absurd (no-both t.lost still lost)
-            | inr held ↦
-                let at = subst (λ (n : ℕ). IsAt t (n % 71) held.place p) (sym made.label) held.at in
-                record { place = held.place; at = emptied-kept t (l % 71) (label_of g p % 71) held.place p apart at }
-            ]
+          | inl same ↦
+              let to_old = rw same at to in
+              let held = (search.queued whole).each p (omega (arith, same, next.from)) to_old in
+              let near = search.right.near p to_old in
+              let apart : label_of g p % 71 ≢ l % 71 = λ (equal : label_of g p % 71 ≡ l % 71). omega (arith, same, near, next.from) in
+              let at = subst (λ (n : ℕ). IsAt t (n % 71) held.place p) (sym same) (low.kept _ _ _ held.at) in
+              record { place = held.place; at = emptied-kept t (l % 71) (label_of g p % 71) held.place p apart at }
+          | inr made ↦
+              let apart : label_of g p % 71 ≢ l % 71 = λ (equal : label_of g p % 71 ≡ l % 71). omega (arith, made.label, made.cheap, made.step.allowed) in
+              elim made.held [
+                | inl lost ↦ absurd (no-both t.lost still lost)
+                | inr held ↦
+                    let at = subst (λ (n : ℕ). IsAt t (n % 71) held.place p) (sym made.label) held.at in
+                    record { place = held.place; at = emptied-kept t (l % 71) (label_of g p % 71) held.place p apart at }
+              ]
         ];
-    }
+  }
 
   pub passed : IsSearch (record { toll = toll; goal = goal }) (record { labels = g; level = l + 1 }) (emptied t (l % 71))
   passed = record {
-      goal = record { column = rw low.size.width search.goal.column; row = rw low.size.height search.goal.row };
-      full = full-stays toll l f.labels s g t low search.full;
-      room = low.room ∙ search.room ∙ sym low.cells;
-      fair = record {
-        inside = λ q allowed.
+    goal = record { column = rw low.size.width search.goal.column; row = rw low.size.height search.goal.row };
+    full = full-stays toll l f.labels s g t low search.full;
+    room = low.room ∙ search.room ∙ sym low.cells;
+    fair = record {
+      inside = λ q allowed.
           let on = search.fair.inside q allowed in
           record { column = rw low.size.width on.column; row = rw low.size.height on.row };
-        cheap = search.fair.cheap;
-      };
-      right = right;
-      queued = queued;
-    }
+      cheap = search.fair.cheap;
+    };
+    right = right;
+    queued = queued;
+  }
 
   pub passed-fewer : rings_left (record { labels = g; level = l + 1 }) < rings_left f
   unfolding rings_left
@@ -202,22 +202,22 @@ pub dry :
     (land : Land) (f : Distances) (s : Shelves) → IsSearch land f s → s.lost ≡ false → IsClear f s (f.level + 71) →
     IsSearch land (record { labels = f.labels; level = NONE }) s
 dry land f s search whole clear = record {
-    goal = search.goal;
-    full = search.full;
-    room = search.room;
-    fair = search.fair;
-    right = record {
-      goal = search.right.goal;
-      walks = search.right.walks;
-      closed = λ p q d k on step less.
+  goal = search.goal;
+  full = search.full;
+  room = search.room;
+  fair = search.fair;
+  right = record {
+    goal = search.right.goal;
+    walks = search.right.walks;
+    closed = λ p q d k on step less.
         search.right.closed p q d k on step
-          (skipped land f s (f.level + 71) search whole clear q (search.right.near q less) less);
-      near = λ p less. omega arith;
-      small = search.right.small;
-      rises = λ (less : NONE < NONE). absurd (omega arith);
-    };
-    queued = λ still. record { each = λ p from to. absurd (omega arith) };
-  }
+        (skipped land f s (f.level + 71) search whole clear q (search.right.near q less) less);
+    near = λ p less. omega arith;
+    small = search.right.small;
+    rises = λ (less : NONE < NONE). absurd (omega arith);
+  };
+  queued = λ still. record { each = λ p from to. absurd (omega arith) };
+}
 
 pub dry-fewer : (f : Distances) → f.level < NONE → rings_left (record { labels = f.labels; level = NONE }) < rings_left f
 unfolding rings_left

@@ -21,8 +21,8 @@ use Rattle.grid_routes.proofs.Advancing.{no-both}
 same-replicate : (n : ℕ) (i d : ℕ) → get_or (replicate n d) i d ≡ d
 same-replicate n i d =
     elim (cases_lt i n) [
-      inl below ↦ get_or-replicate n i d d below
-    | inr past ↦ get_or-eq_default (replicate n d) d (omega (arith, length-replicate n d))
+      | inl below ↦ get_or-replicate n i d d below
+      | inr past ↦ get_or-eq_default (replicate n d) d (omega (arith, length-replicate n d))
     ]
 
 cond-same : (b : Bool) (x d : ℕ) → x ≡ d → cond b x d ≡ d
@@ -50,11 +50,11 @@ module _ (tolls : Grid ℕ) (f : Distances) (s : Shelves) (w h : ℕ) (goal : CP
   only-goal : (p : CPos) → label_of (begun f goal).labels p < NONE → p ≡ goal
   only-goal p less =
       elim (one-or-not p goal) [
-        inl same ↦ same
-      | inr other ↦
-          let stays = set-other NONE (record f.labels { cells = replicate (length f.labels.cells) NONE }) goal 0 p here.column other in
-          let outside = unlabelled f.labels p in
-          absurd (omega (arith, stays, outside))
+        | inl same ↦ same
+        | inr other ↦
+            let stays = set-other NONE (record f.labels { cells = replicate (length f.labels.cells) NONE }) goal 0 p here.column other in
+            let outside = unlabelled f.labels p in
+            absurd (omega (arith, stays, outside))
       ]
 
   zero-there : (p : CPos) → label_of (begun f goal).labels p < NONE → label_of (begun f goal).labels p ≡ 0
@@ -67,18 +67,18 @@ module _ (tolls : Grid ℕ) (f : Distances) (s : Shelves) (w h : ℕ) (goal : CP
   pub begins :
       IsSearch (record { toll = toll_in tolls; goal = goal }) (begun f goal) (record s { lost = true })
   begins = record {
-      goal = here;
-      full = record { size = cells-same ∙ full.size; wide = full.wide; high = full.high };
-      room = fits.room ∙ ap (λ n. n * h) (sym fits.of_labels.width) ∙ ap (λ n. f.labels.width * n) (sym fits.of_labels.height) ∙ sym full.size ∙ sym cells-same;
-      fair = fair-of tolls f.labels.width f.labels.height fair
+    goal = here;
+    full = record { size = cells-same ∙ full.size; wide = full.wide; high = full.high };
+    room = fits.room ∙ ap (λ n. n * h) (sym fits.of_labels.width) ∙ ap (λ n. f.labels.width * n) (sym fits.of_labels.height) ∙ sym full.size ∙ sym cells-same;
+    fair = fair-of tolls f.labels.width f.labels.height fair
         (record { width = fits.of_tolls.width ∙ sym fits.of_labels.width; height = fits.of_tolls.height ∙ sym fits.of_labels.height });
-      right = record {
-        goal = at-goal;
-        walks = λ p less. ([], (only-goal p less, zero-there p less));
-        closed = λ p q d k on_map step below. absurd (omega arith);
-        near = λ p less. omega (arith, zero-there p less);
-        small = λ p less. omega (arith, zero-there p less);
-        rises = λ less. omega (arith, all-open (begun f goal).labels);
-      };
-      queued = λ still. absurd (no-both true still refl);
-    }
+    right = record {
+      goal = at-goal;
+      walks = λ p less. ([], (only-goal p less, zero-there p less));
+      closed = λ p q d k on_map step below. absurd (omega arith);
+      near = λ p less. omega (arith, zero-there p less);
+      small = λ p less. omega (arith, zero-there p less);
+      rises = λ less. omega (arith, all-open (begun f goal).labels);
+    };
+    queued = λ still. absurd (no-both true still refl);
+  }

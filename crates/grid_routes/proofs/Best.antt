@@ -39,14 +39,14 @@ toll-low false x low = omega arith
 pub fair-of : (g : Grid ℕ) (w h : ℕ) → AreTolls g → HasSize w h g → IsFair (toll_in g) w h
 unfolding value_in
 fair-of g w h tolls size = record {
-    inside = λ q some.
+  inside = λ q some.
       let on = is_on-on g.width g.height q (toll-on (is_on g.width g.height q) _ some) in
       record { column = rw size.width at on.column; row = rw size.height at on.row };
-    cheap = λ p q d k step.
+  cheap = λ p q d k step.
       let low : toll_in g q ≤ 10 = toll-low (is_on g.width g.height q) _ (tolls.cheap (place_of g.width q)) in
       let most = fare-low (toll_in g) p d q low in
       omega (arith, most, step.cost);
-  }
+}
 
 fare-zero : (toll : CPos → ℕ) (p : CPos) (d : ℕ) (q : CPos) → toll q ≡ 0 → fare_of toll p d q ≡ 0
 unfolding fare_of
@@ -56,10 +56,10 @@ fare-zero toll p d q free = rw free (zero-either _ _)
 pub step-on : (toll : CPos → ℕ) (w h : ℕ) → IsFair toll w h → (p q : CPos) (d k : ℕ) → IsStep toll p d q k → IsOn w h q
 step-on toll w h fair p q d k step =
     elim (cases_eq (toll q) 0) [
-      inl none ↦
-        let zero_fare = fare-zero toll p d q none in
-        absurd (omega (arith, zero_fare, step.cost, step.allowed))
-    | inr some ↦ fair.inside q (omega arith)
+      | inl none ↦
+          let zero_fare = fare-zero toll p d q none in
+          absurd (omega (arith, zero_fare, step.cost, step.allowed))
+      | inr some ↦ fair.inside q (omega arith)
     ]
 
 module _ (land : Land) (f : Distances) (s : Shelves) (search : IsSearch land f s) where
@@ -74,13 +74,13 @@ module _ (land : Land) (f : Distances) (s : Shelves) (search : IsSearch land f s
       let sum = walk.4 in
       let there = step-on land.toll f.labels.width f.labels.height search.fair p q walk.0 walk.1 step in
       elim (at-least cells q walk.2 there walk.5) [
-        inl least ↦ elim (cases_lt (label_of f.labels q) f.level) [
-          inl low ↦
-            let most = search.right.closed p q walk.0 walk.1 on step low in
-            inl (omega (arith, most, sum, least))
-        | inr high ↦ inr (omega (arith, sum, least))
+        | inl least ↦ elim (cases_lt (label_of f.labels q) f.level) [
+          | inl low ↦
+              let most = search.right.closed p q walk.0 walk.1 on step low in
+              inl (omega (arith, most, sum, least))
+          | inr high ↦ inr (omega (arith, sum, least))
         ]
-      | inr least ↦ inr (omega (arith, sum, least))
+        | inr least ↦ inr (omega (arith, sum, least))
       ]
 
   few : length f.labels.cells < 65536
@@ -106,10 +106,10 @@ module _ (land : Land) (f : Distances) (s : Shelves) (search : IsSearch land f s
       (p : CPos) → IsOn f.labels.width f.labels.height p → label_of f.labels p ≤ f.level → label_of f.labels p < NONE →
       IsDistance land p (label_of f.labels p)
   distance p on final less = record {
-      walk = search.right.walks p less;
-      least = λ cells m walk.
+    walk = search.right.walks p less;
+    least = λ cells m walk.
         elim (at-least cells p m on walk) [ inl least ↦ least | inr least ↦ omega arith ];
-    }
+  }
 
   -- The distance is the label, where it is below the level.
   label-is :
@@ -156,9 +156,9 @@ module _ (land : Land) (f : Distances) (s : Shelves) (search : IsSearch land f s
     -- The least direction to a label that is less by the step's cost is the best direction.
     pub best-is : (d : ℕ) → IsLeastLead land.toll f.labels p (label_of f.labels p) d → IsBest land p d
     best-is d least = record {
-        leads = leads-on d least.leads;
-        least = λ e leads. least.least e (lead-of e leads);
-      }
+      leads = leads-on d least.leads;
+      least = λ e leads. least.least e (lead-of e leads);
+    }
 
     -- Where no direction leads on the cell is the goal.
     no-lead :
@@ -182,9 +182,9 @@ module _ (land : Land) (f : Distances) (s : Shelves) (search : IsSearch land f s
       (p : CPos) → IsOn f.labels.width f.labels.height p → label_of f.labels p ≤ f.level → NONE ≤ label_of f.labels p →
       HasNoWalk land p
   no-walk p on final end = record {
-      none = λ cells m walk.
+    none = λ cells m walk.
         let less = labelled cells p m (omega arith) on walk in absurd (omega arith);
-    }
+  }
 
 -- What the search for a direction gives is the best direction.
 pub best-direction :
@@ -197,7 +197,7 @@ best-direction land f s search p n on final less is (Some d) least =
     best-is land f s search p on final (omega arith) d (subst (λ (m : ℕ). IsLeastLead land.toll f.labels p m d) is least)
 best-direction land f s search p n on final less is None none =
     inl (no-lead-goal land f s search p on final (omega arith)
-      (subst (λ (m : ℕ). (d : ℕ) → IsLead land.toll f.labels p m d → ⊥) is none))
+    (subst (λ (m : ℕ). (d : ℕ) → IsLead land.toll f.labels p m d → ⊥) is none))
 
 pub no-direction :
     (land : Land) (f : Distances) (s : Shelves) → IsSearch land f s → (p : CPos) (n : ℕ) →

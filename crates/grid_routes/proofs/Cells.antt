@@ -46,8 +46,8 @@ pub set-other :
 unfolding value_in
 set-other d g p v q here other =
     chosen (is_on g.width g.height q) _ _ d (λ (on : is_on g.width g.height q ≡ true).
-      let there : q.x < g.width = (is_on-on g.width g.height q on).column in
-      get_or-set_other g.cells (place_of g.width p) (place_of g.width q) v d
-        (λ (same : place_of g.width q ≡ place_of g.width p). other (apart g.width q p there here same)))
+    let there : q.x < g.width = (is_on-on g.width g.height q on).column in
+    get_or-set_other g.cells (place_of g.width p) (place_of g.width q) v d
+    (λ (same : place_of g.width q ≡ place_of g.width p). other (apart g.width q p there here same)))
 
 pub ruleset set_cells = (set-here, set-other)

@@ -41,44 +41,44 @@ fill-push field s p label full whole room on is filled =
       few = λ b. omega (arith, pushed-grows s (label % 71) p whole low b, filled.few b);
       above = λ c below from to. held-stays s (label % 71) p whole low _ c (filled.above c below from to);
       before = λ c row below from to.
-        elim (one-or-not c p) [
-          inl same ↦
-            subst (λ (x : CPos). IsHeld (pushed s (label % 71) p) (label_of field.labels x % 71) x) (sym same)
-              (subst (λ (n : ℕ). IsHeld (pushed s (label % 71) p) (n % 71) p) is fits.1)
-        | inr other ↦
-            elim (cases_eq c.x p.x) [
-              inl column ↦
-                let made : ℕ → ℕ → CPos = λ x y. record { x = x; y = y } in
-                absurd (other (ap (λ n. made n c.y) column ∙ ap (λ n. made p.x n) row))
-            | inr less ↦ held-stays s (label % 71) p whole low _ c (filled.before c row (omega arith) from to)
-            ]
-        ];
+          elim (one-or-not c p) [
+            | inl same ↦
+                subst (λ (x : CPos). IsHeld (pushed s (label % 71) p) (label_of field.labels x % 71) x) (sym same)
+                (subst (λ (n : ℕ). IsHeld (pushed s (label % 71) p) (n % 71) p) is fits.1)
+            | inr other ↦
+                elim (cases_eq c.x p.x) [
+                  | inl column ↦
+                      let made : ℕ → ℕ → CPos = λ x y. record { x = x; y = y } in
+                      absurd (other (ap (λ n. made n c.y) column ∙ ap (λ n. made p.x n) row))
+                  | inr less ↦ held-stays s (label % 71) p whole low _ c (filled.before c row (omega arith) from to)
+                ]
+          ];
     }
 
 pub fill-row :
     (field : Distances) (s : Shelves) (y x : ℕ) → field.labels.width ≤ x → x ≤ field.labels.width →
     IsFilled field s y x → IsFilled field s (y + 1) 0
 fill-row field s y x end most filled = record {
-    whole = filled.whole;
-    few = λ b.
+  whole = filled.whole;
+  few = λ b.
       let few : len_of s b ≤ y * field.labels.width + x = filled.few b in
       let sum : (y + 1) * field.labels.width ≡ y * field.labels.width + field.labels.width = omega arith in
       omega arith;
-    above = λ c below from to.
+  above = λ c below from to.
       let on : IsOn field.labels.width field.labels.height c = labelled-on field.labels c to in
       let column : c.x < field.labels.width = on.column in
       elim (cases_eq c.y y) [
-        inl same ↦ filled.before c same (omega arith) from to
-      | inr less ↦ filled.above c (omega arith) from to
+        | inl same ↦ filled.before c same (omega arith) from to
+        | inr less ↦ filled.above c (omega arith) from to
       ];
-    before = λ c row below from to. absurd (omega arith);
-  }
+  before = λ c row below from to. absurd (omega arith);
+}
 
 pub fill-all :
     (field : Distances) (s : Shelves) (y : ℕ) → field.labels.height ≤ y → IsFilled field s y 0 → AreQueued field s
 fill-all field s y end filled = record {
-    each = λ p from to.
+  each = λ p from to.
       let on : IsOn field.labels.width field.labels.height p = labelled-on field.labels p to in
       let row : p.y < field.labels.height = on.row in
       filled.above p (omega arith) from to;
-  }
+}

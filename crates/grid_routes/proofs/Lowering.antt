@@ -20,24 +20,24 @@ pub one-or-not : (p q : CPos) → (p ≡ q) ⊎ (p ≢ q)
 one-or-not p q =
     let made : ℕ → ℕ → CPos = λ x y. record { x = x; y = y } in
     elim (cases_eq p.x q.x) [
-      inl x ↦ elim (cases_eq p.y q.y) [
-        inl y ↦ inl (ap (λ n. made n p.y) x ∙ ap (λ n. made q.x n) y)
-      | inr y ↦ inr (λ (same : p ≡ q). y (ap (λ c. c.y) same))
+      | inl x ↦ elim (cases_eq p.y q.y) [
+        | inl y ↦ inl (ap (λ n. made n p.y) x ∙ ap (λ n. made q.x n) y)
+        | inr y ↦ inr (λ (same : p ≡ q). y (ap (λ c. c.y) same))
       ]
-    | inr x ↦ inr (λ (same : p ≡ q). x (ap (λ c. c.x) same))
+      | inr x ↦ inr (λ (same : p ≡ q). x (ap (λ c. c.x) same))
     ]
 
 pub lowers-refl : (toll : CPos → ℕ) (level : ℕ) (g : Grid ℕ) (s : Shelves) → Lowers toll level g s g s
 lowers-refl toll level g s = record {
-    size = record { width = refl; height = refl };
-    cells = refl;
-    each = λ p. inl refl;
-    count = refl;
-    kept = λ b i c at. at;
-    row = refl;
-    lost = λ h. h;
-    room = refl;
-  }
+  size = record { width = refl; height = refl };
+  cells = refl;
+  each = λ p. inl refl;
+  count = refl;
+  kept = λ b i c at. at;
+  row = refl;
+  lost = λ h. h;
+  room = refl;
+}
 
 -- What falls does not rise, and a label at the level stays.
 pub falls : (toll : CPos → ℕ) (level : ℕ) (old : Grid ℕ) (before : Shelves) (new : Grid ℕ) (after : Shelves) →
@@ -66,9 +66,9 @@ lowers-trans toll level a s b t c u first second =
       size = record { width = second.size.width ∙ wide; height = second.size.height ∙ high };
       cells = second.cells ∙ first.cells;
       each = λ p. elim (second.each p) [
-        inl same ↦ elim (first.each p) [
-          inl before ↦ inl (same ∙ before)
-        | inr made ↦ inr (record {
+        | inl same ↦ elim (first.each p) [
+          | inl before ↦ inl (same ∙ before)
+          | inr made ↦ inr (record {
             entered = made.entered;
             direction = made.direction;
             cost = made.cost;
@@ -79,12 +79,12 @@ lowers-trans toll level a s b t c u first second =
             label = same ∙ made.label;
             lower = made.lower;
             held = elim made.held [
-              inl lost ↦ inl (second.lost lost)
-            | inr held ↦ inr (record { place = held.place; at = second.kept _ _ _ held.at })
+              | inl lost ↦ inl (second.lost lost)
+              | inr held ↦ inr (record { place = held.place; at = second.kept _ _ _ held.at })
             ];
           })
         ]
-      | inr made ↦ inr (record {
+        | inr made ↦ inr (record {
           entered = made.entered;
           direction = made.direction;
           cost = made.cost;
@@ -154,8 +154,8 @@ relaxed toll level g s p q d k full whole on step cheap from less =
       size = record { width = refl; height = refl };
       cells = length-set g.cells (place_of g.width p) (level + k);
       each = λ c. elim (one-or-not c p) [
-        inl same ↦
-          subst (λ (x : CPos). (label_of (with_cell g p (level + k)) x ≡ label_of g x) ⊎ IsMade toll level g (with_cell g p (level + k)) (pushed s ((level + k) % 71) p) x)
+        | inl same ↦
+            subst (λ (x : CPos). (label_of (with_cell g p (level + k)) x ≡ label_of g x) ⊎ IsMade toll level g (with_cell g p (level + k)) (pushed s ((level + k) % 71) p) x)
             (sym same)
             (inr (record {
               entered = q;
@@ -169,7 +169,7 @@ relaxed toll level g s p q d k full whole on step cheap from less =
               lower = less;
               held = pushed-held s ((level + k) % 71) p whole low;
             }))
-      | inr other ↦ inl (set-other NONE g p (level + k) c on.column other)
+        | inr other ↦ inl (set-other NONE g p (level + k) c on.column other)
       ];
       count = count-with g p (level + 1) (level + k) full on (omega arith) (omega arith);
       kept = pushed-kept s ((level + k) % 71) p whole low;

@@ -32,16 +32,16 @@ row-step f w h start g y x v tolls column row value so_far =
     record {
       size = record { width = wide; height = high };
       here = λ i below.
-        elim (cases_eq i x) [
-          inl same ↦
-            ap (λ j. toll_in (with_cell g (at x y) v) (at j y)) same ∙ set-here 0 g (at x y) v tolls.size on ∙ value
-            ∙ ap (λ j. f (at j y)) (sym same)
-        | inr other ↦
-            set-other 0 g (at x y) v (at i y) here (λ (same : at i y ≡ at x y). other (ap (λ c. c.x) same))
-            ∙ so_far.here i (omega arith)
-        ];
+          elim (cases_eq i x) [
+            | inl same ↦
+                ap (λ j. toll_in (with_cell g (at x y) v) (at j y)) same ∙ set-here 0 g (at x y) v tolls.size on ∙ value
+                ∙ ap (λ j. f (at j y)) (sym same)
+            | inr other ↦
+                set-other 0 g (at x y) v (at i y) here (λ (same : at i y ≡ at x y). other (ap (λ c. c.x) same))
+                ∙ so_far.here i (omega arith)
+          ];
       elsewhere = λ p other.
-        set-other 0 g (at x y) v p here (λ (same : p ≡ at x y). other (ap (λ c. c.y) same)) ∙ so_far.elsewhere p other;
+          set-other 0 g (at x y) v p here (λ (same : p ≡ at x y). other (ap (λ c. c.y) same)) ∙ so_far.elsewhere p other;
     }
 
 -- The rows below y are laid.
@@ -58,11 +58,11 @@ rows-step f w h g g' y size here elsewhere so_far =
     record {
       size = record { width = size.width ∙ wide; height = size.height ∙ so_far.size.height };
       here = λ p below within.
-        elim (cases_eq p.y y) [
-          inl same ↦
-            ap (λ j. toll_in g' (at p.x j)) same ∙ here p.x (omega arith) ∙ ap (λ j. f (at p.x j)) (sym same)
-        | inr other ↦ elsewhere p other ∙ so_far.here p (omega arith) within
-        ];
+          elim (cases_eq p.y y) [
+            | inl same ↦
+                ap (λ j. toll_in g' (at p.x j)) same ∙ here p.x (omega arith) ∙ ap (λ j. f (at p.x j)) (sym same)
+            | inr other ↦ elsewhere p other ∙ so_far.here p (omega arith) within
+          ];
     }
 
 laid-all : (b : Bool) (x y : ℕ) → (b ≡ true → cond b x 0 ≡ y) → (b ≡ false → 0 ≡ y) → cond b x 0 ≡ y
@@ -85,11 +85,11 @@ rows-all terrain built costs goal w h g y size end laid p =
     let wide : g.width ≡ w = laid.size.width in
     let high : g.height ≡ h = laid.size.height in
     laid-all (is_on g.width g.height p) _ (toll_of terrain built costs goal p)
-      (λ (inside : is_on g.width g.height p ≡ true).
-        let on : IsOn g.width g.height p = is_on-on g.width g.height p inside in
-        let column : p.x < g.width = on.column in
-        let row : p.y < g.height = on.row in
-        laid.here p (omega arith) (omega arith))
-      (λ (outside : is_on g.width g.height p ≡ false).
-        off-toll terrain built costs goal p
-          (ap (λ n. is_on n terrain.height p) (size.width ∙ sym wide) ∙ ap (λ n. is_on g.width n p) (size.height ∙ sym high) ∙ outside))
+    (λ (inside : is_on g.width g.height p ≡ true).
+    let on : IsOn g.width g.height p = is_on-on g.width g.height p inside in
+    let column : p.x < g.width = on.column in
+    let row : p.y < g.height = on.row in
+    laid.here p (omega arith) (omega arith))
+    (λ (outside : is_on g.width g.height p ≡ false).
+    off-toll terrain built costs goal p
+    (ap (λ n. is_on n terrain.height p) (size.width ∙ sym wide) ∙ ap (λ n. is_on g.width n p) (size.height ∙ sym high) ∙ outside))

@@ -12,8 +12,8 @@ module _ (s : Shelves) (b : ℕ) (p : CPos) (whole : IsWhole s) (low : b < 71) (
   len-more j =
       let within : b < length s.lens = omega (arith, whole.lens) in
       elim (cases_eq j b) [
-        inl same ↦ inl (get_or-set_at s.lens b j (get_or s.lens b 0 + 1) 0 same within ∙ ap (λ i. get_or s.lens i 0 + 1) (sym same))
-      | inr other ↦ inr (get_or-set_other s.lens b j (get_or s.lens b 0 + 1) 0 other)
+        | inl same ↦ inl (get_or-set_at s.lens b j (get_or s.lens b 0 + 1) 0 same within ∙ ap (λ i. get_or s.lens i 0 + 1) (sym same))
+        | inr other ↦ inr (get_or-set_other s.lens b j (get_or s.lens b 0 + 1) 0 other)
       ]
 
   pub more-kept : (j i : ℕ) (c : CPos) → IsAt s j i c → IsAt (more s b p) j i c
@@ -23,13 +23,13 @@ module _ (s : Shelves) (b : ℕ) (p : CPos) (whole : IsWhole s) (low : b < 71) (
       record {
         within = elim (len-more j) [ inl grown ↦ omega arith | inr stays ↦ omega arith ];
         cell =
-          get_or-set_other s.cells (b * s.room + get_or s.lens b 0) (j * s.room + i) p c
+            get_or-set_other s.cells (b * s.room + get_or s.lens b 0) (j * s.room + i) p c
             (λ (same : j * s.room + i ≡ b * s.room + get_or s.lens b 0).
-              let parts = same_from_place j i b (get_or s.lens b 0) s.room (omega arith) room same in
-              let there : get_or s.lens j 0 ≡ get_or s.lens b 0 = ap (λ k. get_or s.lens k 0) parts.0 in
-              let here : i ≡ get_or s.lens b 0 = parts.1 in
-              absurd (omega arith))
-          ∙ at.cell
+            let parts = same_from_place j i b (get_or s.lens b 0) s.room (omega arith) room same in
+            let there : get_or s.lens j 0 ≡ get_or s.lens b 0 = ap (λ k. get_or s.lens k 0) parts.0 in
+            let here : i ≡ get_or s.lens b 0 = parts.1 in
+            absurd (omega arith))
+            ∙ at.cell;
       }
 
   pub more-held : IsHeld (more s b p) b p
@@ -70,13 +70,13 @@ module _ (s : Shelves) (b : ℕ) (p : CPos) (whole : IsWhole s) (low : b < 71) w
   either : (P : Shelves → Type 0) → (len_of s b < s.room → P (more s b p)) → P (record s { lost = true }) → P (pushed s b p)
   either P room full =
       cond_both (nat_lt (len_of s b) s.room) (more s b p) (record s { lost = true }) P
-        (λ (test : nat_lt (len_of s b) s.room ≡ true). room (ltb-true (len_of s b) s.room test))
-        (λ (test : nat_lt (len_of s b) s.room ≡ false). full)
+      (λ (test : nat_lt (len_of s b) s.room ≡ true). room (ltb-true (len_of s b) s.room test))
+      (λ (test : nat_lt (len_of s b) s.room ≡ false). full)
 
   pub pushed-kept : (j i : ℕ) (c : CPos) → IsAt s j i c → IsAt (pushed s b p) j i c
   pushed-kept j i c at =
       either (λ n. IsAt n j i c) (λ room. more-kept s b p whole low room j i c at)
-        (record { within = at.within; cell = at.cell })
+      (record { within = at.within; cell = at.cell })
 
   pub pushed-held : ((pushed s b p).lost ≡ true) ⊎ IsHeld (pushed s b p) b p
   pushed-held =
@@ -98,5 +98,5 @@ module _ (s : Shelves) (b : ℕ) (p : CPos) (whole : IsWhole s) (low : b < 71) w
   pub pushed-fits : len_of s b < s.room → s.lost ≡ false → ((pushed s b p).lost ≡ false) × IsHeld (pushed s b p) b p
   pushed-fits room kept =
       cond_both (nat_lt (len_of s b) s.room) (more s b p) (record s { lost = true }) (λ n. (n.lost ≡ false) × IsHeld n b p)
-        (λ (test : nat_lt (len_of s b) s.room ≡ true). (kept, more-held s b p whole low room))
-        (λ (test : nat_lt (len_of s b) s.room ≡ false). let full = ltb-false (len_of s b) s.room test in absurd (omega arith))
+      (λ (test : nat_lt (len_of s b) s.room ≡ true). (kept, more-held s b p whole low room))
+      (λ (test : nat_lt (len_of s b) s.room ≡ false). let full = ltb-false (len_of s b) s.room test in absurd (omega arith))

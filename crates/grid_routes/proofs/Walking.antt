@@ -55,38 +55,38 @@ pub record RouteSoFar (land : Land) (f : Distances) (from at : CPos) (cells : Li
   pub sum : spent + label_of f.labels at ≡ label_of f.labels from
   pub on : IsOn f.labels.width f.labels.height at
   pub rest :
-    (others : List CPos) (m n : ℕ) → n ≡ spent + m → IsWalk land at others m → FollowsBest land at others →
-    IsWalk land from (passed ++ others) n × FollowsBest land from (passed ++ others)
+      (others : List CPos) (m n : ℕ) → n ≡ spent + m → IsWalk land at others m → FollowsBest land at others →
+      IsWalk land from (passed ++ others) n × FollowsBest land from (passed ++ others)
 
 pub route-first :
     (land : Land) (f : Distances) (from : CPos) (cells : List CPos) → cells ≡ from ∷ [] →
     IsOn f.labels.width f.labels.height from → RouteSoFar land f from from cells
 route-first land f from cells all on = record {
-    passed = [];
-    spent = 0;
-    all = all;
-    sum = omega arith;
-    on = on;
-    rest = λ others m n is walk best.
+  passed = [];
+  spent = 0;
+  all = all;
+  sum = omega arith;
+  on = on;
+  rest = λ others m n is walk best.
       (subst (λ (k : ℕ). IsWalk land from others k) (omega (arith, is)) walk, best);
-  }
+}
 
 pub route-step :
     (land : Land) (f : Distances) (s : Shelves) → IsSearch land f s → (from at q : CPos) (cells cells' : List CPos) →
     RouteSoFar land f from at cells → IsOnward land f.labels at q → cells' ≡ cells ++ q ∷ [] →
     RouteSoFar land f from q cells'
 route-step land f s search from at q cells cells' so_far onward more = record {
-    passed = so_far.passed ++ q ∷ [];
-    spent = so_far.spent + onward.cost;
-    all = more ∙ ap (λ xs. xs ++ q ∷ []) so_far.all;
-    sum = omega (arith, so_far.sum, onward.label);
-    on = step-on land.toll f.labels.width f.labels.height search.fair at q onward.direction onward.cost onward.step;
-    rest = λ others m n is walk best.
+  passed = so_far.passed ++ q ∷ [];
+  spent = so_far.spent + onward.cost;
+  all = more ∙ ap (λ xs. xs ++ q ∷ []) so_far.all;
+  sum = omega (arith, so_far.sum, onward.label);
+  on = step-on land.toll f.labels.width f.labels.height search.fair at q onward.direction onward.cost onward.step;
+  rest = λ others m n is walk best.
       rw (append_assoc so_far.passed (q ∷ []) others)
-        (so_far.rest (q ∷ others) (onward.cost + m) n (omega (arith, is))
-          (onward.direction, onward.cost, m, onward.step, refl, walk)
-          (onward.direction, onward.best, onward.step.enters, best));
-  }
+      (so_far.rest (q ∷ others) (onward.cost + m) n (omega (arith, is))
+      (onward.direction, onward.cost, m, onward.step, refl, walk)
+      (onward.direction, onward.best, onward.step.enters, best));
+}
 
 pub route-end :
     (land : Land) (f : Distances) (s : Shelves) → IsSearch land f s → (from at : CPos) (cells : List CPos) (cost : ℕ) →
@@ -103,5 +103,5 @@ route-end land f s search from at cells cost so_far on final less is none =
       walk = subst (λ (xs : List CPos). IsWalk land from xs cost) short both.0;
       best = subst (λ (xs : List CPos). FollowsBest land from xs) short both.1;
       least = λ other m walk.
-        let least = (distance land f s search from on final less).least other m walk in omega (arith, least, is);
+          let least = (distance land f s search from on final less).least other m walk in omega (arith, least, is);
     }

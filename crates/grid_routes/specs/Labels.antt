@@ -38,19 +38,19 @@ pub record IsRight (land : Land) (field : Distances) : Type 0 where
   pub goal : label_of field.labels land.goal ≡ 0
   -- A label is the cost of some walk.
   pub walks :
-    (p : CPos) → label_of field.labels p < NONE →
-    (cells : List CPos) × IsWalk land p cells (label_of field.labels p)
+      (p : CPos) → label_of field.labels p < NONE →
+      (cells : List CPos) × IsWalk land p cells (label_of field.labels p)
   -- Each step into a cell below the level was offered.
   pub closed :
-    (p q : CPos) (d k : ℕ) → IsOn field.labels.width field.labels.height p → IsStep land.toll p d q k →
-    label_of field.labels q < field.level →
-    label_of field.labels p ≤ label_of field.labels q + k
+      (p q : CPos) (d k : ℕ) → IsOn field.labels.width field.labels.height p → IsStep land.toll p d q k →
+      label_of field.labels q < field.level →
+      label_of field.labels p ≤ label_of field.labels q + k
   -- Labels are at most a step above the level, and far below `NONE`.
   pub near : (p : CPos) → label_of field.labels p < NONE → label_of field.labels p < field.level + 71
   pub small :
-    (p : CPos) → label_of field.labels p < NONE →
-    label_of field.labels p < 71 * length field.labels.cells + 71
+      (p : CPos) → label_of field.labels p < NONE →
+      label_of field.labels p < 71 * length field.labels.cells + 71
   -- The level has risen only as far as cells were settled.
   pub rises :
-    field.level < NONE →
-    field.level + 71 * open_count field.level field.labels ≤ 71 * length field.labels.cells
+      field.level < NONE →
+      field.level + 71 * open_count field.level field.labels ≤ 71 * length field.labels.cells

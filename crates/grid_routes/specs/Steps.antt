@@ -42,8 +42,8 @@ IsExpanded toll labels level q =
 -- Each cell with a label from the level on is in its bucket.
 pub record AreQueued (field : Distances) (shelves : Shelves) : Type 0 where
   pub each :
-    (p : CPos) → field.level ≤ label_of field.labels p → label_of field.labels p < NONE →
-    IsHeld shelves (label_of field.labels p % 71) p
+      (p : CPos) → field.level ≤ label_of field.labels p → label_of field.labels p < NONE →
+      IsHeld shelves (label_of field.labels p % 71) p
 
 -- Only cells of the map can be entered, and no step costs more than 70.
 pub record IsFair (toll : CPos → ℕ) (width height : ℕ) : Type 0 where
@@ -68,8 +68,8 @@ pub record HasLabel (labels : Grid ℕ) (label : ℕ) : Type 0 where
 -- No bucket has a cell whose label is the bucket's from the level on and below this.
 pub record IsClear (field : Distances) (shelves : Shelves) (end : ℕ) : Type 0 where
   pub none :
-    (j i : ℕ) (p : CPos) → field.level ≤ j → j < end → IsAt shelves (j % 71) i p →
-    label_of field.labels p ≡ j → ⊥
+      (j i : ℕ) (p : CPos) → field.level ≤ j → j < end → IsAt shelves (j % 71) i p →
+      label_of field.labels p ≡ j → ⊥
 
 -- The least label from the level on, as far as the buckets have them.
 pub record IsNext (field : Distances) (shelves : Shelves) (label : ℕ) : Type 0 where
@@ -88,11 +88,11 @@ pub record IsFilled (field : Distances) (shelves : Shelves) (y x : ℕ) : Type 0
   pub whole : shelves.lost ≡ false
   pub few : (b : ℕ) → len_of shelves b ≤ y * field.labels.width + x
   pub above :
-    (p : CPos) → p.y < y → field.level ≤ label_of field.labels p → label_of field.labels p < NONE →
-    IsHeld shelves (label_of field.labels p % 71) p
+      (p : CPos) → p.y < y → field.level ≤ label_of field.labels p → label_of field.labels p < NONE →
+      IsHeld shelves (label_of field.labels p % 71) p
   pub before :
-    (p : CPos) → p.y ≡ y → p.x < x → field.level ≤ label_of field.labels p →
-    label_of field.labels p < NONE → IsHeld shelves (label_of field.labels p % 71) p
+      (p : CPos) → p.y ≡ y → p.x < x → field.level ≤ label_of field.labels p →
+      label_of field.labels p < NONE → IsHeld shelves (label_of field.labels p % 71) p
 
 -- The step in direction d enters a cell whose label is the distance less the step's cost.
 pub record IsLead (toll : CPos → ℕ) (labels : Grid ℕ) (p : CPos) (distance d : ℕ) : Type 0 where

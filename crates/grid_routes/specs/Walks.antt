@@ -47,9 +47,9 @@ unfoldable pub fare_of : (CPos → ℕ) → CPos → ℕ → CPos → ℕ
 fare_of toll p d q =
     if d % 2 == 0 then 5 * toll q
     else (
-      if is_free toll (step_of p ((d + 1) % 8)) && is_free toll (step_of p ((d + 7) % 8))
-      then 7 * toll q
-      else 0
+    if is_free toll (step_of p ((d + 1) % 8)) && is_free toll (step_of p ((d + 7) % 8))
+    then 7 * toll q
+    else 0
     )
 
 -- An allowed step from a cell in direction d, which enters q and costs k.

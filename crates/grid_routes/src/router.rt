@@ -1,4 +1,4 @@
-ghost use Rattle.std.specs.Prelude.{◌≡◌, ℕ, ◌+◌, ◌≤◌, min, IfOk};
+ghost use Rattle.std.specs.Prelude.{◌≡◌, ◌+◌, ◌-◌, ◌^◌, ◌≤◌, min, IfOk};
 ghost use Rattle.game_model.specs.Grid.{IsOn, HasSize};
 ghost use Rattle.grid_routes.specs.Tolls.{IsCheap, toll_in};
 ghost use Rattle.grid_routes.specs.Walks.{IsBestDirection, land_of, toll_of};
@@ -57,13 +57,21 @@ impl Router {
 
     /// The least direction whose allowed step begins a walk of least cost to the goal. `None` comes
     /// exactly where there is no walk or the cell is the goal.
-    pub fn best_dir(&mut self, map: &Map, blocks: &Blocks, costs: &Costs, from: CPos, goal: CPos) -> Option<u8>
+    pub fn best_dir(
+        &mut self,
+        map: &Map,
+        blocks: &Blocks,
+        costs: &Costs,
+        from: CPos,
+        goal: CPos,
+    ) -> Option<u8>
         requires sizes { AreSized self.old map.now blocks.now }
         requires costs { IsCheap costs.now }
         requires from { IsOn map.now.width map.now.height from }
         requires goal { IsOn map.now.width map.now.height goal }
         ensures best { IsBestDirection (land_of map.now blocks.now costs.now goal) from result }
         ensures size { IsSameSize self.old self.new }
+        ensures computed { self.new.computed ≡ min (self.old.computed + 1) (2 ^ 64 - 1) }
     {
         self.computed = self.computed.saturating_add(1);
         find(&mut self.search, map, blocks, costs, from, goal);
@@ -72,13 +80,22 @@ impl Router {
 
     /// The walk that takes the best direction at each cell. `None` comes exactly where there is no
     /// walk or the cell is the goal. Out of memory is its only error.
-    pub fn walk(&mut self, map: &Map, blocks: &Blocks, costs: &Costs, from: CPos, goal: CPos, alloc: Global) -> Result<Option<Route>, NoMemory>
+    pub fn walk(
+        &mut self,
+        map: &Map,
+        blocks: &Blocks,
+        costs: &Costs,
+        from: CPos,
+        goal: CPos,
+        alloc: Global,
+    ) -> Result<Option<Route>, NoMemory>
         requires sizes { AreSized self.old map.now blocks.now }
         requires costs { IsCheap costs.now }
         requires from { IsOn map.now.width map.now.height from }
         requires goal { IsOn map.now.width map.now.height goal }
         ensures route { IfOk result (IsRoute (land_of map.now blocks.now costs.now goal) from) }
         ensures size { IsSameSize self.old self.new }
+        ensures computed { self.new.computed ≡ min (self.old.computed + 1) (2 ^ 64 - 1) }
     {
         self.computed = self.computed.saturating_add(1);
         find(&mut self.search, map, blocks, costs, from, goal);

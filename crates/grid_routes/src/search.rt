@@ -10,8 +10,8 @@ ghost use Rattle.grid_routes.specs.Steps.{AreQueued, FitsTogether, HasLabel, IsC
 
 use crate::buckets::{BUCKETS, Buckets};
 use crate::field::{Field, NONE};
-use crate::tolls::Tolls;
 use crate::route::Route;
+use crate::tolls::Tolls;
 use base::{List, NoMemory};
 use game_model::{Blocks, Map};
 use rule_traits::Costs;
@@ -309,7 +309,12 @@ impl Search {
 
     /// The walk that takes the best direction at each cell. `None` comes exactly where there is no
     /// walk or the cell is the goal. Out of memory is its only error.
-    pub(crate) fn route(&self, from: CPos, goal: CPos, alloc: Global) -> Result<Option<Route>, NoMemory>
+    pub(crate) fn route(
+        &self,
+        from: CPos,
+        goal: CPos,
+        alloc: Global,
+    ) -> Result<Option<Route>, NoMemory>
         requires search { IsSearch (record { toll = toll_in self.now.tolls; goal = goal }) self.now.field self.now.buckets }
         requires on { IsOn self.now.field.labels.width self.now.field.labels.height from }
         requires settled { label_of self.now.field.labels from ≤ self.now.field.level }

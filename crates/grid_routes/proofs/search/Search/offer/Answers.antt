@@ -12,7 +12,7 @@ returns-then-has-clause-done c = λ p k there on step.
     let one : c.in-Some.p ≡ p = cc in
     let old = c.args.self.now in
     let back : IsStep (toll_in old.tolls) p c.opposite.result c.args.q k =
-      subst (λ (j : ℕ). IsStep (toll_in old.tolls) p j c.args.q k) (sym c.opposite.ensures.value) step in
+    subst (λ (j : ℕ). IsStep (toll_in old.tolls) p j c.args.q k) (sym c.opposite.ensures.value) step in
     let here : IsStep (toll_in old.tolls) c.in-Some.p c.opposite.result c.args.q k =
-      subst (λ (x : CPos). IsStep (toll_in old.tolls) x c.opposite.result c.args.q k) (sym one) back in
+    subst (λ (x : CPos). IsStep (toll_in old.tolls) x c.opposite.result c.args.q k) (sym one) back in
     subst (λ (x : CPos). label_of c.relax.new.self.field.labels x ≤ c.args.level + k) one (c.relax.ensures.done k here)

@@ -13,11 +13,11 @@ returns-then-level-fare-clause-lowers c =
     let old = c.args.self.now in
     let fare = c.fare-fare.result in
     let step : IsStep (toll_in old.tolls) c.args.p c.args.d c.args.q fare =
-      record { direction = c.requires.direction; enters = c.requires.enters; cost = sym c.fare-fare.ensures.value; allowed = omega (arith, c.if-fare-gt0.true) } in
+    record { direction = c.requires.direction; enters = c.requires.enters; cost = sym c.fare-fare.ensures.value; allowed = omega (arith, c.if-fare-gt0.true) } in
     let less : c.args.level + fare < label_of old.field.labels c.args.p = rw c.label.ensures at c.if-level-fare.true in
     rw (c.push.ensures.value, c.lower.ensures.value)
-      (relaxed (toll_in old.tolls) c.args.level old.field.labels old.buckets c.args.p c.args.q c.args.d fare
-        c.lower.ensures.full c.push.ensures.whole c.requires.on step c.fare-fare.ensures.cheap c.requires.from less)
+    (relaxed (toll_in old.tolls) c.args.level old.field.labels old.buckets c.args.p c.args.q c.args.d fare
+    c.lower.ensures.full c.push.ensures.whole c.requires.on step c.fare-fare.ensures.cheap c.requires.from less)
 
 pub returns-then-level-fare-clause-done : goal.returns-then-level-fare-clause-done
 returns-then-level-fare-clause-done c = λ k step.

@@ -10,14 +10,14 @@ loop-i-init c = ringed-none _ _ _ _
 pub loop-i-preserved : goal.loop-i-preserved
 loop-i-preserved c =
     elim c.if-label-level.branch [
-      then-label-level w ↦
-        rw w.self-is
+      | then-label-level w ↦
+          rw w.self-is
           (ringed-step _ _ _ _ _ _ _ _ _ c.loop-i.invariant c.get-q.ensures.whole c.get-q.ensures.here _ _ _
-            w.expand.ensures.tolls w.expand.ensures.level w.expand.ensures.lowers w.expand.ensures.done)
-    | else-label-level w ↦
-        rw w.self-is
+          w.expand.ensures.tolls w.expand.ensures.level w.expand.ensures.lowers w.expand.ensures.done)
+      | else-label-level w ↦
+          rw w.self-is
           (ringed-skip _ _ _ _ _ _ _ _ _ c.loop-i.invariant c.get-q.ensures.whole c.get-q.ensures.here
-            (λ same. w.if-label-level.false (c.label.ensures ∙ same)))
+          (λ same. w.if-label-level.false (c.label.ensures ∙ same)))
     ]
 
 pub returns-clause-done : goal.returns-clause-done
