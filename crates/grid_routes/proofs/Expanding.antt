@@ -1,0 +1,164 @@
+-- What a cell's and a ring's expansion has done so far.
+use Rattle.std.proofs.Common.{◌≡◌, ◌≢◌, ℕ, ◌+◌, ◌*◌, ◌%◌, ◌<◌, ◌≤◌, ◌⊎◌, inl, inr, Bool, true, false, Some, length, List, refl, ap, sym, ◌∙◌, arith, subst}
+use Rattle.std.proofs.lemmas.Bool.{cases_eq, cases_lt}
+use Rattle.world_units.specs.declared.cell.CPos.{CPos}
+use Rattle.world_units.specs.Directions.{opposite_of, step_of}
+use Rattle.game_model.specs.Grid.{Grid, IsOn, HasSize}
+use Rattle.grid_routes.specs.Walks.{IsStep}
+use Rattle.grid_routes.specs.Tolls.{toll_in}
+use Rattle.grid_routes.specs.Labels.{Distances, IsFull, label_of}
+use Rattle.grid_routes.specs.Held.{Shelves, IsAt, IsWhole}
+use Rattle.grid_routes.specs.Steps.{Lowers, IsExpanded}
+use Rattle.grid_routes.proofs.Directions.{step-back, opposite-back, opposite-low}
+use Rattle.grid_routes.proofs.Lowering.{lowers-refl, lowers-trans, falls, level-stays, expanded-stays}
+use Rattle.grid_routes.proofs.Shelves.{only-one}
+
+-- The sizes stay.
+pub full-stays :
+    (toll : CPos → ℕ) (level : ℕ) (old : Grid ℕ) (before : Shelves) (new : Grid ℕ) (after : Shelves) →
+    Lowers toll level old before new after → IsFull old → IsFull new
+full-stays toll level old before new after low full =
+    let wide : new.width ≡ old.width = low.size.width in
+    let high : new.height ≡ old.height = low.size.height in
+    record {
+      size = low.cells ∙ full.size ∙ ap (λ n. n * old.height) (sym wide) ∙ ap (λ n. new.width * n) (sym high);
+      wide = rw wide full.wide;
+      high = rw high full.high;
+    }
+
+-- The neighbours in directions below d were offered their walk over q.
+pub record Offered (tolls : Grid ℕ) (field : Distances) (shelves : Shelves) (tolls' : Grid ℕ) (field' : Distances) (shelves' : Shelves) (q : CPos) (level d : ℕ) : Type 0 where
+  pub same_tolls : tolls' ≡ tolls
+  pub same_level : field'.level ≡ field.level
+  pub lowers : Lowers (toll_in tolls) level field.labels shelves field'.labels shelves'
+  pub done :
+      (e : ℕ) (p : CPos) (k : ℕ) → e < d → step_of q e ≡ Some p → IsOn field.labels.width field.labels.height p →
+      IsStep (toll_in tolls) p (opposite_of e) q k → label_of field'.labels p ≤ level + k
+
+pub offered-none :
+    (tolls : Grid ℕ) (field : Distances) (shelves : Shelves) (q : CPos) (level : ℕ) →
+    Offered tolls field shelves tolls field shelves q level 0
+offered-none tolls field shelves q level = record {
+  same_tolls = refl;
+  same_level = refl;
+  lowers = lowers-refl (toll_in tolls) level field.labels shelves;
+  done = λ e p k below there on step. absurd (omega arith);
+}
+
+pub offered-step :
+    (tolls : Grid ℕ) (field : Distances) (shelves : Shelves) (tolls' : Grid ℕ) (field' : Distances) (shelves' : Shelves)
+    (q : CPos) (level d : ℕ) (tolls'' : Grid ℕ) (field'' : Distances) (shelves'' : Shelves) →
+    Offered tolls field shelves tolls' field' shelves' q level d →
+    tolls'' ≡ tolls' → field''.level ≡ field'.level →
+    Lowers (toll_in tolls') level field'.labels shelves' field''.labels shelves'' →
+    ((p : CPos) (k : ℕ) → step_of q d ≡ Some p → IsOn field'.labels.width field'.labels.height p →
+    IsStep (toll_in tolls') p (opposite_of d) q k → label_of field''.labels p ≤ level + k) →
+    Offered tolls field shelves tolls'' field'' shelves'' q level (d + 1)
+offered-step tolls field shelves tolls' field' shelves' q level d tolls'' field'' shelves'' so_far tolls_stay level_stays low done =
+    let toll : toll_in tolls' ≡ toll_in tolls = ap toll_in so_far.same_tolls in
+    let lower : Lowers (toll_in tolls) level field'.labels shelves' field''.labels shelves'' =
+    subst (λ (t : CPos → ℕ). Lowers t level field'.labels shelves' field''.labels shelves'') toll low in
+    let wide : field'.labels.width ≡ field.labels.width = so_far.lowers.size.width in
+    let high : field'.labels.height ≡ field.labels.height = so_far.lowers.size.height in
+    record {
+      same_tolls = tolls_stay ∙ so_far.same_tolls;
+      same_level = level_stays ∙ so_far.same_level;
+      lowers = lowers-trans (toll_in tolls) level field.labels shelves field'.labels shelves' field''.labels shelves'' so_far.lowers lower;
+      done = λ e p k below there on step.
+          elim (cases_eq e d) [
+            | inl same ↦
+                done p k (ap (λ j. step_of q j) (sym same) ∙ there)
+                (record { column = rw wide on.column; row = rw high on.row })
+                (subst (λ (t : CPos → ℕ). IsStep t p (opposite_of d) q k) (sym toll)
+                (subst (λ (j : ℕ). IsStep (toll_in tolls) p (opposite_of j) q k) same step))
+            | inr other ↦
+                let before = so_far.done e p k (omega arith) there on step in
+                let fell = falls (toll_in tolls) level field'.labels shelves' field''.labels shelves'' lower p in
+                omega (arith, before, fell)
+          ];
+    }
+
+-- All neighbours were offered their walk.
+pub offered-all :
+    (tolls : Grid ℕ) (field : Distances) (shelves : Shelves) (tolls' : Grid ℕ) (field' : Distances) (shelves' : Shelves)
+    (q : CPos) (level d : ℕ) → IsFull field.labels → 8 ≤ d →
+    Offered tolls field shelves tolls' field' shelves' q level d →
+    IsExpanded (toll_in tolls) field'.labels level q
+offered-all tolls field shelves tolls' field' shelves' q level d full end so_far = λ p e k on step.
+    let wide : field'.labels.width ≡ field.labels.width = so_far.lowers.size.width in
+    let high : field'.labels.height ≡ field.labels.height = so_far.lowers.size.height in
+    let column : p.x < field.labels.width = rw wide at on.column in
+    let row : p.y < field.labels.height = rw high at on.row in
+    let small : p.x < 256 = omega (arith, full.wide) in
+    let short : p.y < 256 = omega (arith, full.high) in
+    so_far.done (opposite_of e) p k (omega (arith, opposite-low e))
+    (step-back p q e small short step.direction step.enters)
+    (record { column = column; row = row })
+    (subst (λ (j : ℕ). IsStep (toll_in tolls) p j q k) (sym (opposite-back e step.direction)) step)
+
+-- The cells in the first places of the level's bucket are expanded.
+pub record Ringed (tolls : Grid ℕ) (field : Distances) (shelves : Shelves) (tolls' : Grid ℕ) (field' : Distances) (shelves' : Shelves) (level i : ℕ) : Type 0 where
+  pub same_tolls : tolls' ≡ tolls
+  pub same_level : field'.level ≡ field.level
+  pub lowers : Lowers (toll_in tolls) level field.labels shelves field'.labels shelves'
+  pub done :
+      (j : ℕ) (q : CPos) → j < i → IsAt shelves (level % 71) j q → label_of field.labels q ≡ level →
+      IsExpanded (toll_in tolls) field'.labels level q
+
+pub ringed-none :
+    (tolls : Grid ℕ) (field : Distances) (shelves : Shelves) (level : ℕ) →
+    Ringed tolls field shelves tolls field shelves level 0
+ringed-none tolls field shelves level = record {
+  same_tolls = refl;
+  same_level = refl;
+  lowers = lowers-refl (toll_in tolls) level field.labels shelves;
+  done = λ j q below at label. absurd (omega arith);
+}
+
+module _ (tolls : Grid ℕ) (field : Distances) (shelves : Shelves) (tolls' : Grid ℕ) (field' : Distances) (shelves' : Shelves) (level i : ℕ) (c : CPos) (so_far : Ringed tolls field shelves tolls' field' shelves' level i) (whole : IsWhole shelves') (at : IsAt shelves' (level % 71) i c) where
+  there : (q : CPos) → IsAt shelves (level % 71) i q → q ≡ c
+  there q here =
+      let low : level % 71 < 71 = omega arith in
+      only-one shelves' (level % 71) i q c whole low (so_far.lowers.kept (level % 71) i q here) at
+
+  pub ringed-skip : (label_of field'.labels c ≡ level → ⊥) → Ringed tolls field shelves tolls' field' shelves' level (i + 1)
+  ringed-skip other = record {
+    same_tolls = so_far.same_tolls;
+    same_level = so_far.same_level;
+    lowers = so_far.lowers;
+    done = λ j q below here label.
+        elim (cases_eq j i) [
+          | inl same ↦
+              let one = there q (subst (λ (n : ℕ). IsAt shelves (level % 71) n q) same here) in
+              let stays = level-stays (toll_in tolls) level field.labels shelves field'.labels shelves' so_far.lowers q (omega (arith, label)) in
+              absurd (other (ap (λ x. label_of field'.labels x) (sym one) ∙ stays ∙ label))
+          | inr less ↦ so_far.done j q (omega arith) here label
+        ];
+  }
+
+  pub ringed-step :
+      (tolls'' : Grid ℕ) (field'' : Distances) (shelves'' : Shelves) →
+      tolls'' ≡ tolls' → field''.level ≡ field'.level →
+      Lowers (toll_in tolls') level field'.labels shelves' field''.labels shelves'' →
+      IsExpanded (toll_in tolls') field''.labels level c →
+      Ringed tolls field shelves tolls'' field'' shelves'' level (i + 1)
+  ringed-step tolls'' field'' shelves'' tolls_stay level_stays low done =
+      let toll : toll_in tolls' ≡ toll_in tolls = ap toll_in so_far.same_tolls in
+      let lower : Lowers (toll_in tolls) level field'.labels shelves' field''.labels shelves'' =
+      subst (λ (t : CPos → ℕ). Lowers t level field'.labels shelves' field''.labels shelves'') toll low in
+      let here_done : IsExpanded (toll_in tolls) field''.labels level c =
+      subst (λ (t : CPos → ℕ). IsExpanded t field''.labels level c) toll done in
+      record {
+        same_tolls = tolls_stay ∙ so_far.same_tolls;
+        same_level = level_stays ∙ so_far.same_level;
+        lowers = lowers-trans (toll_in tolls) level field.labels shelves field'.labels shelves' field''.labels shelves'' so_far.lowers lower;
+        done = λ j q below here label.
+            elim (cases_eq j i) [
+              | inl same ↦
+                  let one = there q (subst (λ (n : ℕ). IsAt shelves (level % 71) n q) same here) in
+                  subst (λ (x : CPos). IsExpanded (toll_in tolls) field''.labels level x) (sym one) here_done
+              | inr less ↦
+                  expanded-stays (toll_in tolls) level field'.labels shelves' field''.labels shelves'' lower q
+                  (so_far.done j q (omega arith) here label)
+            ];
+      }

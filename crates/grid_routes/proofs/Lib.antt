@@ -1,0 +1,11 @@
+pub mod Advancing
+pub mod Beginning
+pub mod Best
+pub mod Cells
+pub mod Directions
+pub mod Expanding
+pub mod Filling
+pub mod Lowering
+pub mod Rows
+pub mod Shelves
+pub mod Walking

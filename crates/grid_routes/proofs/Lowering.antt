@@ -1,0 +1,179 @@
+-- Labels that fall by steps into cells of one level.
+use Rattle.std.proofs.Common.{◌≡◌, ◌≢◌, ℕ, ◌+◌, ◌*◌, ◌%◌, ◌<◌, ◌≤◌, ◌⊎◌, inl, inr, not, nat_lt, Bool, true, false, cond, length, List, set, get_or, refl, ap, sym, ◌∙◌, arith, subst, length-set}
+use Rattle.std.proofs.lemmas.Bool.{cases_eq, cases_lt}
+use Rattle.std.proofs.lemmas.Bool.Decides.{nat_tests}
+use Rattle.std.proofs.lemmas.List.Sums.{sum_by-set}
+use Rattle.std.specs.List.{count_by, sum_by}
+use Rattle.world_units.specs.declared.cell.CPos.{CPos}
+use Rattle.game_model.specs.Grid.{Grid, IsOn, HasSize, place_of, with_cell}
+use Rattle.grid_routes.specs.declared.field.TheConstants.{NONE}
+use Rattle.grid_routes.specs.Values.{value_in}
+use Rattle.grid_routes.specs.Walks.{IsStep}
+use Rattle.grid_routes.specs.Labels.{IsFull, label_of, open_count}
+use Rattle.grid_routes.specs.Held.{Shelves, IsAt, IsHeld, IsWhole, pushed, len_of}
+use Rattle.grid_routes.specs.Steps.{IsMade, Lowers, IsExpanded}
+use Rattle.grid_routes.proofs.Cells.{placed, set-here, set-other, is_on-true}
+use Rattle.grid_routes.proofs.Shelves.{pushed-kept, pushed-held, pushed-others, pushed-lost, pushed-room}
+
+-- Two cells are one or not.
+pub one-or-not : (p q : CPos) → (p ≡ q) ⊎ (p ≢ q)
+one-or-not p q =
+    let made : ℕ → ℕ → CPos = λ x y. record { x = x; y = y } in
+    elim (cases_eq p.x q.x) [
+      | inl x ↦ elim (cases_eq p.y q.y) [
+        | inl y ↦ inl (ap (λ n. made n p.y) x ∙ ap (λ n. made q.x n) y)
+        | inr y ↦ inr (λ (same : p ≡ q). y (ap (λ c. c.y) same))
+      ]
+      | inr x ↦ inr (λ (same : p ≡ q). x (ap (λ c. c.x) same))
+    ]
+
+pub lowers-refl : (toll : CPos → ℕ) (level : ℕ) (g : Grid ℕ) (s : Shelves) → Lowers toll level g s g s
+lowers-refl toll level g s = record {
+  size = record { width = refl; height = refl };
+  cells = refl;
+  each = λ p. inl refl;
+  count = refl;
+  kept = λ b i c at. at;
+  row = refl;
+  lost = λ h. h;
+  room = refl;
+}
+
+-- What falls does not rise, and a label at the level stays.
+pub falls : (toll : CPos → ℕ) (level : ℕ) (old : Grid ℕ) (before : Shelves) (new : Grid ℕ) (after : Shelves) →
+    Lowers toll level old before new after → (p : CPos) → label_of new p ≤ label_of old p
+falls toll level old before new after low p =
+    elim (low.each p) [ inl same ↦ omega arith | inr made ↦ omega (arith, made.label, made.lower) ]
+
+pub level-stays : (toll : CPos → ℕ) (level : ℕ) (old : Grid ℕ) (before : Shelves) (new : Grid ℕ) (after : Shelves) →
+    Lowers toll level old before new after → (p : CPos) → label_of old p ≤ level → label_of new p ≡ label_of old p
+level-stays toll level old before new after low p at =
+    elim (low.each p) [ inl same ↦ same | inr made ↦ absurd (omega (arith, made.lower)) ]
+
+-- A label at most the level was there before.
+pub level-was : (toll : CPos → ℕ) (level : ℕ) (old : Grid ℕ) (before : Shelves) (new : Grid ℕ) (after : Shelves) →
+    Lowers toll level old before new after → (p : CPos) → label_of new p ≤ level → label_of new p ≡ label_of old p
+level-was toll level old before new after low p at =
+    elim (low.each p) [ inl same ↦ same | inr made ↦ absurd (omega (arith, made.label, made.step.allowed)) ]
+
+pub lowers-trans :
+    (toll : CPos → ℕ) (level : ℕ) (a : Grid ℕ) (s : Shelves) (b : Grid ℕ) (t : Shelves) (c : Grid ℕ) (u : Shelves) →
+    Lowers toll level a s b t → Lowers toll level b t c u → Lowers toll level a s c u
+lowers-trans toll level a s b t c u first second =
+    let wide : b.width ≡ a.width = first.size.width in
+    let high : b.height ≡ a.height = first.size.height in
+    record {
+      size = record { width = second.size.width ∙ wide; height = second.size.height ∙ high };
+      cells = second.cells ∙ first.cells;
+      each = λ p. elim (second.each p) [
+        | inl same ↦ elim (first.each p) [
+          | inl before ↦ inl (same ∙ before)
+          | inr made ↦ inr (record {
+            entered = made.entered;
+            direction = made.direction;
+            cost = made.cost;
+            on = made.on;
+            step = made.step;
+            cheap = made.cheap;
+            from = made.from;
+            label = same ∙ made.label;
+            lower = made.lower;
+            held = elim made.held [
+              | inl lost ↦ inl (second.lost lost)
+              | inr held ↦ inr (record { place = held.place; at = second.kept _ _ _ held.at })
+            ];
+          })
+        ]
+        | inr made ↦ inr (record {
+          entered = made.entered;
+          direction = made.direction;
+          cost = made.cost;
+          on = record { column = rw wide at made.on.column; row = rw high at made.on.row };
+          step = made.step;
+          cheap = made.cheap;
+          from = sym (level-was toll level a s b t first made.entered (omega (arith, made.from))) ∙ made.from;
+          label = made.label;
+          lower = let most = falls toll level a s b t first p in omega (arith, made.lower, most);
+          held = made.held;
+        })
+      ];
+      count = second.count ∙ first.count;
+      kept = λ j i q at. second.kept j i q (first.kept j i q at);
+      row = second.row ∙ first.row;
+      lost = λ h. second.lost (first.lost h);
+      room = second.room ∙ first.room;
+    }
+
+-- A cell that was expanded stays so.
+pub expanded-stays :
+    (toll : CPos → ℕ) (level : ℕ) (old : Grid ℕ) (before : Shelves) (new : Grid ℕ) (after : Shelves) →
+    Lowers toll level old before new after → (q : CPos) → IsExpanded toll old level q → IsExpanded toll new level q
+expanded-stays toll level old before new after low q done = λ p d k on step.
+    let wide : new.width ≡ old.width = low.size.width in
+    let high : new.height ≡ old.height = low.size.height in
+    let here : IsOn old.width old.height p = record { column = rw wide at on.column; row = rw high at on.row } in
+    let most = falls toll level old before new after low p in
+    let least = done p d k here step in
+    omega (arith, most, least)
+
+above : (bound x : ℕ) → bound ≤ x → ◌≡◌ {A = ℕ} (cond (not (nat_lt x bound)) 1 0) 1
+above bound x high = grind (arith, nat_tests)
+
+count-set :
+    (bound : ℕ) (cells : List ℕ) (i v d : ℕ) → i < length cells → bound ≤ v → bound ≤ get_or cells i d →
+    count_by (λ l. not (nat_lt l bound)) (set cells i v) ≡ count_by (λ l. not (nat_lt l bound)) cells
+count-set bound cells i v d within new old =
+    let sums = sum_by-set (λ l. cond (not (nat_lt l bound)) 1 0) cells i v d within in
+    let one = above bound v new in
+    let other = above bound (get_or cells i d) old in
+    omega (arith, sums, one, other)
+
+pub label-read : (g : Grid ℕ) (p : CPos) → IsOn g.width g.height p → label_of g p ≡ get_or g.cells (place_of g.width p) NONE
+unfolding value_in
+label-read g p on = rw (is_on-true g.width g.height p on) refl
+
+count-with :
+    (g : Grid ℕ) (p : CPos) (bound v : ℕ) → IsFull g → IsOn g.width g.height p → bound ≤ v → bound ≤ label_of g p →
+    open_count bound (with_cell g p v) ≡ open_count bound g
+unfolding open_count
+count-with g p bound v full on new old =
+    let within = placed g.width g.height p (length g.cells) full.size on in
+    let read = label-read g p on in
+    count-set bound g.cells (place_of g.width p) v NONE within new (rw read at old)
+
+-- A cell that is offered a lower label.
+pub relaxed :
+    (toll : CPos → ℕ) (level : ℕ) (g : Grid ℕ) (s : Shelves) (p q : CPos) (d k : ℕ) →
+    IsFull g → IsWhole s → IsOn g.width g.height p → IsStep toll p d q k → k ≤ 70 →
+    label_of g q ≡ level → level + k < label_of g p →
+    Lowers toll level g s (with_cell g p (level + k)) (pushed s ((level + k) % 71) p)
+relaxed toll level g s p q d k full whole on step cheap from less =
+    let low : (level + k) % 71 < 71 = omega arith in
+    let allowed = step.allowed in
+    record {
+      size = record { width = refl; height = refl };
+      cells = length-set g.cells (place_of g.width p) (level + k);
+      each = λ c. elim (one-or-not c p) [
+        | inl same ↦
+            subst (λ (x : CPos). (label_of (with_cell g p (level + k)) x ≡ label_of g x) ⊎ IsMade toll level g (with_cell g p (level + k)) (pushed s ((level + k) % 71) p) x)
+            (sym same)
+            (inr (record {
+              entered = q;
+              direction = d;
+              cost = k;
+              on = on;
+              step = step;
+              cheap = cheap;
+              from = from;
+              label = set-here NONE g p (level + k) full.size on;
+              lower = less;
+              held = pushed-held s ((level + k) % 71) p whole low;
+            }))
+        | inr other ↦ inl (set-other NONE g p (level + k) c on.column other)
+      ];
+      count = count-with g p (level + 1) (level + k) full on (omega arith) (omega arith);
+      kept = pushed-kept s ((level + k) % 71) p whole low;
+      row = pushed-others s ((level + k) % 71) p whole low (level % 71) (λ (same : level % 71 ≡ (level + k) % 71). omega arith);
+      lost = pushed-lost s ((level + k) % 71) p whole low;
+      room = pushed-room s ((level + k) % 71) p whole low;
+    }

@@ -1,0 +1,107 @@
+-- A route that follows the best directions, cell by cell.
+use Rattle.std.proofs.Common.{◌≡◌, ◌≢◌, ℕ, ◌+◌, ◌*◌, ◌<◌, ◌≤◌, ◌⊎◌, inl, inr, length, List, [], ◌∷◌, ◌++◌, Option, Some, None, refl, ap, sym, ◌∙◌, arith, subst, append_assoc, append-nil}
+use Rattle.world_units.specs.declared.cell.CPos.{CPos}
+use Rattle.world_units.specs.Directions.{step_of}
+use Rattle.game_model.specs.Grid.{Grid, IsOn}
+use Rattle.grid_routes.specs.declared.field.TheConstants.{NONE}
+use Rattle.grid_routes.specs.Walks.{Land, IsStep, IsWalk, IsBest, IsDistance, IsRouteOver, FollowsBest}
+use Rattle.grid_routes.specs.Labels.{Distances, label_of}
+use Rattle.grid_routes.specs.Held.{Shelves}
+use Rattle.grid_routes.specs.Steps.{IsSearch, IsLead, IsLeastLead, IsOnward}
+use Rattle.grid_routes.proofs.Best.{best-is, distance, no-lead-goal, step-on}
+
+no-cost : (land : Land) (cells : List CPos) (p : CPos) (n : ℕ) → n ≡ 0 → IsWalk land p cells n → p ≡ land.goal
+no-cost land [] p n none walk = walk.0
+no-cost land (q ∷ cells) p n none walk = let allowed = walk.3.allowed in let sum = walk.4 in absurd (omega (arith, sum, allowed))
+
+-- Only the goal has no distance.
+pub zero-goal : (land : Land) (f : Distances) (s : Shelves) → IsSearch land f s → (p : CPos) → label_of f.labels p ≡ 0 → p ≡ land.goal
+zero-goal land f s search p none =
+    let some = search.right.walks p (omega arith) in
+    no-cost land some.0 p (label_of f.labels p) none some.1
+
+pub onward :
+    (land : Land) (f : Distances) (s : Shelves) → IsSearch land f s → (p q : CPos) (d n : ℕ) →
+    IsOn f.labels.width f.labels.height p → label_of f.labels p ≤ f.level → label_of f.labels p < NONE →
+    n ≡ label_of f.labels p → IsLeastLead land.toll f.labels p n d → Some q ≡ step_of p d → IsOnward land f.labels p q
+onward land f s search p q d n on final less is least there =
+    let least_here = subst (λ (m : ℕ). IsLeastLead land.toll f.labels p m d) is least in
+    let lead = least_here.leads in
+    let e : Some q ≡ Some lead.entered = there ∙ lead.step.enters in
+    let one : lead.entered ≡ q = cc in
+    record {
+      direction = d;
+      cost = lead.cost;
+      step = subst (λ (x : CPos). IsStep land.toll p d x lead.cost) one lead.step;
+      best = best-is land f s search p on final less d least_here;
+      label = ap (λ x. label_of f.labels x + lead.cost) (sym one) ∙ lead.label;
+    }
+
+pub leads-somewhere :
+    (land : Land) (f : Distances) (s : Shelves) → IsSearch land f s → (p : CPos) (n : ℕ) →
+    IsOn f.labels.width f.labels.height p → label_of f.labels p ≤ f.level → label_of f.labels p < NONE →
+    0 < label_of f.labels p → n ≡ label_of f.labels p → ((d : ℕ) → IsLead land.toll f.labels p n d → ⊥) → ⊥
+leads-somewhere land f s search p n on final less away is none =
+    let none_here = subst (λ (m : ℕ). (d : ℕ) → IsLead land.toll f.labels p m d → ⊥) is none in
+    let there = no-lead-goal land f s search p on final less none_here in
+    let zero_there = ap (λ c. label_of f.labels c) there ∙ search.right.goal in
+    omega (arith, zero_there)
+
+-- The cells so far: any walk from the last of them goes on from the first.
+pub record RouteSoFar (land : Land) (f : Distances) (from at : CPos) (cells : List CPos) : Type 0 where
+  pub passed : List CPos
+  pub spent : ℕ
+  pub all : cells ≡ from ∷ passed
+  pub sum : spent + label_of f.labels at ≡ label_of f.labels from
+  pub on : IsOn f.labels.width f.labels.height at
+  pub rest :
+      (others : List CPos) (m n : ℕ) → n ≡ spent + m → IsWalk land at others m → FollowsBest land at others →
+      IsWalk land from (passed ++ others) n × FollowsBest land from (passed ++ others)
+
+pub route-first :
+    (land : Land) (f : Distances) (from : CPos) (cells : List CPos) → cells ≡ from ∷ [] →
+    IsOn f.labels.width f.labels.height from → RouteSoFar land f from from cells
+route-first land f from cells all on = record {
+  passed = [];
+  spent = 0;
+  all = all;
+  sum = omega arith;
+  on = on;
+  rest = λ others m n is walk best.
+      (subst (λ (k : ℕ). IsWalk land from others k) (omega (arith, is)) walk, best);
+}
+
+pub route-step :
+    (land : Land) (f : Distances) (s : Shelves) → IsSearch land f s → (from at q : CPos) (cells cells' : List CPos) →
+    RouteSoFar land f from at cells → IsOnward land f.labels at q → cells' ≡ cells ++ q ∷ [] →
+    RouteSoFar land f from q cells'
+route-step land f s search from at q cells cells' so_far onward more = record {
+  passed = so_far.passed ++ q ∷ [];
+  spent = so_far.spent + onward.cost;
+  all = more ∙ ap (λ xs. xs ++ q ∷ []) so_far.all;
+  sum = omega (arith, so_far.sum, onward.label);
+  on = step-on land.toll f.labels.width f.labels.height search.fair at q onward.direction onward.cost onward.step;
+  rest = λ others m n is walk best.
+      rw (append_assoc so_far.passed (q ∷ []) others)
+      (so_far.rest (q ∷ others) (onward.cost + m) n (omega (arith, is))
+      (onward.direction, onward.cost, m, onward.step, refl, walk)
+      (onward.direction, onward.best, onward.step.enters, best));
+}
+
+pub route-end :
+    (land : Land) (f : Distances) (s : Shelves) → IsSearch land f s → (from at : CPos) (cells : List CPos) (cost : ℕ) →
+    RouteSoFar land f from at cells → IsOn f.labels.width f.labels.height from →
+    label_of f.labels from ≤ f.level → label_of f.labels from < NONE → cost ≡ label_of f.labels from →
+    label_of f.labels at ≤ 0 → IsRouteOver land from cost cells
+route-end land f s search from at cells cost so_far on final less is none =
+    let there = zero-goal land f s search at (omega (arith, none)) in
+    let both = so_far.rest [] 0 cost (omega (arith, so_far.sum, is, none)) (there, refl) there in
+    let short = append-nil so_far.passed in
+    record {
+      entered = so_far.passed;
+      all = so_far.all;
+      walk = subst (λ (xs : List CPos). IsWalk land from xs cost) short both.0;
+      best = subst (λ (xs : List CPos). FollowsBest land from xs) short both.1;
+      least = λ other m walk.
+          let least = (distance land f s search from on final less).least other m walk in omega (arith, least, is);
+    }

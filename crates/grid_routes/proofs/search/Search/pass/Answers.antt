@@ -1,0 +1,18 @@
+use Rattle.grid_routes.specs.Tolls.{toll_in}
+use Rattle.grid_routes.proofs.Advancing.{passed, passed-fewer}
+use Rattle.std.proofs.Common.{arith}
+use Rattle.grid_routes.proofs.search.Search.pass.Goals as goal
+
+pub returns-clause-search : goal.returns-clause-search
+returns-clause-search c =
+    rw (c.raise.ensures, c.clear.ensures, c.ring.ensures.tolls)
+    (passed (toll_in c.args.self.now.tolls) c.args.goal c.args.self.now.field c.args.self.now.buckets c.args.label
+    c.ring.new.self.field.labels c.ring.new.self.buckets c.requires.search c.requires.whole c.requires.next
+    c.ring.ensures.lowers c.ring.ensures.done c.requires.open)
+
+pub returns-clause-fewer : goal.returns-clause-fewer
+returns-clause-fewer c =
+    rw c.raise.ensures
+    (passed-fewer (toll_in c.args.self.now.tolls) c.args.goal c.args.self.now.field c.args.self.now.buckets c.args.label
+    c.ring.new.self.field.labels c.ring.new.self.buckets c.requires.search c.requires.whole c.requires.next
+    c.ring.ensures.lowers c.ring.ensures.done c.requires.open)

@@ -1,0 +1,25 @@
+use Rattle.std.proofs.Common.{◌≡◌, ℕ, ◌∙◌, sym, ap, arith}
+use Rattle.grid_routes.specs.Labels.{label_of}
+use Rattle.grid_routes.proofs.Expanding.{full-stays, ringed-none, ringed-skip, ringed-step}
+use Rattle.grid_routes.proofs.search.Search.ring.Goals as goal
+use Rattle.grid_routes.proofs.search.Search.ring.Goals.{then-label-level, else-label-level}
+
+pub loop-i-init : goal.loop-i-init
+loop-i-init c = ringed-none _ _ _ _
+
+pub loop-i-preserved : goal.loop-i-preserved
+loop-i-preserved c =
+    elim c.if-label-level.branch [
+      | then-label-level w ↦
+          rw w.self-is
+          (ringed-step _ _ _ _ _ _ _ _ _ c.loop-i.invariant c.get-q.ensures.whole c.get-q.ensures.here _ _ _
+          w.expand.ensures.tolls w.expand.ensures.level w.expand.ensures.lowers w.expand.ensures.done)
+      | else-label-level w ↦
+          rw w.self-is
+          (ringed-skip _ _ _ _ _ _ _ _ _ c.loop-i.invariant c.get-q.ensures.whole c.get-q.ensures.here
+          (λ same. w.if-label-level.false (c.label.ensures ∙ same)))
+    ]
+
+pub returns-clause-done : goal.returns-clause-done
+returns-clause-done c = λ i q at label.
+    c.loop-i.invariant.done i q (omega (arith, at.within, c.len-i-end.ensures)) at label

@@ -1,0 +1,8 @@
+use Rattle.std.proofs.Common.{◌≡◌, ℕ}
+use Rattle.grid_routes.specs.Tolls.{toll_in}
+use Rattle.grid_routes.proofs.Expanding.{Ringed}
+use Rattle.grid_routes.proofs.search.Search.ring.Given as goal
+
+abbrev pub invariant-loop-i : goal.invariant-loop-i
+invariant-loop-i l =
+    Ringed l.fn.self.tolls l.fn.self.field l.fn.self.buckets l.self.tolls l.self.field l.self.buckets l.level l.i

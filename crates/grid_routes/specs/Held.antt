@@ -1,0 +1,48 @@
+-- Cells in buckets.
+use Rattle.std.specs.Prelude.{◌≡◌, ℕ, ◌+◌, ◌*◌, ◌<◌, ◌≤◌, nat_lt, if◌then◌else◌, Bool, true, List, length}
+use Rattle.std.specs.Prelude.{slice_index_or, slice_set}
+use Rattle.world_units.specs.declared.cell.CPos.{CPos}
+
+-- The cells of buckets with room for so many each, bucket after bucket, how many each holds, and
+-- whether one may be missing.
+pub record Shelves : Type 0 where
+  pub room : ℕ
+  pub cells : List CPos
+  pub lens : List ℕ
+  pub lost : Bool
+
+-- How many cells a bucket holds.
+abbrev pub len_of : Shelves → ℕ → ℕ
+len_of shelves b = slice_index_or shelves.lens b 0
+
+-- There are 71 buckets, and none holds more than it has room for.
+pub record IsWhole (shelves : Shelves) : Type 0 where
+  pub cells : length shelves.cells ≡ 71 * shelves.room
+  pub lens : length shelves.lens ≡ 71
+  pub fits : (b : ℕ) → len_of shelves b ≤ shelves.room
+
+-- The cell at a place of a bucket.
+pub record IsAt (shelves : Shelves) (b i : ℕ) (p : CPos) : Type 0 where
+  pub within : i < len_of shelves b
+  pub cell : slice_index_or shelves.cells (b * shelves.room + i) p ≡ p
+
+-- The bucket has the cell.
+pub record IsHeld (shelves : Shelves) (b : ℕ) (p : CPos) : Type 0 where
+  pub place : ℕ
+  pub at : IsAt shelves b place p
+
+-- Buckets with a cell more in one of them.
+abbrev pub more : Shelves → ℕ → CPos → Shelves
+more s b p =
+    record s {
+      cells = slice_set s.cells (b * s.room + len_of s b) p;
+      lens = slice_set s.lens b (len_of s b + 1);
+    }
+
+-- The same, or the note that the cell is missing, where the bucket is full.
+abbrev pub pushed : Shelves → ℕ → CPos → Shelves
+pushed s b p = if nat_lt (len_of s b) s.room then more s b p else record s { lost = true }
+
+-- Buckets one of which is emptied.
+abbrev pub emptied : Shelves → ℕ → Shelves
+emptied s b = record s { lens = slice_set s.lens b 0 }

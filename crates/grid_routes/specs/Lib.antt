@@ -1,0 +1,7 @@
+pub mod Walks
+pub mod Values
+pub mod Tolls
+pub mod Labels
+pub mod Held
+pub mod Steps
+pub mod Routing

@@ -1,0 +1,119 @@
+ghost use Rattle.std.specs.Prelude.{◌≡◌, ℕ, ◌*◌, ◌<◌, true, false, IfOk};
+ghost use Rattle.grid_routes.specs.Held.{IsAt, IsWhole, emptied, len_of, pushed};
+
+use base::NoMemory;
+use std::alloc::Global;
+use std::marker::Model;
+use world_units::CPos;
+
+/// How many buckets there are: one for each cost of a step, from 0 to 70.
+pub(crate) const BUCKETS: u32 = 71;
+
+/// Cells in buckets, one for each label modulo the number of buckets. A cell whose label fell later
+/// stays in its old bucket too.
+#[derive(Drop)]
+pub(crate) struct Buckets {
+    /// The most cells that a bucket holds.
+    room: usize,
+    /// The cells of each bucket, bucket after bucket.
+    cells: Vec<CPos>,
+    /// How many cells each bucket holds.
+    lens: Vec<usize>,
+    /// A cell may be missing.
+    lost: bool,
+}
+
+impl Model for Buckets {
+    ghost use Rattle.grid_routes.specs.Held.{Shelves, IsWhole};
+
+    ghost Value = { Shelves };
+
+    ghost view = { λ b. record { room = b.room; cells = b.cells.items; lens = b.lens.items; lost = b.lost } };
+
+    ghost invariant = { λ b. IsWhole (record { room = b.room; cells = b.cells.items; lens = b.lens.items; lost = b.lost }) };
+}
+
+impl Buckets {
+    /// Empty buckets with room for each cell of a map in each of them. Out of memory is its only
+    /// error.
+    pub(crate) fn create(alloc: Global, w: u8, h: u8) -> Result<Buckets, NoMemory>
+        ensures { IfOk result (λ buckets. buckets.room ≡ w * h) }
+    {
+        let room = usize::from(w) * usize::from(h);
+        let mut cells = Vec::new(alloc);
+        cells.resize(71 * room, CPos { x: 0, y: 0 })?;
+        let mut lens = Vec::new(alloc);
+        lens.resize(71, 0)?;
+        Ok(Buckets {
+            room,
+            cells,
+            lens,
+            lost: false,
+        })
+    }
+
+    /// Takes all cells out.
+    pub(crate) fn clear_all(&mut self)
+        ensures room { self.new.room ≡ self.old.room }
+        ensures empty { (b : ℕ) → len_of self.new b ≡ 0 }
+        ensures whole { self.new.lost ≡ false }
+    {
+        self.lens.as_mut_slice().fill(0);
+        self.lost = false;
+    }
+
+    /// Puts a cell into a bucket, or notes that it is missing where the bucket is full.
+    pub(crate) fn push(&mut self, bucket: usize, p: CPos)
+        requires { bucket < 71 }
+        ensures value { self.new ≡ pushed self.old bucket p }
+        ensures whole { IsWhole self.old }
+    {
+        let len = self.lens[bucket];
+        if len < self.room {
+            self.cells[bucket * self.room + len] = p;
+            self.lens[bucket] = len + 1;
+        } else {
+            self.lost = true;
+        }
+    }
+
+    /// How many cells a bucket holds.
+    pub(crate) fn len(&self, bucket: usize) -> usize
+        requires { bucket < 71 }
+        ensures { result ≡ len_of self.now bucket }
+    {
+        self.lens[bucket]
+    }
+
+    /// A cell of a bucket.
+    pub(crate) fn get(&self, bucket: usize, i: usize) -> CPos
+        requires bucket { bucket < 71 }
+        requires place { i < len_of self.now bucket }
+        ensures here { IsAt self.now bucket i result }
+        ensures whole { IsWhole self.now }
+    {
+        self.cells[bucket * self.room + i]
+    }
+
+    /// Takes the cells of a bucket out.
+    pub(crate) fn clear(&mut self, bucket: usize)
+        requires { bucket < 71 }
+        ensures { self.new ≡ emptied self.old bucket }
+    {
+        self.lens[bucket] = 0;
+    }
+
+    /// Whether a cell may be missing.
+    pub(crate) fn has_lost(&self) -> bool
+        ensures { result ≡ self.now.lost }
+    {
+        self.lost
+    }
+
+    /// Says that cells may be missing.
+    pub(crate) fn lose(&mut self)
+        ensures { self.new ≡ record self.old { lost = true } }
+    {
+        self.lost = true;
+    }
+}

@@ -1,0 +1,115 @@
+ghost use Rattle.std.specs.Prelude.{◌≡◌, IfOk};
+ghost use Rattle.game_model.specs.Grid.{IsOn, HasSize, is_on, with_cell};
+ghost use Rattle.grid_routes.specs.Labels.{IsFull, label_of, begun};
+
+use base::NoMemory;
+use std::alloc::Global;
+use std::marker::Model;
+use world_units::CPos;
+
+/// The label of a cell to which no walk is known.
+pub(crate) const NONE: u32 = u32::MAX;
+
+/// Distances to a goal, as far as a search has come.
+#[derive(Drop)]
+pub(crate) struct Field {
+    width: u8,
+    height: u8,
+    /// The cost of the best walk that is known from each cell, row by row.
+    labels: Vec<u32>,
+    /// Up to this the labels are final.
+    level: u32,
+}
+
+impl Model for Field {
+    ghost use Rattle.grid_routes.specs.Labels.{Distances, IsFull};
+
+    ghost Value = { Distances };
+
+    ghost view = { λ f. record { labels = record { width = f.width; height = f.height; cells = f.labels.items }; level = f.level } };
+
+    ghost invariant = { λ f. IsFull (record { width = f.width; height = f.height; cells = f.labels.items }) };
+}
+
+impl Field {
+    /// A field without a goal. Out of memory is its only error.
+    pub(crate) fn create(alloc: Global, w: u8, h: u8) -> Result<Field, NoMemory>
+        ensures { IfOk result (λ field. HasSize w h field.labels) }
+    {
+        let mut labels = Vec::new(alloc);
+        labels.resize(usize::from(w) * usize::from(h), NONE)?;
+        Ok(Field {
+            width: w,
+            height: h,
+            labels,
+            level: NONE,
+        })
+    }
+
+    /// Begins again, at another goal.
+    pub(crate) fn begin(&mut self, goal: CPos)
+        requires { IsOn self.old.labels.width self.old.labels.height goal }
+        ensures value { self.new ≡ begun self.old goal }
+        ensures full { IsFull self.old.labels }
+    {
+        self.labels.as_mut_slice().fill(NONE);
+        self.level = 0;
+        self.lower(goal, 0);
+    }
+
+    /// Whether a cell is on the map.
+    pub(crate) fn has(&self, p: CPos) -> bool
+        ensures { result ≡ is_on self.now.labels.width self.now.labels.height p }
+    {
+        p.x < self.width && p.y < self.height
+    }
+
+    /// The label of a cell, `NONE` where it isn't on the map.
+    #[tactic(auto, unfolding(crate::specs::Values::value_in))]
+    pub(crate) fn label(&self, p: CPos) -> u32
+        ensures { result ≡ label_of self.now.labels p }
+    {
+        if self.has(p) {
+            self.labels[usize::from(p.y) * usize::from(self.width) + usize::from(p.x)]
+        } else {
+            NONE
+        }
+    }
+
+    /// Sets the label of a cell.
+    pub(crate) fn lower(&mut self, p: CPos, label: u32)
+        requires { IsOn self.old.labels.width self.old.labels.height p }
+        ensures value { self.new ≡ record self.old { labels = with_cell self.old.labels p label } }
+        ensures full { IsFull self.old.labels }
+    {
+        self.labels[usize::from(p.y) * usize::from(self.width) + usize::from(p.x)] = label;
+    }
+
+    /// Up to this the labels are final.
+    pub(crate) fn level(&self) -> u32
+        ensures { result ≡ self.now.level }
+    {
+        self.level
+    }
+
+    /// Raises the level.
+    pub(crate) fn raise(&mut self, level: u32)
+        ensures { self.new ≡ record self.old { level = level } }
+    {
+        self.level = level;
+    }
+
+    /// The number of columns.
+    pub(crate) fn width(&self) -> u8
+        ensures { result ≡ self.now.labels.width }
+    {
+        self.width
+    }
+
+    /// The number of rows.
+    pub(crate) fn height(&self) -> u8
+        ensures { result ≡ self.now.labels.height }
+    {
+        self.height
+    }
+}

@@ -1,0 +1,357 @@
+ghost use Rattle.std.specs.Prelude.{◌≡◌, ◌≢◌, ℕ, ◌+◌, ◌*◌, ◌%◌, ◌^◌, ◌<◌, ◌≤◌, false, Some, IfOk, IsTrue, IsFalse, MatchOption, length};
+ghost use Rattle.world_units.specs.declared.cell.CPos.{CPos};
+ghost use Rattle.world_units.specs.Directions.{opposite_of, step_of};
+ghost use Rattle.game_model.specs.Grid.{IsOn, HasSize};
+ghost use Rattle.grid_routes.specs.Walks.{IsBestDirection, IsStep, toll_of};
+ghost use Rattle.grid_routes.specs.Tolls.{IsCheap, toll_in};
+ghost use Rattle.grid_routes.specs.Labels.{IsFull, label_of};
+ghost use Rattle.grid_routes.specs.Held.{IsAt};
+ghost use Rattle.grid_routes.specs.Steps.{AreQueued, FitsTogether, HasLabel, IsClear, IsExpanded, IsFilled, IsLead, IsLeastLead, IsNext, IsOnward, IsRoute, IsSearch, Lowers, rings_left};
+
+use crate::buckets::{BUCKETS, Buckets};
+use crate::field::{Field, NONE};
+use crate::route::Route;
+use crate::tolls::Tolls;
+use base::{List, NoMemory};
+use game_model::{Blocks, Map};
+use rule_traits::Costs;
+use std::alloc::Global;
+use world_units::{CPos, DIRECTIONS, opposite, step};
+
+/// A search of distances from a goal, which may stop at any level and go on later.
+#[derive(Drop)]
+pub(crate) struct Search {
+    /// What it costs to enter each cell.
+    pub(crate) tolls: Tolls,
+    /// The distances so far.
+    pub(crate) field: Field,
+    /// The cells whose label is at least the level.
+    pub(crate) buckets: Buckets,
+}
+
+impl Search {
+    /// Room for searches on maps of this size. Out of memory is its only error.
+    pub(crate) fn create(alloc: Global, w: u8, h: u8) -> Result<Search, NoMemory>
+        ensures { IfOk result (λ search. FitsTogether w h search.tolls search.field search.buckets) }
+    {
+        Ok(Search {
+            tolls: Tolls::create(alloc, w, h)?,
+            field: Field::create(alloc, w, h)?,
+            buckets: Buckets::create(alloc, w, h)?,
+        })
+    }
+
+    /// Begins a search to another goal.
+    pub(crate) fn begin(&mut self, map: &Map, blocks: &Blocks, costs: &Costs, goal: CPos)
+        requires fits { FitsTogether map.now.width map.now.height self.old.tolls self.old.field self.old.buckets }
+        requires terrain { HasSize map.now.width map.now.height map.now.terrain }
+        requires blocks { HasSize map.now.width map.now.height blocks.now }
+        requires costs { IsCheap costs.now }
+        requires goal { IsOn map.now.width map.now.height goal }
+        ensures fits { FitsTogether map.now.width map.now.height self.new.tolls self.new.field self.new.buckets }
+        ensures tolls { (p : CPos) → toll_in self.new.tolls p ≡ toll_of map.now.terrain blocks.now costs.now goal p }
+        ensures search { IsSearch (record { toll = toll_in self.new.tolls; goal = goal }) self.new.field self.new.buckets }
+    {
+        self.tolls.lay(map, blocks, costs, goal);
+        self.field.begin(goal);
+        self.buckets.lose();
+    }
+
+    /// Offers a cell the walk by its step in direction `d`, which enters a cell of this level.
+    fn relax(&mut self, p: CPos, d: u8, q: CPos, level: u32)
+        requires direction { d < 8 }
+        requires on { IsOn self.old.field.labels.width self.old.field.labels.height p }
+        requires enters { step_of p d ≡ Some q }
+        requires from { label_of self.old.field.labels q ≡ level }
+        requires low { level < 2 ^ 31 }
+        ensures tolls { self.new.tolls ≡ self.old.tolls }
+        ensures level { self.new.field.level ≡ self.old.field.level }
+        ensures lowers { Lowers (toll_in self.old.tolls) level self.old.field.labels self.old.buckets self.new.field.labels self.new.buckets }
+        ensures done { (k : ℕ) → IsStep (toll_in self.old.tolls) p d q k → label_of self.new.field.labels p ≤ level + k }
+    {
+        let fare = self.tolls.fare(p, d, q);
+        if fare > 0 && level + fare < self.field.label(p) {
+            self.field.lower(p, level + fare);
+            self.buckets.push(((level + fare) % BUCKETS) as usize, p);
+        }
+    }
+
+    /// Offers the neighbour in direction `d` the walk that enters a cell of this level.
+    fn offer(&mut self, q: CPos, d: u8, level: u32)
+        requires direction { d < 8 }
+        requires from { label_of self.old.field.labels q ≡ level }
+        requires low { level < 2 ^ 31 }
+        ensures tolls { self.new.tolls ≡ self.old.tolls }
+        ensures level { self.new.field.level ≡ self.old.field.level }
+        ensures lowers { Lowers (toll_in self.old.tolls) level self.old.field.labels self.old.buckets self.new.field.labels self.new.buckets }
+        ensures done { (p : CPos) (k : ℕ) → step_of q d ≡ Some p → IsOn self.old.field.labels.width self.old.field.labels.height p → IsStep (toll_in self.old.tolls) p (opposite_of d) q k → label_of self.new.field.labels p ≤ level + k }
+    {
+        if let Some(p) = step(q, d) {
+            if self.field.has(p) {
+                self.relax(p, opposite(d), q, level);
+            }
+        }
+    }
+
+    /// Offers each neighbour of a cell of this level the walk that enters the cell.
+    fn expand(&mut self, q: CPos, level: u32)
+        requires full { IsFull self.old.field.labels }
+        requires from { label_of self.old.field.labels q ≡ level }
+        requires low { level < 2 ^ 31 }
+        ensures tolls { self.new.tolls ≡ self.old.tolls }
+        ensures level { self.new.field.level ≡ self.old.field.level }
+        ensures lowers { Lowers (toll_in self.old.tolls) level self.old.field.labels self.old.buckets self.new.field.labels self.new.buckets }
+        ensures done { IsExpanded (toll_in self.old.tolls) self.new.field.labels level q }
+    {
+        for d in 0..DIRECTIONS {
+            self.offer(q, d, level);
+        }
+    }
+
+    /// Expands the cells of this level.
+    fn ring(&mut self, level: u32)
+        requires full { IsFull self.old.field.labels }
+        requires low { level < 2 ^ 31 }
+        ensures tolls { self.new.tolls ≡ self.old.tolls }
+        ensures level { self.new.field.level ≡ self.old.field.level }
+        ensures lowers { Lowers (toll_in self.old.tolls) level self.old.field.labels self.old.buckets self.new.field.labels self.new.buckets }
+        ensures done { (i : ℕ) (q : CPos) → IsAt self.old.buckets (level % 71) i q → label_of self.old.field.labels q ≡ level → IsExpanded (toll_in self.old.tolls) self.new.field.labels level q }
+    {
+        let bucket = (level % BUCKETS) as usize;
+        for i in 0..self.buckets.len(bucket) {
+            let q = self.buckets.get(bucket, i);
+            if self.field.label(q) == level {
+                self.expand(q, level);
+            }
+        }
+    }
+
+    /// Whether a cell of a bucket has this label.
+    fn has_label(&self, bucket: usize, label: u32) -> bool
+        requires { bucket < 71 }
+        ensures found { IsTrue result → HasLabel self.now.field.labels label }
+        ensures missing { IsFalse result → (i : ℕ) (p : CPos) → IsAt self.now.buckets bucket i p → label_of self.now.field.labels p ≢ label }
+    {
+        for i in 0..self.buckets.len(bucket) {
+            let p = self.buckets.get(bucket, i);
+            if self.field.label(p) == label {
+                return true;
+            }
+        }
+        false
+    }
+
+    /// The least label from the level on, if any cell has one.
+    fn next_level(&self) -> Option<u32>
+        requires { self.now.field.level < 2 ^ 30 }
+        ensures { MatchOption result (IsClear self.now.field self.now.buckets (self.now.field.level + 71)) (λ label. IsNext self.now.field self.now.buckets label) }
+    {
+        let level = self.field.level();
+        for k in 0..BUCKETS {
+            let label = level + k;
+            if self.has_label((label % BUCKETS) as usize, label) {
+                return Some(label);
+            }
+        }
+        None
+    }
+
+    /// Fills the buckets from the labels.
+    fn refill(&mut self)
+        requires full { IsFull self.old.field.labels }
+        requires room { self.old.buckets.room ≡ length self.old.field.labels.cells }
+        ensures tolls { self.new.tolls ≡ self.old.tolls }
+        ensures field { self.new.field ≡ self.old.field }
+        ensures room { self.new.buckets.room ≡ self.old.buckets.room }
+        ensures whole { self.new.buckets.lost ≡ false }
+        ensures queued { AreQueued self.new.field self.new.buckets }
+    {
+        self.buckets.clear_all();
+        for y in 0..self.field.height() {
+            self.refill_row(y);
+        }
+    }
+
+    /// Fills the buckets from the labels of a row.
+    fn refill_row(&mut self, y: u8)
+        requires full { IsFull self.old.field.labels }
+        requires room { self.old.buckets.room ≡ length self.old.field.labels.cells }
+        requires row { y < self.old.field.labels.height }
+        requires filled { IsFilled self.old.field self.old.buckets y 0 }
+        ensures tolls { self.new.tolls ≡ self.old.tolls }
+        ensures field { self.new.field ≡ self.old.field }
+        ensures room { self.new.buckets.room ≡ self.old.buckets.room }
+        ensures filled { IsFilled self.new.field self.new.buckets (y + 1) 0 }
+    {
+        for x in 0..self.field.width() {
+            self.refill_cell(CPos { x, y });
+        }
+    }
+
+    /// Puts a cell into its bucket, if its label is at least the level.
+    fn refill_cell(&mut self, p: CPos)
+        requires full { IsFull self.old.field.labels }
+        requires room { self.old.buckets.room ≡ length self.old.field.labels.cells }
+        requires on { IsOn self.old.field.labels.width self.old.field.labels.height p }
+        requires filled { IsFilled self.old.field self.old.buckets p.y p.x }
+        ensures tolls { self.new.tolls ≡ self.old.tolls }
+        ensures field { self.new.field ≡ self.old.field }
+        ensures room { self.new.buckets.room ≡ self.old.buckets.room }
+        ensures filled { IsFilled self.new.field self.new.buckets p.y (p.x + 1) }
+    {
+        let label = self.field.label(p);
+        if self.field.level() <= label && label < NONE {
+            self.buckets.push((label % BUCKETS) as usize, p);
+        }
+    }
+
+    /// Fills the buckets where a cell may be missing.
+    fn make_whole(&mut self, goal: CPos)
+        requires { IsSearch (record { toll = toll_in self.old.tolls; goal = goal }) self.old.field self.old.buckets }
+        ensures tolls { self.new.tolls ≡ self.old.tolls }
+        ensures field { self.new.field ≡ self.old.field }
+        ensures search { IsSearch (record { toll = toll_in self.new.tolls; goal = goal }) self.new.field self.new.buckets }
+        ensures whole { self.new.buckets.lost ≡ false }
+    {
+        if self.buckets.has_lost() {
+            self.refill();
+        }
+    }
+
+    /// Expands the ring of the least label and raises the level above it.
+    fn pass(&mut self, goal: CPos, label: u32)
+        requires search { IsSearch (record { toll = toll_in self.old.tolls; goal = goal }) self.old.field self.old.buckets }
+        requires whole { self.old.buckets.lost ≡ false }
+        requires next { IsNext self.old.field self.old.buckets label }
+        requires open { self.old.field.level < NONE }
+        ensures tolls { self.new.tolls ≡ self.old.tolls }
+        ensures search { IsSearch (record { toll = toll_in self.new.tolls; goal = goal }) self.new.field self.new.buckets }
+        ensures size { HasSize self.old.field.labels.width self.old.field.labels.height self.new.field.labels }
+        ensures fewer { rings_left self.new.field < rings_left self.old.field }
+    {
+        self.ring(label);
+        self.buckets.clear((label % BUCKETS) as usize);
+        self.field.raise(label + 1);
+    }
+
+    /// Raises the level by a ring, or to the end where no cell is left.
+    fn advance(&mut self, goal: CPos)
+        requires search { IsSearch (record { toll = toll_in self.old.tolls; goal = goal }) self.old.field self.old.buckets }
+        requires open { self.old.field.level < NONE }
+        ensures tolls { self.new.tolls ≡ self.old.tolls }
+        ensures search { IsSearch (record { toll = toll_in self.new.tolls; goal = goal }) self.new.field self.new.buckets }
+        ensures size { HasSize self.old.field.labels.width self.old.field.labels.height self.new.field.labels }
+        ensures fewer { rings_left self.new.field < rings_left self.old.field }
+    {
+        self.make_whole(goal);
+        match self.next_level() {
+            Some(label) => self.pass(goal, label),
+            None => self.field.raise(NONE),
+        }
+    }
+
+    /// Goes on until the label of a cell is final.
+    pub(crate) fn settle(&mut self, from: CPos, goal: CPos)
+        requires search { IsSearch (record { toll = toll_in self.old.tolls; goal = goal }) self.old.field self.old.buckets }
+        ensures tolls { self.new.tolls ≡ self.old.tolls }
+        ensures search { IsSearch (record { toll = toll_in self.new.tolls; goal = goal }) self.new.field self.new.buckets }
+        ensures size { HasSize self.old.field.labels.width self.old.field.labels.height self.new.field.labels }
+        ensures settled { label_of self.new.field.labels from ≤ self.new.field.level }
+    {
+        while self.field.level() < self.field.label(from) {
+            self.advance(goal);
+        }
+    }
+
+    /// The least direction whose step begins a walk of least cost.
+    pub(crate) fn best(&self, from: CPos, goal: CPos) -> Option<u8>
+        requires search { IsSearch (record { toll = toll_in self.now.tolls; goal = goal }) self.now.field self.now.buckets }
+        requires on { IsOn self.now.field.labels.width self.now.field.labels.height from }
+        requires settled { label_of self.now.field.labels from ≤ self.now.field.level }
+        ensures { IsBestDirection (record { toll = toll_in self.now.tolls; goal = goal }) from result }
+    {
+        let distance = self.field.label(from);
+        if distance == NONE {
+            None
+        } else {
+            self.least_lead(from, distance)
+        }
+    }
+
+    /// The least direction whose step leads to a label that is less by the step's cost.
+    fn least_lead(&self, from: CPos, distance: u32) -> Option<u8>
+        requires { distance < NONE }
+        ensures { MatchOption result ((d : ℕ) → IsLead (toll_in self.now.tolls) self.now.field.labels from distance d → ⊥) (λ d. IsLeastLead (toll_in self.now.tolls) self.now.field.labels from distance d) }
+    {
+        for d in 0..DIRECTIONS {
+            if self.leads(from, d, distance) {
+                return Some(d);
+            }
+        }
+        None
+    }
+
+    /// Whether the step in direction `d` leads to a label that is less by the step's cost.
+    fn leads(&self, from: CPos, d: u8, distance: u32) -> bool
+        requires direction { d < 8 }
+        requires distance { distance < NONE }
+        ensures yes { IsTrue result → IsLead (toll_in self.now.tolls) self.now.field.labels from distance d }
+        ensures no { IsFalse result → IsLead (toll_in self.now.tolls) self.now.field.labels from distance d → ⊥ }
+    {
+        match step(from, d) {
+            Some(q) => {
+                let fare = self.tolls.fare(from, d, q);
+                fare > 0 && fare <= distance && self.field.label(q) == distance - fare
+            }
+            None => false,
+        }
+    }
+
+    /// The walk that takes the best direction at each cell. `None` comes exactly where there is no
+    /// walk or the cell is the goal. Out of memory is its only error.
+    pub(crate) fn route(
+        &self,
+        from: CPos,
+        goal: CPos,
+        alloc: Global,
+    ) -> Result<Option<Route>, NoMemory>
+        requires search { IsSearch (record { toll = toll_in self.now.tolls; goal = goal }) self.now.field self.now.buckets }
+        requires on { IsOn self.now.field.labels.width self.now.field.labels.height from }
+        requires settled { label_of self.now.field.labels from ≤ self.now.field.level }
+        ensures { IfOk result (IsRoute (record { toll = toll_in self.now.tolls; goal = goal }) from) }
+    {
+        let cost = self.field.label(from);
+        if cost == NONE {
+            return Ok(None);
+        }
+        if cost == 0 {
+            return Ok(None);
+        }
+        let mut cells = List::new(alloc);
+        cells.push(from)?;
+        let mut at = from;
+        while self.field.label(at) > 0 {
+            at = self.next(at, goal);
+            cells.push(at)?;
+        }
+        Ok(Some(Route { cost, cells }))
+    }
+
+    /// The cell that the best step enters.
+    fn next(&self, at: CPos, goal: CPos) -> CPos
+        requires search { IsSearch (record { toll = toll_in self.now.tolls; goal = goal }) self.now.field self.now.buckets }
+        requires on { IsOn self.now.field.labels.width self.now.field.labels.height at }
+        requires settled { label_of self.now.field.labels at ≤ self.now.field.level }
+        requires labelled { label_of self.now.field.labels at < NONE }
+        requires away { 0 < label_of self.now.field.labels at }
+        ensures { IsOnward (record { toll = toll_in self.now.tolls; goal = goal }) self.now.field.labels at result }
+    {
+        match self.least_lead(at, self.field.label(at)) {
+            Some(d) => match step(at, d) {
+                Some(q) => q,
+                None => unreachable!(),
+            },
+            None => unreachable!(),
+        }
+    }
+}

@@ -1,0 +1,131 @@
+//! Routes over small maps, and what a router keeps from one question to the next.
+
+mod rows;
+
+use crate::{Route, Router};
+use base::List;
+use game_model::{Blocks, Map, Ore, Terrain, Tiles};
+use rows::{ROWS, Row};
+use rule_traits::Costs;
+use std::alloc::{AllocError, Global};
+use std::test::Fail;
+use world_units::CPos;
+
+/// What each ground costs where rules don't say.
+const COSTS: Costs = Costs {
+    clear: 2,
+    road: 1,
+    rough: 4,
+    water: 0,
+};
+
+/// The terrain that a character of a map stands for.
+fn terrain_of(tile: u8) -> Terrain {
+    match tile {
+        b'=' => Terrain::Road,
+        b'r' => Terrain::Rough,
+        b'~' => Terrain::Water,
+        b'X' => Terrain::Rock,
+        _ => Terrain::Clear,
+    }
+}
+
+/// The tiles of the rows of a map, each with a blank before the next.
+fn tiles_of(alloc: Global, w: u8, h: u8, rows: &str) -> Result<Tiles, AllocError> {
+    let mut tiles = Tiles::create(alloc, w, h)?;
+    let (mut x, mut y) = (0u8, 0u8);
+    for tile in rows.bytes() {
+        if tile == b' ' {
+            x = 0;
+            y = y.saturating_add(1);
+        } else {
+            if x < w && y < h {
+                tiles.set(CPos { x, y }, terrain_of(tile));
+            }
+            x = x.saturating_add(1);
+        }
+    }
+    Ok(tiles)
+}
+
+/// A map of these tiles, with nothing on it.
+fn map_of(alloc: Global, w: u8, h: u8, rows: &str) -> Result<Map, AllocError> {
+    Ok(Map {
+        width: w,
+        height: h,
+        terrain: tiles_of(alloc, w, h, rows)?,
+        ore: Ore::create(alloc, w, h)?,
+        starts: List::new(alloc),
+        cash: 0,
+    })
+}
+
+/// The cells of buildings, written as `x,y` with a blank between two.
+fn blocks_of(alloc: Global, w: u8, h: u8, cells: &str) -> Result<Blocks, AllocError> {
+    let mut blocks = Blocks::create(alloc, w, h)?;
+    for cell in cells.split(' ') {
+        if let Some((x, y)) = cell.split_once(',') {
+            if let (Ok(x), Ok(y)) = (x.parse::<u8>(), y.parse::<u8>()) {
+                if x < w && y < h {
+                    blocks.set(CPos { x, y }, true);
+                }
+            }
+        }
+    }
+    Ok(blocks)
+}
+
+/// The cost and the cells of a route, or `none`.
+fn written(alloc: Global, route: &Option<Route>) -> Result<String, AllocError> {
+    let mut out = String::new(alloc);
+    match route {
+        Some(route) => {
+            let cost = route.cost;
+            write!(out, "{cost}")?;
+            for cell in route.cells.as_slice() {
+                let (x, y) = (cell.x, cell.y);
+                write!(out, " {x},{y}")?;
+            }
+        }
+        None => out.push_str("none")?,
+    }
+    Ok(out)
+}
+
+/// What the router answers to a row, by a router of its own.
+fn answer(alloc: Global, row: &Row) -> Result<String, AllocError> {
+    let (w, h) = row.size;
+    let map = map_of(alloc, w, h, row.tiles)?;
+    let blocks = blocks_of(alloc, w, h, row.built)?;
+    let (clear, road, rough, water) = row.costs;
+    let costs = Costs {
+        clear: clear.min(10),
+        road: road.min(10),
+        rough: rough.min(10),
+        water: water.min(10),
+    };
+    let from = CPos {
+        x: row.from.0,
+        y: row.from.1,
+    };
+    let to = CPos {
+        x: row.to.0,
+        y: row.to.1,
+    };
+    let mut out = String::new(alloc);
+    if from.x < w && from.y < h && to.x < w && to.y < h {
+        let mut router = Router::create(alloc, w, h)?;
+        let route = router.walk(&map, &blocks, &costs, from, to, alloc)?;
+        out = written(alloc, &route)?;
+    }
+    Ok(out)
+}
+
+#[test]
+fn routes_on_small_maps(rt: HostRuntime) -> Result<(), Fail> {
+    for row in ROWS.iter() {
+        let got = answer(rt.alloc(), row)?;
+        assert_eq!(rt; got.as_str(), row.want);
+    }
+    Ok(())
+}
