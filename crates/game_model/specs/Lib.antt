@@ -1,6 +1,7 @@
 pub mod Flags
 pub mod Grid
 pub mod Terrain
+pub mod Packed
 pub mod Setup
 pub mod World
 pub mod ValidMap
