@@ -1,1 +1,2 @@
 pub mod TilesLemmas
+pub mod OreLemmas

@@ -1,5 +1,6 @@
 pub mod Flags
 pub mod Grid
+pub mod OreRows
 pub mod Terrain
 pub mod Packed
 pub mod Setup
