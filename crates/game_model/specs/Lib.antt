@@ -1,6 +1,8 @@
 pub mod Flags
 pub mod Grid
+pub mod OreRows
 pub mod Terrain
+pub mod Packed
 pub mod Setup
 pub mod World
 pub mod ValidMap

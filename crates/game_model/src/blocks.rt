@@ -2,16 +2,18 @@ ghost use Rattle.std.specs.Prelude.{◌≡◌, ◌*◌, ◌<◌, ◌↔◌, IsTr
 ghost use Rattle.game_model.specs.Grid.{IsWhole, place_of, with_cell};
 
 use base::NoMemory;
+use packed_lists::Bits;
 use std::alloc::Global;
 use std::marker::Model;
 use world_units::CPos;
 
-/// The cells of a map on which a building stands: one flag for each cell, row by row.
+/// The cells of a map on which a building stands: one flag for each cell, row by row,
+/// packed.
 #[derive(Drop)]
 pub struct Blocks {
     width: u8,
     height: u8,
-    cells: Vec<bool>,
+    flags: Bits,
 }
 
 impl Model for Blocks {
@@ -20,9 +22,9 @@ impl Model for Blocks {
 
     ghost Value = { Grid Bool };
 
-    ghost view = { λ b. record { width = b.width; height = b.height; cells = b.cells.items } };
+    ghost view = { λ b. record { width = b.width; height = b.height; cells = b.flags } };
 
-    ghost invariant = { λ b. length b.cells.items ≡ b.width * b.height };
+    ghost invariant = { λ b. length b.flags ≡ b.width * b.height };
 }
 
 impl Blocks {
@@ -30,12 +32,11 @@ impl Blocks {
     pub fn create(alloc: Global, w: u8, h: u8) -> Result<Blocks, NoMemory>
         ensures { IfOk result (λ blocks. blocks ≡ (record { width = w; height = h; cells = replicate (w * h) false })) }
     {
-        let mut cells = Vec::new(alloc);
-        cells.resize(usize::from(w) * usize::from(h), false)?;
+        let flags = Bits::clear(alloc, u32::from(w) * u32::from(h))?;
         Ok(Blocks {
             width: w,
             height: h,
-            cells,
+            flags,
         })
     }
 
@@ -45,7 +46,8 @@ impl Blocks {
         requires row { p.y < self.now.height }
         ensures { slice_get self.now.cells (place_of self.now.width p) ≡ Some result }
     {
-        self.cells[usize::from(p.y) * usize::from(self.width) + usize::from(p.x)]
+        let place = usize::from(p.y) * usize::from(self.width) + usize::from(p.x);
+        self.flags.get(place)
     }
 
     /// Says whether a building stands on a cell within the size. The other cells stay.
@@ -54,7 +56,8 @@ impl Blocks {
         requires row { p.y < self.old.height }
         ensures { self.new ≡ with_cell self.old p on }
     {
-        self.cells[usize::from(p.y) * usize::from(self.width) + usize::from(p.x)] = on;
+        let place = usize::from(p.y) * usize::from(self.width) + usize::from(p.x);
+        self.flags.set(place, on);
     }
 
     /// The number of columns.
@@ -71,11 +74,12 @@ impl Blocks {
         self.height
     }
 
-    /// Whether both are of one size and have the same flag in each cell.
+    /// Whether both are of one size and have the same flag in each cell. It compares words of 64
+    /// cells.
     pub fn is_same(&self, other: &Self) -> bool
         ensures { IsTrue result ↔ (self.now ≡ other.now) }
     {
-        self.width == other.width && self.height == other.height && self.cells == other.cells
+        self.width == other.width && self.height == other.height && self.flags.is_same(&other.flags)
     }
 
     /// Makes this the same as another of its size. It takes no memory.
@@ -84,9 +88,7 @@ impl Blocks {
         requires height { self.old.height ≡ other.now.height }
         ensures { self.new ≡ other.now }
     {
-        self.cells
-            .as_mut_slice()
-            .copy_from_slice(other.cells.as_slice());
+        self.flags.copy_from(&other.flags);
     }
 
     /// There is a flag for each cell of the size.
