@@ -104,16 +104,16 @@ each_counted width height x y value r cells rows total row counts column within 
     others_counted width x y value r cells rows row column (counts.by_row r inside) (inl earlier)
 each_counted width height x y value r cells rows total row counts column within inside is (inr from) =
     at_or_after (cases_lt y r) where
-  at_or_after :
-      ((y < r) ⊎ (r ≤ y)) →
-      get_or (set rows y row) r 0 ≡ count_by has_ore (row_of (set cells (y * width + x) value) width r)
-  at_or_after (inl later) =
-      others_counted width x y value r cells rows row column (counts.by_row r inside) (inr later)
-  at_or_after (inr upto) =
-      let same : r ≡ y = omega arith in
-      let there : y < length rows = omega (arith, counts.each) in
-      ap (λ k. get_or (set rows y row) k 0) same ∙ get_or-set_same rows y row 0 there ∙ is
-      ∙ ap (λ k. count_by has_ore (row_of (set cells (y * width + x) value) width k)) (sym same)
+      at_or_after :
+          ((y < r) ⊎ (r ≤ y)) →
+          get_or (set rows y row) r 0 ≡ count_by has_ore (row_of (set cells (y * width + x) value) width r)
+      at_or_after (inl later) =
+          others_counted width x y value r cells rows row column (counts.by_row r inside) (inr later)
+      at_or_after (inr upto) =
+          let same : r ≡ y = omega arith in
+          let there : y < length rows = omega (arith, counts.each) in
+          ap (λ k. get_or (set rows y row) k 0) same ∙ get_or-set_same rows y row 0 there ∙ is
+          ∙ ap (λ k. count_by has_ore (row_of (set cells (y * width + x) value) width k)) (sym same)
 
 -- The counts after a cell was set.
 pub set_counted :
