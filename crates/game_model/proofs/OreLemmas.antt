@@ -1,8 +1,8 @@
 -- Counts of the cells with ore.
-use Rattle.std.proofs.Common.{◌≡◌, ◌≢◌, ◌⊎◌, ◌*◌, ◌+◌, ◌-◌, ◌<◌, ◌≤◌, ℕ, zero, suc, Bool, true, false, cond, List, [], ◌∷◌, length}
-use Rattle.std.proofs.Common.{take, drop, replicate, set, get_or, refl, sym, ap, ◌∙◌, subst, inl, inr, ⊎_elim, arith}
+use Rattle.std.proofs.Common.{◌≡◌, ◌⊎◌, ◌*◌, ◌+◌, ◌<◌, ◌≤◌, ℕ, zero, suc, cond, List, length}
+use Rattle.std.proofs.Common.{take, drop, replicate, set, get_or, refl, sym, ap, ◌∙◌, inl, inr, arith}
 use Rattle.std.specs.Prelude.{IsTrue}
-use Rattle.std.specs.List.{sum_by, count_by}
+use Rattle.std.specs.List.{count_by}
 use Rattle.std.proofs.lemmas.List.{length-set, length-replicate, get_or-set_same, get_or-set_other}
 use Rattle.std.proofs.lemmas.Bool.{cases_lt}
 use Rattle.std.proofs.lemmas.List.{length-take, length-drop, get_or-take, get_or-drop}
@@ -10,7 +10,7 @@ use Rattle.std.proofs.lemmas.List.{drop-set-lt, drop-set-add, take-set-le, drop-
 use Rattle.std.proofs.lemmas.List.Sums.{sum_by-set, count_by-le-length}
 use Rattle.std.proofs.Math.Seq.{take-set-lt}
 use Rattle.std.proofs.Math.Nat.{mul-le-mul_right}
-use Rattle.std.proofs.lemmas.Nat.{mul-add-lt, row_fits}
+use Rattle.std.proofs.lemmas.Nat.{mul-add-lt}
 use Rattle.game_model.specs.OreRows.{has_ore, row_of, recounted, AreCounted}
 
 ore_digit : ℕ → ℕ
@@ -104,16 +104,16 @@ each_counted width height x y value r cells rows total row counts column within 
     others_counted width x y value r cells rows row column (counts.by_row r inside) (inl earlier)
 each_counted width height x y value r cells rows total row counts column within inside is (inr from) =
     at_or_after (cases_lt y r) where
-  at_or_after :
-      ((y < r) ⊎ (r ≤ y)) →
-      get_or (set rows y row) r 0 ≡ count_by has_ore (row_of (set cells (y * width + x) value) width r)
-  at_or_after (inl later) =
-      others_counted width x y value r cells rows row column (counts.by_row r inside) (inr later)
-  at_or_after (inr upto) =
-      let same : r ≡ y = omega arith in
-      let there : y < length rows = omega (arith, counts.each) in
-      ap (λ k. get_or (set rows y row) k 0) same ∙ get_or-set_same rows y row 0 there ∙ is
-      ∙ ap (λ k. count_by has_ore (row_of (set cells (y * width + x) value) width k)) (sym same)
+      at_or_after :
+          ((y < r) ⊎ (r ≤ y)) →
+          get_or (set rows y row) r 0 ≡ count_by has_ore (row_of (set cells (y * width + x) value) width r)
+      at_or_after (inl later) =
+          others_counted width x y value r cells rows row column (counts.by_row r inside) (inr later)
+      at_or_after (inr upto) =
+          let same : r ≡ y = omega arith in
+          let there : y < length rows = omega (arith, counts.each) in
+          ap (λ k. get_or (set rows y row) k 0) same ∙ get_or-set_same rows y row 0 there ∙ is
+          ∙ ap (λ k. count_by has_ore (row_of (set cells (y * width + x) value) width k)) (sym same)
 
 -- The counts after a cell was set.
 pub set_counted :

@@ -10,6 +10,7 @@ pub mod ValidWorld
 pub mod Order
 pub mod Tick
 pub mod Keeps
+pub mod Buildings
 pub mod KeepsLemmas
 pub mod OwnLemmas
 pub mod StartLemmas

@@ -1,4 +1,4 @@
-use Rattle.std.proofs.Common.{◌≡◌, ◌*◌, ◌≤◌, ℕ, List, replicate, ap, ◌∙◌, sym, subst}
+use Rattle.std.proofs.Common.{◌≡◌, ◌*◌, ℕ, List, replicate, sym, subst}
 use Rattle.game_model.specs.OreRows.{AreCounted}
 use Rattle.game_model.proofs.OreLemmas.{none_counted}
 use Rattle.game_model.proofs.ore.Ore.create.Goals as goal
