@@ -139,8 +139,8 @@ pub is_free :
 is_free [] p differ = refl
 is_free (a ∷ actors) p differ =
     by_cell (same_cell a.cell p) refl (All-head (λ (x : Actor). x.cell ≢ p) a actors differ) (is_free actors p (All-tail (λ (x : Actor). x.cell ≢ p) a actors differ)) where
-  by_cell :
-      (same : Bool) → same_cell a.cell p ≡ same → a.cell ≢ p → is_occupied actors p ≡ false →
-      is_occupied (a ∷ actors) p ≡ false
-  by_cell true is other rest = absurd (other ((cell_decides a.cell p).0 is))
-  by_cell false is other rest = rw is rest
+      by_cell :
+          (same : Bool) → same_cell a.cell p ≡ same → a.cell ≢ p → is_occupied actors p ≡ false →
+          is_occupied (a ∷ actors) p ≡ false
+      by_cell true is other rest = absurd (other ((cell_decides a.cell p).0 is))
+      by_cell false is other rest = rw is rest

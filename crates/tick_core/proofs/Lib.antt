@@ -1,3 +1,2 @@
 pub mod TickLemmas
 pub mod BurialLemmas
-pub mod IdleLemmas

@@ -2,4 +2,3 @@ pub mod Departures
 pub mod Burial
 pub mod Game
 pub mod Live
-pub mod Idle

@@ -31,8 +31,12 @@ impl Model for Game {
 
     ghost view = { λ game. record { setup = game.live.setup; world = game.live.world; steps = game.steps } };
 
-    ghost invariant = { λ game. IsGame (record { setup = game.live.setup; world = game.live.world; steps =
-        game.steps }) };
+    ghost invariant = { λ game. IsGame (record {
+      setup = game.live.setup;
+      world = game.live.world;
+      steps =
+          game.steps;
+    }) };
 }
 
 impl Game {

@@ -27,8 +27,8 @@ impl Model for LiveWorld {
     ghost Value = { Standing };
 
     ghost view = { λ live. record {
-        setup = record { rules = live.rules.value; map = live.map.value };
-        world = world_with live.head live.table.actors live.ore;
+      setup = record { rules = live.rules.value; map = live.map.value };
+      world = world_with live.head live.table.actors live.ore;
     } };
 
     ghost invariant = { λ live. IsLive (record { rules = live.rules.value; map = live.map.value })

@@ -6,7 +6,8 @@ ghost use Rattle.rule_traits.specs.Rules.{kind_at};
 use activities::Queue;
 use base::{List, NoMemory};
 use game_model::{
-    Actor, ActorList, Body, Builds, Gone, MAX_ACTORS, Map, NEUTRAL, OPENING_PACE, Purse, Start, World,
+    Actor, ActorList, Body, Builds, Gone, MAX_ACTORS, Map, NEUTRAL, OPENING_PACE, Purse, Start,
+    World,
 };
 use rule_traits::Rules;
 use std::alloc::Global;
