@@ -9,6 +9,12 @@ pub record Routing : Type 0 where
   pub height : ℕ
   pub computed : ℕ
 
+-- The map has this size, and a terrain for each of its cells.
+pub record IsMapSized (width height : ℕ) (map : Map) : Type 0 where
+  pub wide : map.width ≡ width
+  pub high : map.height ≡ height
+  pub terrain : HasSize width height map.terrain
+
 -- The router and the blocks have the map's size, and the map has one terrain for each cell.
 pub record AreSized (router : Routing) (map : Map) (built : Grid Bool) : Type 0 where
   pub wide : router.width ≡ map.width

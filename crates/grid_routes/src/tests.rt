@@ -1,5 +1,9 @@
 //! Routes over small maps, and what a router keeps from one question to the next.
 
+ghost use Rattle.std.specs.Prelude.{IfOk};
+ghost use Rattle.game_model.specs.Grid.{HasSize};
+ghost use Rattle.grid_routes.specs.Routing.{IsMapSized};
+
 mod rows;
 
 use crate::{Route, Router};
@@ -10,14 +14,6 @@ use rule_traits::Costs;
 use std::alloc::{AllocError, Global};
 use std::test::Fail;
 use world_units::CPos;
-
-/// What each ground costs where rules don't say.
-const COSTS: Costs = Costs {
-    clear: 2,
-    road: 1,
-    rough: 4,
-    water: 0,
-};
 
 /// The terrain that a character of a map stands for.
 fn terrain_of(tile: u8) -> Terrain {
@@ -31,7 +27,9 @@ fn terrain_of(tile: u8) -> Terrain {
 }
 
 /// The tiles of the rows of a map, each with a blank before the next.
-fn tiles_of(alloc: Global, w: u8, h: u8, rows: &str) -> Result<Tiles, AllocError> {
+fn tiles_of(alloc: Global, w: u8, h: u8, rows: &str) -> Result<Tiles, AllocError>
+    ensures { IfOk result (λ tiles. HasSize w h tiles) }
+{
     let mut tiles = Tiles::create(alloc, w, h)?;
     let (mut x, mut y) = (0u8, 0u8);
     for tile in rows.bytes() {
@@ -49,7 +47,9 @@ fn tiles_of(alloc: Global, w: u8, h: u8, rows: &str) -> Result<Tiles, AllocError
 }
 
 /// A map of these tiles, with nothing on it.
-fn map_of(alloc: Global, w: u8, h: u8, rows: &str) -> Result<Map, AllocError> {
+fn map_of(alloc: Global, w: u8, h: u8, rows: &str) -> Result<Map, AllocError>
+    ensures { IfOk result (λ map. IsMapSized w h map) }
+{
     Ok(Map {
         width: w,
         height: h,
@@ -61,7 +61,9 @@ fn map_of(alloc: Global, w: u8, h: u8, rows: &str) -> Result<Map, AllocError> {
 }
 
 /// The cells of buildings, written as `x,y` with a blank between two.
-fn blocks_of(alloc: Global, w: u8, h: u8, cells: &str) -> Result<Blocks, AllocError> {
+fn blocks_of(alloc: Global, w: u8, h: u8, cells: &str) -> Result<Blocks, AllocError>
+    ensures { IfOk result (λ blocks. HasSize w h blocks) }
+{
     let mut blocks = Blocks::create(alloc, w, h)?;
     for cell in cells.split(' ') {
         if let Some((x, y)) = cell.split_once(',') {
