@@ -1,18 +1,17 @@
 -- The flags of the cells that actors have.
-use Rattle.std.proofs.Common.{◌≡◌, ◌≢◌, ℕ, zero, suc, ◌+◌, ◌*◌, ◌/◌, ◌%◌, ◌<◌, eqb, Bool, true, false, cond, ◌||◌}
-use Rattle.std.proofs.Common.{List, [], ◌∷◌, ◌++◌, Option, Some, slice_get, replicate, length, refl, sym, ◌∙◌, ap, ap₂}
-use Rattle.std.proofs.Common.{arith, get_or, set, inl, inr, ◌⊎◌}
+use Rattle.std.proofs.Common.{◌≡◌, ◌≢◌, ℕ, zero, suc, ◌*◌, ◌/◌, ◌%◌, ◌<◌, eqb, Bool, true, false, cond, ◌||◌}
+use Rattle.std.proofs.Common.{List, [], ◌∷◌, ◌++◌, Some, slice_get, replicate, refl, sym, ◌∙◌, ap, ap₂}
+use Rattle.std.proofs.Common.{arith, set, inl, inr}
 use Rattle.std.proofs.lemmas.Bool.Decides.{eqb_tells, nat_tests}
 use Rattle.std.proofs.lemmas.List.{get_or-replicate, length-replicate, length-set}
 use Rattle.std.proofs.lemmas.List.Folds.{list_any-append}
 use Rattle.std.proofs.lemmas.Nat.{mul-add-lt, div-mul-add, mod-mul-add}
 use Rattle.std.proofs.lemmas.Option.{slice_get-get_or}
-use Rattle.std.specs.List.{list_any}
 use Rattle.world_units.specs.declared.cell.CPos.{CPos}
 use Rattle.world_units.specs.Cells.{same_cell}
 use Rattle.world_units.specs.CellLemmas.{cell_decides}
 use Rattle.game_model.specs.declared.map.Start.{Start}
-use Rattle.game_model.specs.Grid.{Grid, IsOn, IsWhole, at_cell, place_of, with_cell}
+use Rattle.game_model.specs.Grid.{Grid, place_of, with_cell}
 use Rattle.map_grid.specs.Crowd.{AreMarked}
 use Rattle.map_grid.specs.Starts.{has_cell}
 
@@ -77,7 +76,7 @@ marked starts s taken are column row =
     record {
       whole = record { cells = length-set taken.cells (place_of taken.width s.cell) true ∙ are.whole.cells };
       marks = λ p on.
-        read_after_set taken.cells (place_of taken.width s.cell) (place_of taken.width p) true (has_cell starts s.cell) (has_cell starts p) (are.marks s.cell (record { column = column; row = row })) (are.marks p on)
-        ∙ ap (λ b. Some (cond b true (has_cell starts p))) (same_place taken.width s.cell p column on.column)
-        ∙ ap Some (one_more (same_cell s.cell p) (has_cell starts p) ∙ sym (list_any-append (λ (t : Start). same_cell t.cell p) starts (s ∷ [])));
+          read_after_set taken.cells (place_of taken.width s.cell) (place_of taken.width p) true (has_cell starts s.cell) (has_cell starts p) (are.marks s.cell (record { column = column; row = row })) (are.marks p on)
+          ∙ ap (λ b. Some (cond b true (has_cell starts p))) (same_place taken.width s.cell p column on.column)
+          ∙ ap Some (one_more (same_cell s.cell p) (has_cell starts p) ∙ sym (list_any-append (λ (t : Start). same_cell t.cell p) starts (s ∷ [])));
     }

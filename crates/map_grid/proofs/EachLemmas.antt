@@ -1,6 +1,6 @@
 -- One node of a list whose nodes are taken in order, and the search for a field.
 use Rattle.std.proofs.Common.{◌≡◌, ℕ, ◌+◌, ◌<◌, true, false, List, length, drop, get_or, sym, ap}
-use Rattle.std.proofs.Common.{◌∙◌, Option, Some, Result, Ok, Err}
+use Rattle.std.proofs.Common.{◌∙◌, Some, Result, Ok, Err}
 use Rattle.std.proofs.lemmas.Bool.{cond-true, cond-false}
 use Rattle.std.proofs.lemmas.List.{drop_more}
 use Rattle.std.specs.Str.{bytes_eq}
@@ -8,11 +8,11 @@ use Rattle.base.specs.Steps.{◌>>=◌}
 use Rattle.yaml_lines.specs.declared.forest.Node.{Node}
 use Rattle.yaml_lines.specs.declared.forest.Forest.{Forest}
 use Rattle.yaml_lines.specs.declared.forest.Forest.TheViews.{out-Node, out-Forest}
-use Rattle.yaml_lines.specs.Trees.{Trees, trees_of, before, trees_of_nodes}
+use Rattle.yaml_lines.specs.Trees.{trees_of, before, trees_of_nodes}
 use Rattle.yaml_lines.proofs.TreeSteps.{trees_out, before_out}
 use Rattle.map_grid.specs.declared.fault.MapFault.{MapFault}
 use Rattle.map_grid.specs.Each.{Step, each, step_at}
-use Rattle.map_grid.specs.Fields.{Field, field, field_at}
+use Rattle.map_grid.specs.Fields.{field, field_at}
 
 each_at : {S : Type 0} (step : Step S) (nodes : List Node) (at : ℕ) (node : Node) (made : S) → at < length nodes → node ≡ get_or nodes at node →
     each step made (trees_of_nodes (drop at nodes)) ≡ (step_at step made node >>= λ next. each step next (trees_of_nodes (drop (at + 1) nodes)))

@@ -1,6 +1,5 @@
 -- What holds of an outcome where it is not a fault.
-use Rattle.std.proofs.Common.{◌≡◌, ℕ, Bool, true, false, cond, List, Option, Some, None, Result, Ok, Err, refl}
-use Rattle.std.specs.Option.{IfSome}
+use Rattle.std.proofs.Common.{◌≡◌, ℕ, Bool, true, false, cond, List, Result, Ok, Err, refl}
 use Rattle.std.specs.Result.{IfOk}
 use Rattle.base.specs.Steps.{◌>>=◌}
 use Rattle.yaml_lines.specs.declared.place.Place.{Place}

@@ -1,6 +1,6 @@
 -- One character of a row, and what setting a row leaves as it was.
 use Rattle.std.proofs.Common.{◌≡◌, ℕ, ◌+◌, ◌-◌, ◌*◌, ◌<◌, ◌≤◌, ◌==◌, nat_le, ◌&&◌, Bool, true, false, cond, List, [], ◌∷◌}
-use Rattle.std.proofs.Common.{length, drop, get_or, refl, sym, ap, ◌∙◌, Option, Some, None, Result, Ok, Err, arith, codes}
+use Rattle.std.proofs.Common.{length, drop, get_or, refl, sym, ap, ◌∙◌, Option, Some, None, Result, Err, arith, codes}
 use Rattle.std.proofs.lemmas.Bool.Decides.{nat_tests}
 use Rattle.std.proofs.lemmas.List.{drop_more, length-replicate, length-set}
 use Rattle.std.proofs.lemmas.List.Elements.{All-set, All-replicate}

@@ -1,6 +1,6 @@
 -- What the actors that are read keep.
 use Rattle.std.proofs.Common.{◌≡◌, ◌≢◌, ℕ, zero, suc, ◌+◌, ◌<◌, ◌≤◌, ◌||◌, nat_lt, nat_le, Bool, true, false, cond, List, [], ◌∷◌, ◌++◌}
-use Rattle.std.proofs.Common.{length, get_or, refl, sym, ap, ◌∙◌, Option, Some, None, Result, Ok, Err, arith, codes, inl, inr}
+use Rattle.std.proofs.Common.{length, get_or, refl, Option, Some, None, Ok, arith, codes, inl, inr}
 use Rattle.std.proofs.lemmas.Bool.Decides.{nat_tests}
 use Rattle.std.proofs.lemmas.List.{length_push}
 use Rattle.std.proofs.lemmas.List.Elements.{All-push, All-nil}
@@ -21,12 +21,10 @@ use Rattle.world_units.specs.declared.cell.CPos.{CPos}
 use Rattle.world_units.specs.Cells.{same_cell}
 use Rattle.world_units.specs.CellLemmas.{cell_decides}
 use Rattle.game_orders.specs.declared.limits.TheConstants.{MAX_CLIENTS}
-use Rattle.game_model.specs.Grid.{Grid, IsOn, is_on}
-use Rattle.game_model.specs.ValidMap.{IsOwner, IsStartFor}
+use Rattle.game_model.specs.Grid.{IsOn, is_on}
+use Rattle.game_model.specs.ValidMap.{IsOwner}
 use Rattle.game_model.specs.declared.limits.TheConstants.{MAX_ACTORS, NEUTRAL}
-use Rattle.game_model.specs.declared.map.Map.{Map}
 use Rattle.game_model.specs.declared.map.Start.{Start}
-use Rattle.map_grid.specs.declared.fault.MapFault.{MapFault}
 use Rattle.map_grid.specs.declared.fault.MapFault.TheVariants.{BadField, CellTaken, BadOwner, TooManyActors}
 use Rattle.map_grid.specs.Fields.{Field, field, below}
 use Rattle.map_grid.specs.Starts.{known_kind, kind_of, client_of, owner_in, owner_of, on_map, location_in, location_of}
@@ -43,6 +41,10 @@ position_within test n [] = tt
 position_within test n (x ∷ xs) =
     first_or (λ k. k < (n + 1) + length xs) (λ k. k < n + length (x ∷ xs)) (test x) n (position_from test (n + 1) xs) (omega arith) (position_within test (n + 1) xs) (λ k h. omega (arith, h))
 
+from_zero : (n : ℕ) (o : Option ℕ) → IfSome o (λ k. k < 0 + n) → IfSome o (λ k. k < n)
+from_zero n None h = tt
+from_zero n (Some k) h = omega (arith, h)
+
 known_keeps : (P : ℕ → Type 0) (place : Place) (o : Option ℕ) → IfSome o P → IfOk (known_kind place o) P
 known_keeps P place None h = tt
 known_keeps P place (Some k) h = h
@@ -51,7 +53,7 @@ kind_keeps : (kinds : List Kind) (name : List ℕ) (place : Place) → IfOk (kin
 unfolding kind_of
 kind_keeps kinds name place =
     known_keeps (λ k. k < length kinds) place (rules.number_of kinds name)
-    (position_within (λ (kind : Kind). bytes_eq kind.name name) 0 kinds)
+    (from_zero (length kinds) (rules.number_of kinds name) (position_within (λ (kind : Kind). bytes_eq kind.name name) 0 kinds))
 
 client_keeps : (place : Place) (o : Option ℕ) → IfOk (client_of place o) (IsOwner MAX_CLIENTS)
 client_keeps place None = tt
@@ -126,10 +128,10 @@ start_keeps kinds w h name place fields =
     (facing_keeps fields) (λ facing f. record { kind = k; owner = o; cell = c; facing = f }))))
 
 -- Actors that are read.
-pub record AreStarts (kinds : List Kind) (w h : ℕ) (starts : List Start) : Type 0 where
-  pub count : length starts ≤ MAX_ACTORS
-  pub starts : All (IsStart kinds w h) starts
-  pub apart : AllPairs (λ (a b : Start). a.cell ≢ b.cell) starts
+pub record AreStarts (kinds : List Kind) (w h : ℕ) (list : List Start) : Type 0 where
+  pub count : length list ≤ MAX_ACTORS
+  pub starts : All (IsStart kinds w h) list
+  pub apart : AllPairs (λ (a b : Start). a.cell ≢ b.cell) list
 
 neither : (a b : Bool) → (a || b) ≡ false → (a ≡ false) × (b ≡ false)
 neither true b e = absurd (cc)

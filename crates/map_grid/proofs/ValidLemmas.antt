@@ -1,5 +1,5 @@
 -- A map that is read keeps what a map keeps for its rules.
-use Rattle.std.proofs.Common.{◌≡◌, ℕ, ◌≤◌, nat_le, ◌&&◌, true, List, refl, subst, Option, Some, None, Result, Ok, Err, arith, codes}
+use Rattle.std.proofs.Common.{◌≡◌, ℕ, ◌≤◌, nat_le, ◌&&◌, true, List, subst, Option, Some, None, Result, Ok, Err, arith, codes}
 use Rattle.std.proofs.lemmas.Bool.Decides.{nat_tests}
 use Rattle.std.proofs.lemmas.List.Elements.{All-weaker}
 use Rattle.std.specs.Result.{IfOk}
@@ -11,7 +11,7 @@ use Rattle.yaml_lines.specs.declared.place.Place.{Place}
 use Rattle.yaml_lines.specs.Trees.{Trees}
 use Rattle.game_model.specs.Grid.{Grid}
 use Rattle.game_model.specs.ValidMap.{IsMapFor, IsStartFor}
-use Rattle.game_model.specs.declared.limits.TheConstants.{BARE_CASH, MAX_CASH, MAX_SIDE}
+use Rattle.game_model.specs.declared.limits.TheConstants.{MAX_CASH, MAX_SIDE}
 use Rattle.game_model.specs.declared.map.Map.{Map}
 use Rattle.game_model.specs.declared.map.Start.{Start}
 use Rattle.game_model.specs.declared.terrain.Terrain.{Terrain}

@@ -1,5 +1,5 @@
 -- The sample map as a value, with the kinds of the sample rules: 0 jeep, 1 harv, 2 fact, 3 proc.
-use Rattle.std.specs.Prelude.{ℕ, ◌+◌, ◌-◌, List, [], ◌∷◌, ◌++◌, replicate}
+use Rattle.std.specs.Prelude.{ℕ, List, [], ◌∷◌, ◌++◌, replicate}
 use Rattle.game_model.specs.declared.map.Map.{Map}
 use Rattle.game_model.specs.declared.map.Start.{Start}
 use Rattle.game_model.specs.declared.terrain.Terrain.{Terrain}
