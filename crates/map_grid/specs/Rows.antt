@@ -70,7 +70,8 @@ full_row value_of fault place y row grid =
     else Err (BadRow place)
 
 -- The row of terrain that a node gives: a bad row comes before an unknown terrain.
-unfoldable pub tiles_taken : Grid Terrain → (key value : List ℕ) → Place → Trees → Result (Grid Terrain) MapFault
+unfoldable pub tiles_taken :
+    Grid Terrain → (key value : List ℕ) → Place → Trees → Result (Grid Terrain) MapFault
 tiles_taken grid key value place children =
     row_of grid.height key place >>= λ y.
     full_row terrain_of (UnknownTerrain place) place y (chars value) grid

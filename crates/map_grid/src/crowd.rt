@@ -1,4 +1,5 @@
 ghost use Rattle.std.specs.Prelude.{◌≡◌, ◌<◌, ◌++◌, ◌∷◌, [], length, IfOk, OnOk};
+ghost use Rattle.map_grid.specs.Crowd.{nobody, with_start};
 ghost use Rattle.map_grid.specs.Starts.{has_cell};
 
 use base::NoMemory;
@@ -33,7 +34,7 @@ impl Crowd {
     /// Nobody on a map of this size. Out of memory is its only error.
     #[tactic(auto, using(crate::proofs::CrowdLemmas::unmarked))]
     pub(crate) fn create(alloc: Global, width: u8, height: u8) -> Result<Crowd, NoMemory>
-        ensures { IfOk result (λ crowd. crowd ≡ (record { width = width; height = height; starts = [] })) }
+        ensures { IfOk result (λ crowd. crowd ≡ nobody width height) }
     {
         let taken = Blocks::create(alloc, width, height)?;
         Ok(Crowd {
@@ -63,7 +64,7 @@ impl Crowd {
     pub(crate) fn add(&mut self, start: Start) -> Result<(), NoMemory>
         requires column { start.cell.x < self.old.width }
         requires row { start.cell.y < self.old.height }
-        ensures { OnOk result (self.new ≡ record self.old { starts = self.old.starts ++ start ∷ [] }) }
+        ensures { OnOk result (self.new ≡ with_start self.old start) }
     {
         let cell = start.cell;
         self.starts.push(start)?;
