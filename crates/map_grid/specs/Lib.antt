@@ -1,0 +1,8 @@
+pub mod Crowd
+pub mod Each
+pub mod Fault
+pub mod Fields
+pub mod MapOf
+pub mod Rows
+pub mod Sample
+pub mod Starts
