@@ -52,8 +52,8 @@ known_keeps P place (Some k) h = h
 kind_keeps : (kinds : List Kind) (name : List ℕ) (place : Place) → IfOk (kind_of kinds name place) (λ k. k < length kinds)
 unfolding kind_of
 kind_keeps kinds name place =
-    known_keeps (λ k. k < length kinds) place (rules.number_of kinds name)
-    (from_zero (length kinds) (rules.number_of kinds name) (position_within (λ (kind : Kind). bytes_eq kind.name name) 0 kinds))
+    known_keeps (λ k. k < length kinds) place (rules.number_named kinds name)
+    (from_zero (length kinds) (rules.number_named kinds name) (position_within (λ (kind : Kind). bytes_eq kind.name name) 0 kinds))
 
 client_keeps : (place : Place) (o : Option ℕ) → IfOk (client_of place o) (IsOwner MAX_CLIENTS)
 client_keeps place None = tt

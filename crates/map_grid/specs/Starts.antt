@@ -29,7 +29,7 @@ known_kind place (Some kind) = Ok kind
 
 -- The number of the kind of this name.
 unfoldable pub kind_of : List Kind → List ℕ → Place → Result ℕ MapFault
-kind_of kinds name place = known_kind place (rules.number_of kinds name)
+kind_of kinds name place = known_kind place (rules.number_named kinds name)
 
 abbrev pub client_of : Place → Option ℕ → Result ℕ MapFault
 client_of place None = Err (BadOwner place)
