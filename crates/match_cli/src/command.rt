@@ -4,7 +4,7 @@ ghost use Rattle.command_words.specs.Reading.{request_of};
 ghost use Rattle.match_cli.specs.Causes.{causes_of};
 ghost use Rattle.match_cli.specs.Outside.{outside};
 ghost use Rattle.match_cli.specs.Printing.{MayPrintReply};
-ghost use Rattle.match_cli.specs.Drills.{drill_reply, drill_report};
+ghost use Rattle.match_cli.specs.Drills.{drill_reply};
 ghost use Rattle.match_cli.specs.Run.{Runs, RunsRequest};
 
 use crate::check::check_text;
@@ -12,13 +12,12 @@ use crate::files::{read_one, read_rules};
 use crate::print::{print_stop, print_text, refuse_words};
 use crate::refusals::drill_stop;
 use crate::rules::yaml_text;
-use crate::statuses::{DONE, FAULT_WRITE, OUT_OF_MEMORY};
+use crate::statuses::OUT_OF_MEMORY;
+use crate::worlds::run_worlds;
 use command_words::{FileNames, MAX_FILES, Request, WordsFault, read_words};
-use drill::{RunFault, run_drill};
-use drill_words::{Drill, MAX_DRILL_BYTES, read_drill};
+use drill_words::{MAX_DRILL_BYTES, read_drill};
 use game_io::{Disk, Sink};
 use std::alloc::Global;
-use tick_core::GameMaker;
 
 /// Runs the command that the words name; the first word is the program's name. It changes no file
 /// that the words don't name to be written, and returns:
@@ -82,21 +81,6 @@ fn run_bytes<K: Sink>(alloc: Global, script: &str, bytes: &[u8], out: &mut K) ->
     match read_drill(alloc, bytes) {
         Ok(drill) => run_worlds(alloc, &drill, out),
         Err(fault) => print_stop(alloc, drill_stop(script, &fault), out),
-    }
-}
-
-/// Runs a drill over no kinds and the bare map.
-fn run_worlds<K: Sink>(alloc: Global, drill: &Drill, out: &mut K) -> u8
-    ensures prints { MayPrintReply (done (drill_report drill.now)) result (K.state out.old) (K.state out.new) }
-    ensures later { (K.state out.old).faults ≤ (K.state out.new).faults }
-{
-    let Ok(maker) = GameMaker::bare(alloc) else {
-        return OUT_OF_MEMORY;
-    };
-    match run_drill(alloc, drill, &maker, out) {
-        Ok(_) => DONE,
-        Err(RunFault::Write) => FAULT_WRITE,
-        Err(RunFault::NoMemory) => OUT_OF_MEMORY,
     }
 }
 

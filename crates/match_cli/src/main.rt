@@ -14,6 +14,7 @@ mod refusals;
 mod rules;
 mod statuses;
 mod stop;
+mod worlds;
 
 use crate::statuses::OUT_OF_MEMORY;
 pub use command::run;
