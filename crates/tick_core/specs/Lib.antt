@@ -2,3 +2,4 @@ pub mod Departures
 pub mod Burial
 pub mod Game
 pub mod Live
+pub mod Idle

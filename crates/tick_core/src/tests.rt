@@ -1,18 +1,23 @@
 ghost use Rattle.std.specs.Prelude.{◌≡◌, ◌≤◌, length, IfOk};
+ghost use Rattle.tick_core.specs.Idle.{idle_map, idle_start};
 ghost use Rattle.tick_core.specs.Game.{game_clients};
+ghost use Rattle.rule_traits.specs.ValidRules.{IsValidKind};
 ghost use Rattle.game_model.specs.declared.limits.TheConstants.{MAX_CASH};
 ghost use Rattle.game_orders.specs.declared.limits.TheConstants.{MAX_CLIENTS};
 
 use crate::bare::bare_map;
 use crate::{Game, GameMaker};
-use base::NoMemory;
+use base::{List, NoMemory};
 use frame_core::{Maker, Sim};
+use game_model::{Map, Ore, Start, Tiles};
 use game_orders::{Entry, Frame, MAX_CLIENTS, Order, Orders};
-use rule_traits::Rules;
+use rule_traits::{Kind, Rules};
 use std::alloc::Global;
 use std::process::Abort;
 use std::rc::Rc;
 use std::test::Fail;
+use world_units::{CPos, WAngle};
+use yaml_lines::Text;
 
 fn donate(to: u8, amount: u32) -> Order {
     Order::Donate { to, amount }
@@ -157,4 +162,79 @@ fn the_host_sets_the_pace(rt: HostRuntime) -> Result<(), Fail> {
     game.step(&frame_of_two(pace(0), play(&[])));
     assert_pace(&rt, rt.alloc(), &game, 10, 8)?;
     Ok(())
+}
+
+/// Where an actor without traits stands at the start, in the first row.
+fn start(x: u8) -> Start
+    ensures { result ≡ idle_start x }
+{
+    Start {
+        kind: 0,
+        owner: 0,
+        cell: CPos { x, y: 0 },
+        facing: WAngle::new(0),
+    }
+}
+
+/// A kind without traits.
+fn plain_kind(alloc: Global) -> Result<Kind, NoMemory>
+    ensures { IfOk result (λ kind. IsValidKind 1 kind) }
+{
+    Ok(Kind {
+        name: Text::from_string(String::from_str(alloc, "rock")?)?,
+        health: None,
+        mobile: None,
+        building: false,
+        harvester: None,
+        refinery: None,
+        production: None,
+        buildable: None,
+        valued: None,
+        armament: None,
+    })
+}
+
+/// A map of three cells, with an actor on each.
+fn idle_map(alloc: Global) -> Result<Map, NoMemory>
+    ensures { IfOk result (λ map. map ≡ idle_map) }
+{
+    let mut starts = List::new(alloc);
+    starts.push(start(0))?;
+    starts.push(start(1))?;
+    starts.push(start(2))?;
+    Ok(Map {
+        width: 3,
+        height: 1,
+        terrain: Tiles::create(alloc, 3, 1)?,
+        ore: Ore::create(alloc, 3, 1)?,
+        starts,
+        cash: 1_000,
+    })
+}
+
+/// Three idle actors are hashed once, at the start: a frame without orders hashes none of them.
+#[test]
+fn idle_actors_are_not_hashed_again(rt: HostRuntime) -> Result<(), Fail> {
+    let mut game = idle_game(rt.alloc())?;
+    assert_eq!(rt; (game.summary().actors, game.mixed()), (3, 3));
+    let before = game.hash();
+    let mut frame = Frame::empty();
+    frame.push(play(&[]));
+    game.step(&frame);
+    assert_eq!(rt; (game.summary().actors, game.mixed()), (3, 3));
+    assert!(rt; game.hash() != before);
+    Ok(())
+}
+
+/// A game of one client with three idle actors.
+fn idle_game(alloc: Global) -> Result<Game, NoMemory>
+    ensures clients { IfOk result (λ game. game_clients game ≡ 1) }
+    ensures fresh { IfOk result (λ game. game.steps ≡ 0) }
+{
+    let mut kinds = Vec::new(alloc);
+    kinds.push(plain_kind(alloc)?)?;
+    let rules = Rules::of(alloc, kinds)?;
+    let map = idle_map(alloc)?;
+    let maker = GameMaker::new(Rc::new(alloc, rules)?, Rc::new(alloc, map)?);
+    maker.make(alloc, 1, 1)
 }
