@@ -1,6 +1,6 @@
 -- Walks over the cells of a map, their cost, the distance, and the best direction.
 use Rattle.std.specs.Prelude.{◌≡◌, ℕ, ◌+◌, ◌*◌, ◌%◌, ◌<◌, ◌≤◌, ◌==◌, ◌&&◌, ◌||◌, not, nat_lt, Bool}
-use Rattle.std.specs.Prelude.{if◌then◌else◌, Option, ◌⊎◌, Some, None, List, [], ◌∷◌, slice_index_or, true}
+use Rattle.std.specs.Prelude.{if◌then◌else◌, Option, ◌⊎◌, Some, None, List, [], ◌∷◌, true}
 use Rattle.world_units.specs.declared.cell.CPos.{CPos}
 use Rattle.world_units.specs.Cells.{same_cell}
 use Rattle.world_units.specs.Directions.{step_of}
