@@ -119,8 +119,14 @@ pub one_more_known :
     AllByRecursion (HasTagsUpTo greatest) (held ++ entry ∷ [])
 one_more_known greatest held entry known one = all_added (HasTagsUpTo greatest) held entry known one
 
-pub ruleset reading_steps = (entry_is_held, entry_is_bad, entries_are_held, entries_spelled,
-    one_more_stays, one_more_known)
+pub ruleset reading_steps = (
+  entry_is_held,
+  entry_is_bad,
+  entries_are_held,
+  entries_spelled,
+  one_more_stays,
+  one_more_known,
+)
 
 entry_again :
     (greatest : ℕ) (gone : Bool) (entry : Entry) (rest : List ℕ) → EntryFollows gone entry →

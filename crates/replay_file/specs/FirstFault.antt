@@ -46,13 +46,16 @@ header_at here bytes = do
   seed ← number_at (Torn RULES_AT) 4 rules.1
   clients ← number_at (Torn RULES_AT) 1 seed.1
   if not (rules.0 == here) then Err (OtherRules rules.0 here)
-    else (if is_client_count version.0 clients.0
-      then Ok (record {
-        version = version.0;
-        rules = rules.0;
-        seed = seed.0;
-        clients = clients.0;
-      }, clients.1)
+      else (if is_client_count version.0 clients.0
+      then Ok (
+        record {
+          version = version.0;
+          rules = rules.0;
+          seed = seed.0;
+          clients = clients.0;
+        },
+        clients.1,
+      )
       else Err (BadRecord CLIENTS_AT))
 
 -- The fault where these bytes are left of so many, if what they begin with is one: a part that is

@@ -64,7 +64,7 @@ unfoldable pub entry_in : ℕ → Bool → List ℕ → PartRead Entry
 entry_in greatest gone bytes = do
   kind ← number_at Short 1 bytes
   if kind.0 == 0 then Ok (Leave, kind.1)
-    else (if (kind.0 == 1) && not gone then play_in greatest kind.1 else Err Bad)
+      else (if (kind.0 == 1) && not gone then play_in greatest kind.1 else Err Bad)
 
 -- An entry for each client that is left, after those that are held.
 unfoldable pub entries_after : ℕ → List Entry → List Bool → List ℕ → PartRead (List Entry)

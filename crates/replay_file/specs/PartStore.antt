@@ -34,7 +34,7 @@ unfoldable pub stored_at : List ℕ → PartRead Part
 stored_at bytes = do
   tag ← number_at Short 1 bytes
   if tag.0 == 1 then (number_at Short 1 tag.1 >>= λ count. counted_frame count.0 count.1)
-    else (if tag.0 == 2 then mark_in tag.1 else Err Bad)
+      else (if tag.0 == 2 then mark_in tag.1 else Err Bad)
 
 abbrev pub onto_parts : PartRead Part → (List ℕ → List Part) → List Part
 onto_parts (Ok read) others = read.0 ∷ others read.1

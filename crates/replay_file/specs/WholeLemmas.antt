@@ -70,8 +70,11 @@ header_few here old new h is =
 pub header_within : (here : ℕ) (old new : List ℕ) (h : Header) → IsHeader here old new h →
     length new ≤ length old
 header_within here old new h is =
-    omega (arith, ap length is.spelled,
-      length-append (header_bytes h.version h.rules h.seed h.clients) new)
+    omega (
+      arith,
+      ap length is.spelled,
+      length-append (header_bytes h.version h.rules h.seed h.clients) new,
+    )
 
 abbrev replay_with : Header → List Part → Replay
 replay_with h parts =

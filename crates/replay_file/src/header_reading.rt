@@ -8,8 +8,9 @@ ghost use Rattle.replay_file.specs.HeaderClauses.{IsHeader};
 ghost use Rattle.replay_file.specs.PartRules.{is_known, most_clients};
 
 use crate::header::Header;
-use crate::limits::{CLIENTS_AT, FIRST_MAX_CLIENTS, FIRST_VERSION, MAGIC, RULES_AT, VERSION};
-use crate::limits::VERSION_AT;
+use crate::limits::{
+    CLIENTS_AT, FIRST_MAX_CLIENTS, FIRST_VERSION, MAGIC, RULES_AT, VERSION, VERSION_AT,
+};
 use crate::replay_fault::ReplayFault;
 use game_orders::MAX_CLIENTS;
 use wire_bytes::Cursor;

@@ -17,6 +17,8 @@ mod replay_fault;
 mod replay_reading;
 mod replay_writing;
 mod standing;
+#[cfg(test)]
+mod tests;
 
 pub use limits::{FIRST_MAX_CLIENTS, FIRST_MAX_FRAMES, FIRST_VERSION, VERSION};
 pub use part::Part;

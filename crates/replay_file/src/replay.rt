@@ -23,11 +23,11 @@ impl Replay {
     /// A replay of the version that is written, without parts.
     pub fn new(alloc: Global, rules: u64, seed: u32, clients: u8) -> Replay
         ensures { result ≡ record {
-            version = 2;
-            rules = rules;
-            seed = seed;
-            clients = clients;
-            parts = [];
+          version = 2;
+          rules = rules;
+          seed = seed;
+          clients = clients;
+          parts = [];
         } }
     {
         Replay {
