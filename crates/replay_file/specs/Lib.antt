@@ -4,6 +4,7 @@ pub mod FirstFault
 pub mod FrameLemmas
 pub mod HeaderClauses
 pub mod Frames
+pub mod MigratedLemmas
 pub mod OrdersLemmas
 pub mod PartBytes
 pub mod PartReading
@@ -12,6 +13,8 @@ pub mod PartStore
 pub mod ReadClauses
 pub mod ReplayBytes
 pub mod ReplayLemmas
+pub mod RuleLaws
+pub mod RuleLemmas
 pub mod SoFarLemmas
 pub mod StoreLemmas
 pub mod ValidReplay

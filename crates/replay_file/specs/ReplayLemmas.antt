@@ -70,7 +70,8 @@ same_part :
 same_part part other rest more read is also =
     let both : (Some part, rest) ≡ (Some other, more) = cc in
     let some : Some part ≡ Some other = ap (λ (pair : Option Part × List ℕ). pair.0) both in
-    (cc, ap (λ (pair : Option Part × List ℕ). pair.1) both)
+    let same : part ≡ other = cc in
+    (same, ap (λ (pair : Option Part × List ℕ). pair.1) both)
 
 -- Parts that follow one another up to where none is are read one way.
 pub one_reading :

@@ -30,7 +30,7 @@ pub read_begins : (version clients : ℕ) (bytes : List ℕ) →
 read_begins version clients bytes =
     record { spelled = refl; follow = tt; fits = tt; standing = refl; few = omega arith }
 
-few_frames : (version : ℕ) → most_frames version ≤ MAX_FRAMES
+pub few_frames : (version : ℕ) → most_frames version ≤ MAX_FRAMES
 few_frames version = by_test (version == FIRST_VERSION)
   where
     by_test : (old : Bool) → (if◌then◌else◌ old 65536 262144) ≤ MAX_FRAMES

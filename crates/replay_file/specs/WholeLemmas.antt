@@ -54,7 +54,7 @@ most_of version clients is =
     within : (a b : ℕ) → nat_le a b ≡ true → a ≤ b
     within a b test = grind (arith, nat_tests)
 
-few_clients : (version : ℕ) → most_clients version ≤ MAX_CLIENTS
+pub few_clients : (version : ℕ) → most_clients version ≤ MAX_CLIENTS
 few_clients version = by_test (version == FIRST_VERSION)
   where
     by_test : (old : Bool) → (if◌then◌else◌ old 8 16) ≤ MAX_CLIENTS
@@ -286,3 +286,45 @@ only_reading here bytes (Err fault) answers r spells =
       | inl none ↦ none
       | inr first ↦ absurd (no_fault here bytes r fault spells first)
     ]
+
+-- Two faults at one place are one.
+same_fault : (fault other : ReplayFault) (found : Option ReplayFault) → found ≡ Some fault →
+    found ≡ Some other → fault ≡ other
+same_fault fault other found is also = cc
+
+one_fault_among :
+    (version clients total : ℕ) (bytes : List ℕ) (fault other : ReplayFault) →
+    IsFaultInParts version clients total bytes fault →
+    IsFaultInParts version clients total bytes other → fault ≡ other
+one_fault_among version clients total bytes fault other first second =
+    let start = opening clients in
+    let s = after_parts start first.parts in
+    let t = after_parts start second.parts in
+    let same =
+    one_reading version start first.parts second.parts first.left second.left first.follow
+    second.follow first.fits second.fits
+    (none_at_fault total first.left fault (next_in version s first.left) first.found)
+    (none_at_fault total second.left other (next_in version t second.left) second.found)
+    (sym first.spelled ∙ second.spelled) in
+    let there : fault_at total second.left (next_in version t second.left) ≡ Some fault =
+    subst (λ (ps : List Part). fault_at total second.left
+    (next_in version (after_parts start ps) second.left) ≡ Some fault) same.0
+    (subst (λ (left : List ℕ). fault_at total left (next_in version s left) ≡ Some fault) same.1
+    first.found) in
+    same_fault fault other (fault_at total second.left (next_in version t second.left)) there
+    second.found
+
+one_fault_after :
+    (total : ℕ) (read : HeaderRead Header) (fault other : ReplayFault) →
+    IsFaultAfter total read fault → IsFaultAfter total read other → fault ≡ other
+one_fault_after total (Ok (h, left)) fault other first second =
+    one_fault_among h.version h.clients total left fault other first second
+one_fault_after total (Err found) fault other first second = first ∙ sym second
+
+-- Bytes have at most one first fault.
+pub one_fault : (here : ℕ) (bytes : List ℕ) (fault other : ReplayFault) →
+    IsFirstFault here bytes fault → IsFirstFault here bytes other → fault ≡ other
+one_fault here bytes fault other first second =
+    one_fault_after (length bytes) (header_at here bytes) fault other first second
+
+pub ruleset fault_laws = (no_fault, one_fault)

@@ -4,6 +4,7 @@
 mod departed;
 mod header;
 mod header_reading;
+mod law;
 mod limits;
 mod part;
 mod part_cursor;
@@ -20,6 +21,10 @@ mod standing;
 #[cfg(test)]
 mod tests;
 
+pub use law::{
+    a_migrated_replay_is_valid, bytes_have_one_first_fault, bytes_spell_one_replay,
+    the_rules_are_these,
+};
 pub use limits::{FIRST_MAX_CLIENTS, FIRST_MAX_FRAMES, FIRST_VERSION, VERSION};
 pub use part::Part;
 pub use part_cursor::PartCursor;
