@@ -2,11 +2,12 @@ ghost use Rattle.std.specs.Prelude.{◌≡◌, List, ℕ, IfOk, IfSome, MatchOpt
 ghost use Rattle.std.specs.HashMap.{get};
 ghost use Rattle.std.specs.Str.{bytes_eq};
 ghost use Rattle.yaml_lines.specs.Trees.{trees_of, trees_of_nodes};
-ghost use Rattle.yaml_merge.specs.Levels.{Stands, children_from, place_in};
+ghost use Rattle.yaml_merge.specs.Places.{Stands, children_from, place_in};
+ghost use Rattle.yaml_merge.specs.Merging.{Lacks};
 ghost use Rattle.yaml_merge.specs.Resolving.{parent_of};
 
 use crate::growing_list::{GrowingList, Slot};
-use crate::keyed::Keyed;
+use crate::hashers::Hashers;
 use crate::steps::removes;
 use base::NoMemory;
 use std::alloc::Global;
@@ -15,10 +16,10 @@ use yaml_lines::{Forest, Node, Text};
 
 /// A complete list of nodes, whose nodes are found by their keys.
 #[derive(Drop)]
-pub struct Tops {
+pub struct KeyedList {
     /// The nodes, in order.
     pub forest: Forest,
-    pub(crate) names: HashMap<Text, usize, Keyed>,
+    pub(crate) names: HashMap<Text, usize, Hashers>,
     ghost named: { (name : List ℕ) → get bytes_eq names name ≡ place_in name (trees_of forest) },
 }
 
@@ -56,12 +57,12 @@ pub fn complete(alloc: Global, list: GrowingList) -> Result<Forest, NoMemory>
 /// Where the first node of each key stands.
 fn names_of(
     alloc: Global,
-    keyed: &Keyed,
+    hashers: &Hashers,
     nodes: &[Node],
-) -> Result<HashMap<Text, usize, Keyed>, NoMemory>
+) -> Result<HashMap<Text, usize, Hashers>, NoMemory>
     ensures { IfOk result (λ names. (name : List ℕ) → get bytes_eq names name ≡ place_in name (trees_of_nodes nodes.now)) }
 {
-    let mut names = HashMap::with_hasher(alloc, *keyed);
+    let mut names = HashMap::with_hasher(alloc, *hashers);
     for (at, node) in nodes.iter().enumerate() {
         if names.contains_key(&node.key) {
             continue;
@@ -71,24 +72,46 @@ fn names_of(
     Ok(names)
 }
 
-impl Tops {
+impl KeyedList {
     /// The nodes of a list that grows no more.
-    pub fn of(alloc: Global, keyed: &Keyed, list: GrowingList) -> Result<Tops, NoMemory>
-        ensures { IfOk result (λ tops. trees_of tops.forest ≡ list) }
+    pub fn of(alloc: Global, hashers: &Hashers, list: GrowingList) -> Result<KeyedList, NoMemory>
+        ensures { IfOk result (λ made. trees_of made.forest ≡ list) }
     {
         let forest = complete(alloc, list)?;
-        let names = names_of(alloc, keyed, forest.nodes.as_slice())?;
-        Ok(Tops { forest, names })
+        KeyedList::of_forest(alloc, hashers, forest)
     }
 
-    /// The place of the node that a name names.
+    /// The nodes of a forest.
+    pub fn of_forest(
+        alloc: Global,
+        hashers: &Hashers,
+        forest: Forest,
+    ) -> Result<KeyedList, NoMemory>
+        ensures { IfOk result (λ made. made.forest ≡ forest) }
+    {
+        let names = names_of(alloc, hashers, forest.nodes.as_slice())?;
+        Ok(KeyedList { forest, names })
+    }
+
+    /// The place of the first node with a key.
+    pub fn find(&self, key: &Text) -> Option<usize>
+        ensures { MatchOption result (Lacks key.now (trees_of self.now.forest))
+            (λ at. Stands key.now at (trees_of self.now.forest)) }
+    {
+        self.names.get(key).copied()
+    }
+
+    /// The place of the node that a name names. Removals have no name.
     pub fn place_of(&self, name: &Text) -> Option<usize>
-        ensures parent { MatchOption result (parent_of name.now (trees_of self.now.forest) ≡ None) (λ at. parent_of name.now (trees_of self.now.forest) ≡ Some (children_from at (trees_of self.now.forest))) }
+        ensures parent { MatchOption result
+            (parent_of name.now (trees_of self.now.forest) ≡ None)
+            (λ at. parent_of name.now (trees_of self.now.forest)
+            ≡ Some (children_from at (trees_of self.now.forest))) }
         ensures stands { IfSome result (λ at. Stands name.now at (trees_of self.now.forest)) }
     {
         if removes(name.as_str().as_bytes()) {
             return None;
         }
-        self.names.get(name).copied()
+        self.find(name)
     }
 }

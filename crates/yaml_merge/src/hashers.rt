@@ -4,28 +4,28 @@ use yaml_lines::Forest;
 /// Makes the hashers of all indexes of one resolve. They begin with all keys of all files, so that
 /// nobody can choose keys that collide: each choice changes the hash.
 #[derive(Clone, Copy)]
-pub struct Keyed {
+pub struct Hashers {
     begun: DefaultHasher,
 }
 
-impl BuildHasher for Keyed {
+impl BuildHasher for Hashers {
     type Hasher = DefaultHasher;
 
-    ghost build_hasher = { λ keyed. keyed.begun };
+    ghost build_hasher = { λ hashers. hashers.begun };
 
     fn build_hasher(&self) -> DefaultHasher {
         self.begun
     }
 }
 
-impl Keyed {
+impl Hashers {
     /// The hashers for the keys of some files.
-    pub fn of(files: &[Forest]) -> Keyed {
+    pub fn of(files: &[Forest]) -> Hashers {
         let mut begun = DefaultHasher::new();
         for file in files {
             hash_keys(&mut begun, file);
         }
-        Keyed { begun }
+        Hashers { begun }
     }
 }
 

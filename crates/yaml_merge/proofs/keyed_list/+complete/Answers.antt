@@ -3,7 +3,7 @@ use Rattle.yaml_lines.specs.Trees.{trees_of_nodes}
 use Rattle.yaml_merge.specs.Resolving.{added}
 use Rattle.yaml_merge.proofs.NodeSteps.{added_last, node_made}
 use Rattle.yaml_merge.proofs.SlotSteps.{added_standing, dead_standing}
-use Rattle.yaml_merge.proofs.tops.+complete.Goals as goal
+use Rattle.yaml_merge.proofs.keyed_list.+complete.Goals as goal
 
 pub loop-slot-preserved-in-Continue-branch-3 : goal.loop-slot-preserved-in-Continue-branch-3
 loop-slot-preserved-in-Continue-branch-3 t c =

@@ -5,9 +5,9 @@ use Rattle.std.proofs.lemmas.Bool.{cases_Bool, cond-true, cond-false}
 use Rattle.std.specs.Str.{bytes_eq}
 use Rattle.yaml_lines.specs.declared.place.Place.{Place}
 use Rattle.yaml_lines.specs.Trees.{Trees, none, more}
-use Rattle.yaml_merge.specs.Levels.{width, Stands, children_from, emptied, emptied_at, put_at}
-use Rattle.yaml_merge.specs.Levels.{removed_from}
-use Rattle.yaml_merge.specs.Merging.{Lacks, joined, children_at, newer_value, behind, without}
+use Rattle.yaml_merge.specs.Places.{width, Stands, children_from, emptied, emptied_at, put_at}
+use Rattle.yaml_merge.specs.Places.{removed_from}
+use Rattle.yaml_merge.specs.Merging.{Lacks, joined, children_at, newer_value, with_first, without}
 use Rattle.yaml_merge.specs.Resolving.{added}
 
 pub stands_within : (key : List ℕ) (at : ℕ) (list : Trees) → Stands key at list → at < width list
@@ -80,9 +80,9 @@ pub without_at : (key : List ℕ) (at : ℕ) (list : Trees) → Stands key at li
 without_at key at none h = absurd h
 without_at key zero (more first value place children rest) h = cond-true _ _ _ h
 without_at key (suc at) (more first value place children rest) h =
-    cond-false _ _ _ h.0 ∙ ap (behind first value place children) (without_at key at rest h.1)
+    cond-false _ _ _ h.0 ∙ ap (with_first first value place children) (without_at key at rest h.1)
 
 pub without_none : (key : List ℕ) (list : Trees) → Lacks key list → without key list ≡ None
 without_none key none h = refl
 without_none key (more first value place children rest) h =
-    cond-false _ _ _ h.0 ∙ ap (behind first value place children) (without_none key rest h.1)
+    cond-false _ _ _ h.0 ∙ ap (with_first first value place children) (without_none key rest h.1)

@@ -4,7 +4,7 @@ use Rattle.std.specs.Prelude.{is_some}
 use Rattle.std.specs.Str.{bytes_eq}
 use Rattle.yaml_lines.specs.declared.forest.Forest.TheViews.{out-Node}
 use Rattle.yaml_merge.proofs.NodeSteps.{NamesUpTo, names_new, names_old}
-use Rattle.yaml_merge.proofs.tops.names_of.Goals as goal
+use Rattle.yaml_merge.proofs.keyed_list.names_of.Goals as goal
 
 pub loop-at-preserved : goal.loop-at-preserved
 loop-at-preserved c =
