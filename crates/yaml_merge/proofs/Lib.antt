@@ -21,3 +21,4 @@ pub mod LawSteps
 pub mod StaysSteps
 pub mod LimitSteps
 pub mod PlainSteps
+pub mod DistinctSteps

@@ -60,5 +60,5 @@ copied_next nodes copy at node made children h n m c s next e =
     ∙ ap (added o.key o.value o.place (trees_of o.children)) s
     ∙ sym (more_nodes nodes at node h n)
 
-pub some_given : (P : Resolved → Type 0) (found : Option Resolved) (made : Resolved) → found ≡ Some made → IfSome found P → P made
+pub some_given : {A : Type 0} (P : A → Type 0) (found : Option A) (made : A) → found ≡ Some made → IfSome found P → P made
 some_given P found made e h = subst (λ o. IfSome o P) e h

@@ -107,11 +107,11 @@ resolved_files_small files =
     (tops_small tops tops none (omega arith, tt)) (λ made h. removed_small tops made h)
 
 -- Lists one after another.
-followed_none : (list : Trees) → followed_by list none ≡ list
+pub followed_none : (list : Trees) → followed_by list none ≡ list
 followed_none none = refl
 followed_none (more key value place children rest) = ap (more key value place children) (followed_none rest)
 
-followed_followed : (one two three : Trees) → followed_by (followed_by one two) three ≡ followed_by one (followed_by two three)
+pub followed_followed : (one two three : Trees) → followed_by (followed_by one two) three ≡ followed_by one (followed_by two three)
 followed_followed none two three = refl
 followed_followed (more key value place children rest) two three = ap (more key value place children) (followed_followed rest two three)
 
@@ -124,15 +124,15 @@ lacks_followed q none two h k = k
 lacks_followed q (more key value place children rest) two h k = (h.0, lacks_followed q rest two h.1 k)
 
 -- A list with a node more.
-abbrev with_last : (key value : List ℕ) → Place → Trees → Trees → Trees
+abbrev pub with_last : (key value : List ℕ) → Place → Trees → Trees → Trees
 with_last key value place children list = followed_by list (more key value place children none)
 
-last_apart : (key value : List ℕ) (place : Place) (children made left : Trees) → Lacks key left → IsApart made left → IsApart (with_last key value place children made) left
+pub last_apart : (key value : List ℕ) (place : Place) (children made left : Trees) → Lacks key left → IsApart made left → IsApart (with_last key value place children made) left
 last_apart key value place children made none l a = tt
 last_apart key value place children made (more first old last others rest) l a =
     (lacks_followed first made (more key value place children none) a.0 (bytes_flip key first ∙ l.0, tt), last_apart key value place children made rest l.1 a.1)
 
-joined_last : (key value : List ℕ) (place : Place) (below : Trees → Trees) (list : Trees) → Lacks key list →
+pub joined_last : (key value : List ℕ) (place : Place) (below : Trees → Trees) (list : Trees) → Lacks key list →
     joined key value place below list ≡ with_last key value place (below none) list
 joined_last key value place below none h = refl
 joined_last key value place below (more first old last children rest) h =

@@ -16,7 +16,7 @@ use crate::fault::MergeFault;
 use crate::growing_list::GrowingList;
 use crate::hashers::Hashers;
 use crate::keeping::{keep, keep_parents, node_at, total_at};
-use crate::keyed_list::KeyedList;
+use crate::keyed_list::{KeyedList, complete};
 use crate::merging::merge;
 use crate::plain::node_over;
 use crate::removing::remove_tops;
@@ -138,6 +138,21 @@ fn merge_files(alloc: Global, hashers: &Hashers, files: &[Forest]) -> Result<Gro
     Ok(list)
 }
 
+/// The nodes of all files as one list that grows no more.
+fn merged_list(alloc: Global, hashers: &Hashers, files: &[Forest]) -> Result<KeyedList, NoMemory>
+    ensures { IfOk result (λ made.
+        trees_of made.forest ≡ merged_files (map trees_of files.now) none) }
+{
+    if let [file] = files {
+        if let Some(made) = KeyedList::of_file(alloc, hashers, file)? {
+            return Ok(made);
+        }
+    }
+    let list = merge_files(alloc, hashers, files)?;
+    let forest = complete(alloc, list)?;
+    KeyedList::of_forest(alloc, hashers, forest)
+}
+
 /// Merges the files in order, and resolves what their nodes inherit and remove.
 ///
 /// In each list of the answer a key stands once, and nothing is left to resolve: no node is a
@@ -163,8 +178,7 @@ pub fn resolve(alloc: Global, files: &[Forest]) -> Result<Forest, MergeFault>
     ensures fault { IfErr result (λ fault. IsFault NoMemory fault (resolved_files (map trees_of files.now))) }
 {
     let hashers = Hashers::of(files);
-    let list = merge_files(alloc, &hashers, files)?;
-    let tops = KeyedList::of(alloc, &hashers, list)?;
+    let tops = merged_list(alloc, &hashers, files)?;
     let done = resolve_tops(alloc, &hashers, &tops)?;
     remove_tops(alloc, &hashers, &tops.forest, done)
 }

@@ -5,9 +5,12 @@ ghost use Rattle.yaml_lines.specs.Trees.{trees_of, trees_of_nodes};
 ghost use Rattle.yaml_merge.specs.Places.{Stands, children_from, place_in};
 ghost use Rattle.yaml_merge.specs.Merging.{Lacks};
 ghost use Rattle.yaml_merge.specs.Resolving.{parent_of};
+ghost use Rattle.yaml_merge.specs.Settled.{IsDistinct};
 
+use crate::distinct::{are_distinct, names_once};
 use crate::growing_list::{GrowingList, Slot};
 use crate::hashers::Hashers;
+use crate::plain::copy_list;
 use crate::steps::removes;
 use base::NoMemory;
 use std::alloc::Global;
@@ -73,12 +76,26 @@ fn names_of(
 }
 
 impl KeyedList {
-    /// The nodes of a list that grows no more.
-    pub fn of(alloc: Global, hashers: &Hashers, list: GrowingList) -> Result<KeyedList, NoMemory>
-        ensures { IfOk result (λ made. trees_of made.forest ≡ list) }
+    /// The nodes of a file in which each key stands once in its list, whose texts are not copied.
+    pub fn of_file(
+        alloc: Global,
+        hashers: &Hashers,
+        file: &Forest,
+    ) -> Result<Option<KeyedList>, NoMemory>
+        ensures same { IfOk result (λ found. IfSome found (λ made.
+            trees_of made.forest ≡ trees_of file.now)) }
+        ensures distinct { IfOk result (λ found. IfSome found (λ made.
+            IsDistinct (trees_of file.now))) }
     {
-        let forest = complete(alloc, list)?;
-        KeyedList::of_forest(alloc, hashers, forest)
+        let nodes = file.nodes.as_slice();
+        if !are_distinct(alloc, hashers, nodes)? {
+            return Ok(None);
+        }
+        let Some(names) = names_once(alloc, hashers, nodes)? else {
+            return Ok(None);
+        };
+        let forest = copy_list(alloc, file)?;
+        Ok(Some(KeyedList { forest, names }))
     }
 
     /// The nodes of a forest.

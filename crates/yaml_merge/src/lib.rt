@@ -6,6 +6,7 @@
 //! is inherited.
 #![tactic(auto)]
 
+mod distinct;
 mod fault;
 mod files;
 mod growing_list;

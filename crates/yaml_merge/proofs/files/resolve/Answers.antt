@@ -26,10 +26,10 @@ returns-clause-low c = resolve_low c.args.files.now _ (returns-clause-done c)
 
 pub resolve_tops-requires : goal.resolve_tops-requires
 resolve_tops-requires c =
-    record { distinct = subst IsDistinct (c.in_ok-list.ensures {u = tt} ∙ sym (c.in_ok-tops.ensures {u = tt})) (merged_files_distinct (map trees_of c.args.files.now) none tt) }
+    record { distinct = subst IsDistinct (sym (c.in_ok-tops.ensures {u = tt})) (merged_files_distinct (map trees_of c.args.files.now) none tt) }
 
 pub remove_tops-requires : goal.remove_tops-requires
 remove_tops-requires c =
     let distinct : IsDistinct (trees_of c.in_ok-tops.tops.forest) =
-    subst IsDistinct (c.in_ok-list.ensures {u = tt} ∙ sym (c.in_ok-tops.ensures {u = tt})) (merged_files_distinct (map trees_of c.args.files.now) none tt) in
+    subst IsDistinct (sym (c.in_ok-tops.ensures {u = tt})) (merged_files_distinct (map trees_of c.args.files.now) none tt) in
     record { once = resolved_tops_once (trees_of c.in_ok-tops.tops.forest) _ (distinct_once _ distinct) (c.in_ok-done.ensures {u = tt}).done }
