@@ -8,7 +8,8 @@ use Rattle.world_units.specs.CellLemmas.{cell_decides}
 use Rattle.game_model.specs.declared.actor.Actor.{Actor}
 use Rattle.game_model.specs.declared.actor.Body.{Body}
 use Rattle.game_model.specs.World.{actor_of, is_occupied}
-use Rattle.actor_table.specs.ActorList.{holder_of, with_body, with_cell, without_id, CellsDiffer}
+use Rattle.actor_table.specs.ActorList.{holder_of, without_id, CellsDiffer}
+use Rattle.game_model.specs.ActorChanges.{with_body, moved_to}
 use Rattle.actor_table.specs.Rising.{RisesFrom}
 use Rattle.actor_table.specs.Search.{IsAbsent}
 use Rattle.actor_table.proofs.Places.{changed_absent, without_absent}
@@ -121,7 +122,7 @@ holder_without least (b ∷ actors) id a p rises differ found = elim (eqb_tells 
         ])
 
 -- one moved to a free cell
-pub holder_moved : (least : ℕ) (actors : List Actor) (id : ℕ) (a : Actor) (to p : CPos) → ActorsRise least actors → CellsDiffer actors → actor_of actors id ≡ Some a → is_occupied actors to ≡ false → holder_of (with_cell actors id to) p ≡ cond (same_cell to p) (Some id) (cond (same_cell a.cell p) None (holder_of actors p))
+pub holder_moved : (least : ℕ) (actors : List Actor) (id : ℕ) (a : Actor) (to p : CPos) → ActorsRise least actors → CellsDiffer actors → actor_of actors id ≡ Some a → is_occupied actors to ≡ false → holder_of (moved_to actors id to) p ≡ cond (same_cell to p) (Some id) (cond (same_cell a.cell p) None (holder_of actors p))
 holder_moved least [] id a to p rises differ found free = absurd (cc)
 holder_moved least (b ∷ actors) id a to p rises differ found free = elim (eqb_tells b.id id) [
   | inl met ↦ here met.0 met.1 (some_here met.0 found)
@@ -137,10 +138,10 @@ holder_moved least (b ∷ actors) id a to p rises differ found free = elim (eqb_
     free_here : b.cell ≡ p → holder_of actors p ≡ None
     free_here is = holder_free actors p (subst (λ c. is_occupied actors c ≡ false) is differ.0)
 
-    here : eqb b.id id ≡ true → b.id ≡ id → b ≡ a → holder_of (with_cell (b ∷ actors) id to) p ≡ cond (same_cell to p) (Some id) (cond (same_cell a.cell p) None (holder_of (b ∷ actors) p))
+    here : eqb b.id id ≡ true → b.id ≡ id → b ≡ a → holder_of (moved_to (b ∷ actors) id to) p ≡ cond (same_cell to p) (Some id) (cond (same_cell a.cell p) None (holder_of (b ∷ actors) p))
     here met same is =
-        let rest : with_cell actors id to ≡ actors = changed_absent actors id _ (rising_absent id (b.id + 1) actors (omega arith) rises.1) in
-        subst (λ (x : Actor). holder_of (with_cell (b ∷ actors) id to) p ≡ cond (same_cell to p) (Some id) (cond (same_cell x.cell p) None (holder_of (b ∷ actors) p))) is (rw (met, rest) (elim (bool_cases (same_cell to p)) [
+        let rest : moved_to actors id to ≡ actors = changed_absent actors id _ (rising_absent id (b.id + 1) actors (omega arith) rises.1) in
+        subst (λ (x : Actor). holder_of (moved_to (b ∷ actors) id to) p ≡ cond (same_cell to p) (Some id) (cond (same_cell x.cell p) None (holder_of (b ∷ actors) p))) is (rw (met, rest) (elim (bool_cases (same_cell to p)) [
           | inl hit ↦ rw hit (ap Some same)
           | inr miss ↦ rw miss (elim (cell_cases b.cell p) [
             | inl at ↦ rw at.0 (free_here at.1)
@@ -148,7 +149,7 @@ holder_moved least (b ∷ actors) id a to p rises differ found free = elim (eqb_
           ])
         ]))
 
-    later : eqb b.id id ≡ false → actor_of actors id ≡ Some a → holder_of (with_cell actors id to) p ≡ cond (same_cell to p) (Some id) (cond (same_cell a.cell p) None (holder_of actors p)) → holder_of (with_cell (b ∷ actors) id to) p ≡ cond (same_cell to p) (Some id) (cond (same_cell a.cell p) None (holder_of (b ∷ actors) p))
+    later : eqb b.id id ≡ false → actor_of actors id ≡ Some a → holder_of (moved_to actors id to) p ≡ cond (same_cell to p) (Some id) (cond (same_cell a.cell p) None (holder_of actors p)) → holder_of (moved_to (b ∷ actors) id to) p ≡ cond (same_cell to p) (Some id) (cond (same_cell a.cell p) None (holder_of (b ∷ actors) p))
     later fails found rest =
         rw fails (elim (cell_cases b.cell p) [
           | inl at ↦ rw (at.0, differs_from b.cell to p parts.0 at.1, subst (λ c. same_cell a.cell c ≡ false) at.1 (found_apart actors id a b.cell found differ.0)) refl
@@ -208,7 +209,7 @@ differ_filter test (b ∷ actors) differ = elim (bool_cases (test b)) [
   | inr fails ↦ rw fails (differ_filter test actors differ.1)
 ]
 
-occupied_moved : (actors : List Actor) (id : ℕ) (to p : CPos) → is_occupied actors p ≡ false → same_cell to p ≡ false → is_occupied (with_cell actors id to) p ≡ false
+occupied_moved : (actors : List Actor) (id : ℕ) (to p : CPos) → is_occupied actors p ≡ false → same_cell to p ≡ false → is_occupied (moved_to actors id to) p ≡ false
 occupied_moved [] id to p free apart = refl
 occupied_moved (b ∷ actors) id to p free apart =
     let parts = or_false (same_cell b.cell p) (is_occupied actors p) free in
@@ -218,7 +219,7 @@ occupied_moved (b ∷ actors) id to p free apart =
       | inr fails ↦ rw (fails, parts.0) rest
     ]
 
-pub differ_moved : (least : ℕ) (actors : List Actor) (id : ℕ) (to : CPos) → ActorsRise least actors → CellsDiffer actors → is_occupied actors to ≡ false → CellsDiffer (with_cell actors id to)
+pub differ_moved : (least : ℕ) (actors : List Actor) (id : ℕ) (to : CPos) → ActorsRise least actors → CellsDiffer actors → is_occupied actors to ≡ false → CellsDiffer (moved_to actors id to)
 differ_moved least [] id to rises differ free = tt
 differ_moved least (b ∷ actors) id to rises differ free =
     let parts = or_false (same_cell b.cell to) (is_occupied actors to) free in

@@ -10,7 +10,8 @@ use Rattle.std.proofs.lemmas.List.Elements.{recursion_from_All}
 use Rattle.game_model.specs.declared.actor.Actor.{Actor}
 use Rattle.game_model.specs.declared.actor.Body.{Body}
 use Rattle.game_model.specs.World.{actor_of}
-use Rattle.actor_table.specs.ActorList.{changed_at, with_body, with_cell, without_id}
+use Rattle.actor_table.specs.ActorList.{without_id}
+use Rattle.game_model.specs.ActorChanges.{changed_at, with_body, moved_to}
 use Rattle.actor_table.specs.Kinds.{is_of, owner_and_kind_of, ids_of_kind, is_listed, ids_listed, rank_of, id_inserted, GainsId, MovesId, ListsActors}
 use Rattle.actor_table.specs.declared.listed.Listed.{Listed}
 use Rattle.actor_table.proofs.Holders.{bool_cases, ActorsRise, rising_absent}
@@ -131,7 +132,7 @@ ids_push owner kind (b ∷ actors) a above =
     none fails = rw fails refl
 
 -- one moved
-pub ids_moved : (owner kind id : ℕ) (actors : List Actor) (to : CPos) → ids_of_kind (with_cell actors id to) owner kind ≡ ids_of_kind actors owner kind
+pub ids_moved : (owner kind id : ℕ) (actors : List Actor) (to : CPos) → ids_of_kind (moved_to actors id to) owner kind ≡ ids_of_kind actors owner kind
 ids_moved owner kind id [] to = refl
 ids_moved owner kind id (a ∷ actors) to =
     let rest = ids_moved owner kind id actors to in
@@ -320,7 +321,7 @@ lists_without old actors id a lists rises found =
       ids = λ o k. ids_after_remove o k id old ∙ ap (λ ids. filter (λ n. not (eqb n id)) ids) (lists.ids o k) ∙ sym (kept_without o k id actors);
     }
 
-pub lists_moved : (old : List Listed) (actors : List Actor) (id : ℕ) (to : CPos) → ListsActors old actors → ListsActors old (with_cell actors id to)
+pub lists_moved : (old : List Listed) (actors : List Actor) (id : ℕ) (to : CPos) → ListsActors old actors → ListsActors old (moved_to actors id to)
 lists_moved old actors id to lists =
     record {
       count = omega (arith, lists.count, length_changed actors id (λ (a : Actor). record a { cell = to }));

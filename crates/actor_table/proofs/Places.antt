@@ -7,7 +7,8 @@ use Rattle.std.proofs.lemmas.Bool.Decides.{nat_tests}
 use Rattle.slab.specs.Slab.{Slab, get}
 use Rattle.game_model.specs.declared.actor.Actor.{Actor}
 use Rattle.game_model.specs.World.{actor_of, ids_of}
-use Rattle.actor_table.specs.ActorList.{changed_at, without_id}
+use Rattle.actor_table.specs.ActorList.{without_id}
+use Rattle.game_model.specs.ActorChanges.{changed_at}
 use Rattle.actor_table.specs.Rising.{RisesFrom}
 use Rattle.actor_table.specs.Places.{nobody, actor_in, actors_in, IsFiled, AreFiled}
 use Rattle.actor_table.specs.Search.{IsAbsent}

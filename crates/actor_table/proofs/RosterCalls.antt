@@ -17,7 +17,8 @@ use Rattle.slab.proofs.SlabLemmas.{Updates-with_value, ContainsKey-within}
 use Rattle.game_model.specs.declared.actor.Actor.{Actor}
 use Rattle.game_model.specs.declared.limits.TheConstants.{MAX_ACTORS}
 use Rattle.game_model.specs.World.{actor_of, ids_of}
-use Rattle.actor_table.specs.ActorList.{changed_at, without_id}
+use Rattle.actor_table.specs.ActorList.{without_id}
+use Rattle.game_model.specs.ActorChanges.{changed_at}
 use Rattle.actor_table.specs.Places.{nobody, actor_in, actors_in, IsFiled, AreFiled, IsRoster}
 use Rattle.actor_table.specs.Search.{IsAt, IsAbsent}
 use Rattle.actor_table.specs.declared.place.Place.{Place}

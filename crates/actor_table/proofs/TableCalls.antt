@@ -15,7 +15,8 @@ use Rattle.game_model.specs.declared.actor.Body.{Body}
 use Rattle.game_model.specs.declared.limits.TheConstants.{MAX_ACTORS}
 use Rattle.game_model.specs.Grid.{Grid, IsOn, place_of, with_cell as with_value}
 use Rattle.game_model.specs.World.{actor_of, is_alive, is_occupied}
-use Rattle.actor_table.specs.ActorList.{holder_of, changed_at, with_body, with_cell, without_id, without_dead_at, CellsDiffer}
+use Rattle.actor_table.specs.ActorList.{holder_of, without_id, without_dead_at, CellsDiffer}
+use Rattle.game_model.specs.ActorChanges.{changed_at, with_body, moved_to}
 use Rattle.actor_table.specs.Table.{Table, IsTable, IsIndexed}
 use Rattle.actor_table.proofs.Rising.{rises_pair}
 use Rattle.actor_table.proofs.Places.{without_absent}
@@ -139,7 +140,7 @@ indexed_body cells actors id body indexed =
       held = λ p on. indexed.held p on ∙ ap Some (sym (holder_body actors id body p));
     }
 
-pub indexed_moved : (cells : Grid (Option ℕ)) (actors : List Actor) (id : ℕ) (a : Actor) (to : CPos) → IsIndexed cells actors → ActorsRise 0 actors → actor_of actors id ≡ Some a → IsOn cells.width cells.height to → is_occupied actors to ≡ false → IsIndexed (with_value (with_value cells a.cell None) to (Some id)) (with_cell actors id to)
+pub indexed_moved : (cells : Grid (Option ℕ)) (actors : List Actor) (id : ℕ) (a : Actor) (to : CPos) → IsIndexed cells actors → ActorsRise 0 actors → actor_of actors id ≡ Some a → IsOn cells.width cells.height to → is_occupied actors to ≡ false → IsIndexed (with_value (with_value cells a.cell None) to (Some id)) (moved_to actors id to)
 indexed_moved cells actors id a to indexed rises found on free =
     record {
       on_map = All-from_recursion _ _ (all_changed (λ (x : Actor). IsOn cells.width cells.height x.cell) actors id _ (λ a was. on) (recursion_from_All _ _ indexed.on_map));
@@ -224,10 +225,10 @@ cell_on cells actors id q indexed read =
     let found = actor_of_cell (actor_of actors id) q read in
     subst (IsOn cells.width cells.height) found.2 (found_on cells actors id found.0 indexed found.1)
 
-pub indexed_from : (cells : Grid (Option ℕ)) (actors : List Actor) (id : ℕ) (q to : CPos) → IsIndexed cells actors → ActorsRise 0 actors → option_map (λ (a : Actor). a.cell) (actor_of actors id) ≡ Some q → IsOn cells.width cells.height to → is_occupied actors to ≡ false → IsIndexed (with_value (with_value cells q None) to (Some id)) (with_cell actors id to)
+pub indexed_from : (cells : Grid (Option ℕ)) (actors : List Actor) (id : ℕ) (q to : CPos) → IsIndexed cells actors → ActorsRise 0 actors → option_map (λ (a : Actor). a.cell) (actor_of actors id) ≡ Some q → IsOn cells.width cells.height to → is_occupied actors to ≡ false → IsIndexed (with_value (with_value cells q None) to (Some id)) (moved_to actors id to)
 indexed_from cells actors id q to indexed rises read on free =
     let found = actor_of_cell (actor_of actors id) q read in
-    subst (λ c. IsIndexed (with_value (with_value cells c None) to (Some id)) (with_cell actors id to)) found.2 (indexed_moved cells actors id found.0 to indexed rises found.1 on free)
+    subst (λ c. IsIndexed (with_value (with_value cells c None) to (Some id)) (moved_to actors id to)) found.2 (indexed_moved cells actors id found.0 to indexed rises found.1 on free)
 
 -- what the cells tell is whether a cell is occupied
 pub told_occupied : (cells : Grid (Option ℕ)) (actors : List Actor) (p : CPos) (told : Option ℕ) → IsIndexed cells actors → IsOn cells.width cells.height p → slice_get cells.cells (place_of cells.width p) ≡ Some told → told ≡ holder_of actors p

@@ -14,20 +14,6 @@ abbrev pub holder_of : List Actor → CPos → Option ℕ
 holder_of actors p =
     option_map (λ (a : Actor). a.id) (find (λ (a : Actor). same_cell a.cell p) actors)
 
--- The list with the actors of this id changed so, and the others as they are.
-abbrev pub changed_at : List Actor → ℕ → (Actor → Actor) → List Actor
-changed_at [] id change = []
-changed_at (a ∷ actors) id change =
-    (if a.id == id then change a else a) ∷ changed_at actors id change
-
--- The list with another body of the actor of an id.
-abbrev pub with_body : List Actor → ℕ → Body → List Actor
-with_body actors id body = changed_at actors id (λ (a : Actor). record a { body = body })
-
--- The list with the actor of an id on another cell.
-abbrev pub with_cell : List Actor → ℕ → CPos → List Actor
-with_cell actors id to = changed_at actors id (λ (a : Actor). record a { cell = to })
-
 -- The list without the actor of an id.
 abbrev pub without_id : List Actor → ℕ → List Actor
 without_id actors id = filter (λ (a : Actor). not (a.id == id)) actors

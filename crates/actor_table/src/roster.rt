@@ -3,7 +3,8 @@ ghost use Rattle.std.specs.Prelude.{IfOk, IfErr, IsSome, IfSome};
 ghost use Rattle.std.specs.Option.{option_copied, option_map};
 ghost use Rattle.std.specs.List.{All};
 ghost use Rattle.game_model.specs.World.{actor_of, ids_of};
-ghost use Rattle.actor_table.specs.ActorList.{with_body, with_cell, without_id};
+ghost use Rattle.actor_table.specs.ActorList.{without_id};
+ghost use Rattle.game_model.specs.ActorChanges.{with_body, moved_to};
 ghost use Rattle.actor_table.specs.Rising.{RisesFrom};
 
 use crate::place::Place;
@@ -164,7 +165,7 @@ impl Roster {
     /// Puts the actor of an id, which is there, on a cell.
     pub(crate) fn set_cell(&mut self, id: u32, to: CPos)
         requires { IsSome (actor_of self.old id) }
-        ensures value { self.new ≡ with_cell self.old id to }
+        ensures value { self.new ≡ moved_to self.old id to }
         ensures rises { RisesFrom (λ (a : Actor). a.id) 0 self.old }
     {
         let key = self.order[self.place_of(id)].key;

@@ -3,7 +3,8 @@ ghost use Rattle.std.specs.Prelude.{◌↔◌, slice_get, filter, map, IfOk, IsS
 ghost use Rattle.std.specs.List.{All};
 ghost use Rattle.std.specs.Option.{option_copied, option_map};
 ghost use Rattle.game_model.specs.World.{actor_of, ids_of, is_alive, is_occupied};
-ghost use Rattle.actor_table.specs.ActorList.{holder_of, with_body, with_cell};
+ghost use Rattle.actor_table.specs.ActorList.{holder_of};
+ghost use Rattle.game_model.specs.ActorChanges.{with_body, moved_to};
 ghost use Rattle.actor_table.specs.ActorList.{without_dead_at, without_id};
 
 use crate::cell_index::CellIndex;
@@ -156,7 +157,7 @@ impl ActorTable {
         requires column { to.x < self.old.width }
         requires row { to.y < self.old.height }
         requires free { is_occupied self.old.actors to ≡ false }
-        ensures { self.new ≡ record self.old { actors = with_cell self.old.actors id to } }
+        ensures { self.new ≡ record self.old { actors = moved_to self.old.actors id to } }
     {
         let from = self.roster.cell_of(id);
         self.cells.set(from, None);

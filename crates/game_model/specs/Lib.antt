@@ -5,6 +5,9 @@ pub mod Terrain
 pub mod Packed
 pub mod Setup
 pub mod World
+pub mod Walks
+pub mod BestDirection
+pub mod ActorChanges
 pub mod ValidMap
 pub mod ValidWorld
 pub mod Order

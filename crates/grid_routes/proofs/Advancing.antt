@@ -8,7 +8,7 @@ use Rattle.std.specs.List.{count_by, sum_by}
 use Rattle.world_units.specs.declared.cell.CPos.{CPos}
 use Rattle.game_model.specs.Grid.{Grid, IsOn, HasSize, place_of}
 use Rattle.grid_routes.specs.declared.field.TheConstants.{NONE}
-use Rattle.grid_routes.specs.Walks.{Land, IsStep, IsWalk}
+use Rattle.game_model.specs.Walks.{Land, IsStep, IsWalk}
 use Rattle.grid_routes.specs.Labels.{Distances, IsFull, IsRight, label_of, open_count}
 use Rattle.grid_routes.specs.Held.{Shelves, IsAt, IsHeld, emptied}
 use Rattle.grid_routes.specs.Steps.{AreQueued, HasLabel, IsClear, IsExpanded, IsMade, IsNext, IsSearch, Lowers, rings_left}

@@ -9,7 +9,7 @@ use Rattle.game_model.specs.Grid.{Grid, HasSize, IsOn, is_on, place_of, with_cel
 use Rattle.grid_routes.specs.declared.field.TheConstants.{NONE}
 use Rattle.grid_routes.specs.Values.{value_in}
 use Rattle.grid_routes.specs.Tolls.{AreTolls, toll_in}
-use Rattle.grid_routes.specs.Walks.{Land, IsWalk}
+use Rattle.game_model.specs.Walks.{Land, IsWalk}
 use Rattle.grid_routes.specs.Labels.{Distances, IsFull, IsRight, begun, label_of, open_count}
 use Rattle.grid_routes.specs.Held.{Shelves}
 use Rattle.grid_routes.specs.Steps.{IsFair, IsSearch, FitsTogether}

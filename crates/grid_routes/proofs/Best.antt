@@ -8,7 +8,7 @@ use Rattle.grid_routes.specs.Values.{value_in}
 use Rattle.grid_routes.specs.Tolls.{AreTolls, toll_in}
 use Rattle.grid_routes.proofs.Cells.{is_on-on}
 use Rattle.grid_routes.specs.declared.field.TheConstants.{NONE}
-use Rattle.grid_routes.specs.Walks.{Land, IsStep, IsWalk, IsDistance, HasNoWalk, LeadsOn, IsBest, IsBestDirection, fare_of}
+use Rattle.game_model.specs.Walks.{Land, IsStep, IsWalk, IsDistance, HasNoWalk, LeadsOn, IsBest, IsBestDirection, fare_of}
 use Rattle.grid_routes.specs.Labels.{Distances, IsRight, label_of}
 use Rattle.grid_routes.specs.Held.{Shelves}
 use Rattle.grid_routes.specs.Steps.{IsFair, IsSearch, IsLead, IsLeastLead}

@@ -4,7 +4,7 @@ use Rattle.std.proofs.lemmas.Bool.{cases_eq, cases_lt}
 use Rattle.world_units.specs.declared.cell.CPos.{CPos}
 use Rattle.world_units.specs.Directions.{opposite_of, step_of}
 use Rattle.game_model.specs.Grid.{Grid, IsOn, HasSize}
-use Rattle.grid_routes.specs.Walks.{IsStep}
+use Rattle.game_model.specs.Walks.{IsStep}
 use Rattle.grid_routes.specs.Tolls.{toll_in}
 use Rattle.grid_routes.specs.Labels.{Distances, IsFull, label_of}
 use Rattle.grid_routes.specs.Held.{Shelves, IsAt, IsWhole}

@@ -8,7 +8,7 @@ use Rattle.world_units.specs.declared.cell.CPos.{CPos}
 use Rattle.game_model.specs.Grid.{Grid, IsOn, HasSize, place_of, with_cell}
 use Rattle.grid_routes.specs.declared.field.TheConstants.{NONE}
 use Rattle.grid_routes.specs.Values.{value_in}
-use Rattle.grid_routes.specs.Walks.{IsStep}
+use Rattle.game_model.specs.Walks.{IsStep}
 use Rattle.grid_routes.specs.Labels.{IsFull, label_of, open_count}
 use Rattle.grid_routes.specs.Held.{Shelves, IsAt, IsHeld, IsWhole, pushed, len_of}
 use Rattle.grid_routes.specs.Steps.{IsMade, Lowers, IsExpanded}

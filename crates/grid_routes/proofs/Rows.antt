@@ -8,7 +8,7 @@ use Rattle.game_model.specs.declared.terrain.Terrain.{Terrain}
 use Rattle.game_model.specs.Grid.{Grid, IsOn, HasSize, is_on, at_cell, with_cell}
 use Rattle.grid_routes.specs.Values.{value_in}
 use Rattle.grid_routes.specs.Tolls.{AreTolls, toll_in}
-use Rattle.grid_routes.specs.Walks.{toll_of, cost_at, holds}
+use Rattle.game_model.specs.Walks.{toll_of, cost_at, holds}
 use Rattle.grid_routes.proofs.Cells.{set-here, set-other, is_on-on}
 
 abbrev pub at : ℕ → ℕ → CPos

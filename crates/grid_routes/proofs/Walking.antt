@@ -4,7 +4,7 @@ use Rattle.world_units.specs.declared.cell.CPos.{CPos}
 use Rattle.world_units.specs.Directions.{step_of}
 use Rattle.game_model.specs.Grid.{Grid, IsOn}
 use Rattle.grid_routes.specs.declared.field.TheConstants.{NONE}
-use Rattle.grid_routes.specs.Walks.{Land, IsStep, IsWalk, IsBest, IsDistance, IsRouteOver, FollowsBest}
+use Rattle.game_model.specs.Walks.{Land, IsStep, IsWalk, IsBest, IsDistance, IsRouteOver, FollowsBest}
 use Rattle.grid_routes.specs.Labels.{Distances, label_of}
 use Rattle.grid_routes.specs.Held.{Shelves}
 use Rattle.grid_routes.specs.Steps.{IsSearch, IsLead, IsLeastLead, IsOnward}

@@ -5,7 +5,7 @@ use Rattle.world_units.specs.declared.cell.CPos.{CPos}
 use Rattle.game_model.specs.Grid.{Grid, IsOn, with_cell}
 use Rattle.grid_routes.specs.declared.field.TheConstants.{NONE}
 use Rattle.grid_routes.specs.Values.{value_in}
-use Rattle.grid_routes.specs.Walks.{Land, IsStep, IsWalk}
+use Rattle.game_model.specs.Walks.{Land, IsStep, IsWalk}
 
 -- The labels of a map, and the level up to which they are final.
 pub record Distances : Type 0 where

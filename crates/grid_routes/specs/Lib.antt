@@ -1,4 +1,3 @@
-pub mod Walks
 pub mod Values
 pub mod Tolls
 pub mod Labels

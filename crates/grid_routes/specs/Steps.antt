@@ -5,7 +5,7 @@ use Rattle.world_units.specs.declared.cell.CPos.{CPos}
 use Rattle.game_model.specs.Grid.{Grid, IsOn, HasSize}
 use Rattle.grid_routes.specs.declared.field.TheConstants.{NONE}
 use Rattle.grid_routes.specs.declared.route.Route.{Route}
-use Rattle.grid_routes.specs.Walks.{Land, HasNoWalk, IsBest, IsRouteOver, IsStep}
+use Rattle.game_model.specs.Walks.{Land, HasNoWalk, IsBest, IsRouteOver, IsStep}
 use Rattle.grid_routes.specs.Labels.{Distances, IsFull, IsRight, label_of, open_count}
 use Rattle.grid_routes.specs.Held.{Shelves, IsAt, IsHeld, len_of}
 

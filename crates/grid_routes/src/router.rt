@@ -1,7 +1,7 @@
 ghost use Rattle.std.specs.Prelude.{◌≡◌, ◌+◌, ◌-◌, ◌^◌, ◌≤◌, min, IfOk};
 ghost use Rattle.game_model.specs.Grid.{IsOn, HasSize};
 ghost use Rattle.grid_routes.specs.Tolls.{IsCheap, toll_in};
-ghost use Rattle.grid_routes.specs.Walks.{IsBestDirection, land_of, toll_of};
+ghost use Rattle.game_model.specs.Walks.{IsBestDirection, land_of, toll_of};
 ghost use Rattle.grid_routes.specs.Labels.{label_of};
 ghost use Rattle.grid_routes.specs.Routing.{AreSized, IsSameSize};
 ghost use Rattle.grid_routes.specs.Steps.{FitsTogether, IsRoute, IsSearch};

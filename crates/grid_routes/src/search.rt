@@ -2,7 +2,7 @@ ghost use Rattle.std.specs.Prelude.{◌≡◌, ◌≢◌, ℕ, ◌+◌, ◌*◌,
 ghost use Rattle.world_units.specs.declared.cell.CPos.{CPos};
 ghost use Rattle.world_units.specs.Directions.{opposite_of, step_of};
 ghost use Rattle.game_model.specs.Grid.{IsOn, HasSize};
-ghost use Rattle.grid_routes.specs.Walks.{IsBestDirection, IsStep, toll_of};
+ghost use Rattle.game_model.specs.Walks.{IsBestDirection, IsStep, toll_of};
 ghost use Rattle.grid_routes.specs.Tolls.{IsCheap, toll_in};
 ghost use Rattle.grid_routes.specs.Labels.{IsFull, label_of};
 ghost use Rattle.grid_routes.specs.Held.{IsAt};

@@ -2,7 +2,7 @@ ghost use Rattle.std.specs.Prelude.{◌≡◌, ℕ, ◌+◌, ◌*◌, ◌%◌, �
 ghost use Rattle.world_units.specs.declared.cell.CPos.{CPos};
 ghost use Rattle.world_units.specs.Directions.{step_of};
 ghost use Rattle.game_model.specs.Grid.{IsOn, HasSize, with_cell};
-ghost use Rattle.grid_routes.specs.Walks.{fare_of, is_free, toll_of};
+ghost use Rattle.game_model.specs.Walks.{fare_of, is_free, toll_of};
 ghost use Rattle.grid_routes.specs.Tolls.{AreTolls, toll_in, IsCheap};
 
 use base::NoMemory;

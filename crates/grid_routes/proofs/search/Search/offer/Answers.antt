@@ -2,7 +2,7 @@ use Rattle.std.proofs.Common.{◌≡◌, ℕ, ◌+◌, ◌≤◌, ◌∙◌, Som
 use Rattle.world_units.specs.declared.cell.CPos.{CPos}
 use Rattle.world_units.specs.Directions.{opposite_of}
 use Rattle.grid_routes.specs.Tolls.{toll_in}
-use Rattle.grid_routes.specs.Walks.{IsStep}
+use Rattle.game_model.specs.Walks.{IsStep}
 use Rattle.grid_routes.specs.Labels.{label_of}
 use Rattle.grid_routes.proofs.search.Search.offer.Goals as goal
 

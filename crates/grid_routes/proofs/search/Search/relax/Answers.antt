@@ -2,7 +2,7 @@ use Rattle.std.proofs.Common.{◌≡◌, ℕ, ◌+◌, ◌<◌, ◌∙◌, sym, 
 use Rattle.game_model.specs.Grid.{with_cell}
 use Rattle.grid_routes.specs.declared.field.TheConstants.{NONE}
 use Rattle.grid_routes.specs.Tolls.{toll_in}
-use Rattle.grid_routes.specs.Walks.{IsStep, fare_of}
+use Rattle.game_model.specs.Walks.{IsStep, fare_of}
 use Rattle.grid_routes.specs.Labels.{label_of}
 use Rattle.grid_routes.proofs.Cells.{set-here}
 use Rattle.grid_routes.proofs.Lowering.{relaxed}

@@ -1,5 +1,5 @@
 use Rattle.std.proofs.Common.{◌≡◌}
-use Rattle.grid_routes.specs.Walks.{toll_of}
+use Rattle.game_model.specs.Walks.{toll_of}
 use Rattle.grid_routes.proofs.Rows.{RowSoFar}
 use Rattle.grid_routes.proofs.tolls.Tolls.lay_row.Given as goal
 

@@ -1,0 +1,9 @@
+pub mod Kinds
+pub mod Nearest
+pub mod Acts
+pub mod Moving
+pub mod Attacking
+pub mod Harvesting
+pub mod Building
+pub mod Orders
+pub mod Turn
