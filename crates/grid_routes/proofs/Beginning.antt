@@ -12,7 +12,7 @@ use Rattle.grid_routes.specs.Tolls.{AreTolls, toll_in}
 use Rattle.grid_routes.specs.Labels.{Distances, IsFull, begun, label_of, open_count}
 use Rattle.grid_routes.specs.Held.{Shelves}
 use Rattle.grid_routes.specs.Steps.{IsSearch, FitsTogether}
-use Rattle.grid_routes.proofs.Best.{fair-of}
+use Rattle.grid_routes.proofs.Fares.{fair-of}
 use Rattle.grid_routes.proofs.Cells.{set-here, set-other}
 use Rattle.grid_routes.proofs.Lowering.{one-or-not}
 use Rattle.grid_routes.proofs.Advancing.{no-both}

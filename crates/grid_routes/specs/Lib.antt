@@ -1,6 +1,7 @@
 pub mod Values
 pub mod Tolls
 pub mod Labels
+pub mod Least
 pub mod Held
 pub mod Steps
 pub mod Routing

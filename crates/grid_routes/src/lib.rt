@@ -12,11 +12,13 @@
 
 mod buckets;
 mod field;
+mod law;
 mod route;
 mod router;
 mod search;
 mod tolls;
 
+pub use law::distances_are_least;
 pub use route::Route;
 pub use router::Router;
 
