@@ -1,5 +1,5 @@
 -- What the steps of a search change.
-use Rattle.std.specs.Prelude.{◌≡◌, ℕ, ◌+◌, ◌*◌, ◌%◌, ◌<◌, ◌≤◌, ◌⊎◌, true, false, length, nat_lt, suc, Option, Some, None}
+use Rattle.std.specs.Prelude.{◌≡◌, ◌≢◌, ℕ, ◌+◌, ◌*◌, ◌%◌, ◌<◌, ◌≤◌, ◌⊎◌, true, false, length, nat_lt, suc, Option, Some, None}
 use Rattle.std.specs.Prelude.{if◌then◌else◌}
 use Rattle.world_units.specs.declared.cell.CPos.{CPos}
 use Rattle.game_model.specs.Grid.{Grid, IsOn, HasSize}
@@ -122,5 +122,5 @@ pub record IsOnward (land : Land) (labels : Grid ℕ) (p q : CPos) : Type 0 wher
 
 -- What is told of a route: it is none exactly where there is no walk or the cell is the goal.
 abbrev pub IsRoute : Land → CPos → Option Route → Type 0
-IsRoute land from (Some route) = IsRouteOver land from route.cost route.cells
+IsRoute land from (Some route) = (from ≢ land.goal) × IsRouteOver land from route.cost route.cells
 IsRoute land from None = (from ≡ land.goal) ⊎ HasNoWalk land from

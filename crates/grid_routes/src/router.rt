@@ -84,12 +84,12 @@ impl Router {
     /// walk or the cell is the goal. Out of memory is its only error.
     pub fn walk(
         &mut self,
+        alloc: Global,
         map: &Map,
         blocks: &Blocks,
         costs: &Costs,
         from: CPos,
         goal: CPos,
-        alloc: Global,
     ) -> Result<Option<Route>, NoMemory>
         requires sizes { AreSized self.old map.now blocks.now }
         requires costs { IsCheap costs.now }
@@ -101,7 +101,7 @@ impl Router {
     {
         self.computed = self.computed.saturating_add(1);
         find(&mut self.search, map, blocks, costs, from, goal);
-        self.search.route(from, goal, alloc)
+        self.search.route(alloc, from, goal)
     }
 }
 

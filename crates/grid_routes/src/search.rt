@@ -311,9 +311,9 @@ impl Search {
     /// walk or the cell is the goal. Out of memory is its only error.
     pub(crate) fn route(
         &self,
+        alloc: Global,
         from: CPos,
         goal: CPos,
-        alloc: Global,
     ) -> Result<Option<Route>, NoMemory>
         requires search { IsSearch (record { toll = toll_in self.now.tolls; goal = goal }) self.now.field self.now.buckets }
         requires on { IsOn self.now.field.labels.width self.now.field.labels.height from }
