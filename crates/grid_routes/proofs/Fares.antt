@@ -7,8 +7,7 @@ use Rattle.game_model.specs.declared.terrain.Terrain.{Terrain}
 use Rattle.game_model.specs.declared.terrain.Terrain.TheVariants.{Clear, Road, Rough, Water, Rock}
 use Rattle.game_model.specs.Grid.{Grid, HasSize, IsOn, is_on, place_of, at_cell}
 use Rattle.game_model.specs.Walks.{IsStep, cost_at, fare_of, toll_of}
-use Rattle.grid_routes.specs.Values.{value_in}
-use Rattle.grid_routes.specs.Tolls.{AreTolls, IsCheap, toll_in}
+use Rattle.grid_routes.specs.Tolls.{IsCheap}
 use Rattle.grid_routes.specs.Steps.{IsFair}
 use Rattle.grid_routes.proofs.Cells.{is_on-on}
 
@@ -33,19 +32,6 @@ toll-on false x some = absurd (omega arith)
 toll-low : (b : Bool) (x : ℕ) → x ≤ 10 → cond b x 0 ≤ 10
 toll-low true x low = low
 toll-low false x low = omega arith
-
--- Tolls of cells are fair.
-pub fair-of : (g : Grid ℕ) (w h : ℕ) → AreTolls g → HasSize w h g → IsFair (toll_in g) w h
-unfolding value_in
-fair-of g w h tolls size = record {
-  inside = λ q some.
-      let on = is_on-on g.width g.height q (toll-on (is_on g.width g.height q) _ some) in
-      record { column = rw size.width at on.column; row = rw size.height at on.row };
-  cheap = λ p q d k step.
-      let low : toll_in g q ≤ 10 = toll-low (is_on g.width g.height q) _ (tolls.cheap (place_of g.width q)) in
-      let most = fare-low (toll_in g) p d q low in
-      omega (arith, most, step.cost);
-}
 
 fare-zero : (toll : CPos → ℕ) (p : CPos) (d : ℕ) (q : CPos) → toll q ≡ 0 → fare_of toll p d q ≡ 0
 unfolding fare_of

@@ -1,5 +1,6 @@
 pub mod Values
 pub mod Tolls
+pub mod Kept
 pub mod Labels
 pub mod Least
 pub mod Held

@@ -10,8 +10,11 @@
 //! Shortest-path forest with topological ordering", Communications of the ACM 12, 1969).
 #![tactic(auto)]
 
+mod ask;
 mod buckets;
 mod field;
+mod fields;
+mod index;
 mod law;
 mod route;
 mod router;

@@ -21,11 +21,10 @@ loop-goal-preserved c =
     c.loop-goal.invariant c.next-at.ensures c.in_ok-push-2.ensures.ok
 
 pub returns : goal.returns
-returns c =
-    (
-    away (record { toll = toll_in c.args.self.now.tolls; goal = c.args.goal }) c.args.self.now.field c.args.self.now.buckets
-    c.requires.search c.args.from c.label-cost.result c.label-cost.ensures (omega arith),
-    route-end (record { toll = toll_in c.args.self.now.tolls; goal = c.args.goal }) c.args.self.now.field c.args.self.now.buckets
-    c.requires.search c.args.from c.loop-goal.at c.loop-goal.cells c.label-cost.result c.loop-goal.invariant c.requires.on
-    c.requires.settled (omega arith) c.label-cost.ensures (omega arith),
-    )
+returns c = (
+  away (record { toll = toll_in c.args.self.now.tolls; goal = c.args.goal }) c.args.self.now.field c.args.self.now.buckets
+      c.requires.search c.args.from c.label-cost.result c.label-cost.ensures (omega arith),
+  route-end (record { toll = toll_in c.args.self.now.tolls; goal = c.args.goal }) c.args.self.now.field c.args.self.now.buckets
+      c.requires.search c.args.from c.loop-goal.at c.loop-goal.cells c.label-cost.result c.loop-goal.invariant c.requires.on
+      c.requires.settled (omega arith) c.label-cost.ensures (omega arith),
+)
