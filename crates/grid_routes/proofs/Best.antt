@@ -1,66 +1,15 @@
 -- What final labels say: the distance, and the direction to take.
-use Rattle.std.proofs.Common.{◌≡◌, ◌≢◌, ℕ, zero, suc, ◌+◌, ◌*◌, ◌%◌, ◌<◌, ◌≤◌, ◌⊎◌, inl, inr, Bool, true, false, cond, length, List, [], ◌∷◌, Option, Some, None, MatchOption, refl, ap, sym, ◌∙◌, arith, subst}
-use Rattle.std.proofs.lemmas.Bool.{cases_eq, cases_lt}
+use Rattle.std.proofs.Common.{◌≡◌, ℕ, ◌+◌, ◌<◌, ◌≤◌, ◌⊎◌, inl, inr, length, List, [], ◌∷◌, Option, Some, None, MatchOption, ap, ◌∙◌, arith, subst}
+use Rattle.std.proofs.lemmas.Bool.{cases_lt}
 use Rattle.std.proofs.lemmas.Nat.{mul-lt}
 use Rattle.world_units.specs.declared.cell.CPos.{CPos}
-use Rattle.game_model.specs.Grid.{Grid, HasSize, IsOn, is_on, place_of}
-use Rattle.grid_routes.specs.Values.{value_in}
-use Rattle.grid_routes.specs.Tolls.{AreTolls, toll_in}
-use Rattle.grid_routes.proofs.Cells.{is_on-on}
+use Rattle.game_model.specs.Grid.{IsOn}
 use Rattle.grid_routes.specs.declared.field.TheConstants.{NONE}
-use Rattle.game_model.specs.Walks.{Land, IsStep, IsWalk, IsDistance, HasNoWalk, LeadsOn, IsBest, IsBestDirection, fare_of}
-use Rattle.grid_routes.specs.Labels.{Distances, IsRight, label_of}
+use Rattle.game_model.specs.Walks.{Land, IsWalk, IsDistance, HasNoWalk, LeadsOn, IsBest, IsBestDirection}
+use Rattle.grid_routes.specs.Labels.{Distances, label_of}
 use Rattle.grid_routes.specs.Held.{Shelves}
-use Rattle.grid_routes.specs.Steps.{IsFair, IsSearch, IsLead, IsLeastLead}
-
-zero-either : (b c : Bool) → ◌≡◌ {A = ℕ} (cond b (5 * 0) (cond c (7 * 0) 0)) 0
-zero-either true c = refl
-zero-either false true = refl
-zero-either false false = refl
-
-low-either : (b c : Bool) (t : ℕ) → t ≤ 10 → cond b (5 * t) (cond c (7 * t) 0) ≤ 70
-low-either true c t low = omega arith
-low-either false true t low = omega arith
-low-either false false t low = omega arith
-
-fare-low : (toll : CPos → ℕ) (p : CPos) (d : ℕ) (q : CPos) → toll q ≤ 10 → fare_of toll p d q ≤ 70
-unfolding fare_of
-fare-low toll p d q low = low-either _ _ (toll q) low
-
-toll-on : (b : Bool) (x : ℕ) → 0 < cond b x 0 → b ≡ true
-toll-on true x some = refl
-toll-on false x some = absurd (omega arith)
-
-toll-low : (b : Bool) (x : ℕ) → x ≤ 10 → cond b x 0 ≤ 10
-toll-low true x low = low
-toll-low false x low = omega arith
-
--- Tolls of cells are fair.
-pub fair-of : (g : Grid ℕ) (w h : ℕ) → AreTolls g → HasSize w h g → IsFair (toll_in g) w h
-unfolding value_in
-fair-of g w h tolls size = record {
-  inside = λ q some.
-      let on = is_on-on g.width g.height q (toll-on (is_on g.width g.height q) _ some) in
-      record { column = rw size.width at on.column; row = rw size.height at on.row };
-  cheap = λ p q d k step.
-      let low : toll_in g q ≤ 10 = toll-low (is_on g.width g.height q) _ (tolls.cheap (place_of g.width q)) in
-      let most = fare-low (toll_in g) p d q low in
-      omega (arith, most, step.cost);
-}
-
-fare-zero : (toll : CPos → ℕ) (p : CPos) (d : ℕ) (q : CPos) → toll q ≡ 0 → fare_of toll p d q ≡ 0
-unfolding fare_of
-fare-zero toll p d q free = rw free (zero-either _ _)
-
--- A step enters a cell of the map.
-pub step-on : (toll : CPos → ℕ) (w h : ℕ) → IsFair toll w h → (p q : CPos) (d k : ℕ) → IsStep toll p d q k → IsOn w h q
-step-on toll w h fair p q d k step =
-    elim (cases_eq (toll q) 0) [
-      | inl none ↦
-          let zero_fare = fare-zero toll p d q none in
-          absurd (omega (arith, zero_fare, step.cost, step.allowed))
-      | inr some ↦ fair.inside q (omega arith)
-    ]
+use Rattle.grid_routes.specs.Steps.{IsSearch, IsLead, IsLeastLead}
+use Rattle.grid_routes.proofs.Fares.{step-on}
 
 module _ (land : Land) (f : Distances) (s : Shelves) (search : IsSearch land f s) where
   -- No walk costs less than the label or the level.
