@@ -17,3 +17,5 @@ pub mod BuildingLemmas
 pub mod TurnLemmas
 pub mod OrdersLemmas
 pub mod TickLemmas
+pub mod Shots
+pub mod ShotsLemmas
