@@ -1,9 +1,9 @@
 -- Proofs of the laws of single steps.
 use Rattle.std.specs.Prelude.{◌≡◌, ◌≢◌, ℕ, ◌+◌, ◌==◌, ◌<◌, ◌≤◌, ◌&&◌, Bool, true, false}
 use Rattle.std.specs.Prelude.{if◌then◌else◌, cond, List, [], ◌∷◌, Option, Some, None, refl}
-use Rattle.std.specs.List.{All, AllPairs}
+use Rattle.std.specs.List.{AllPairs}
 use Rattle.std.specs.Option.{option_map}
-use Rattle.std.proofs.Common.{eqb, sym, ◌∙◌, ap, subst, inl, inr, arith}
+use Rattle.std.proofs.Common.{eqb, ◌∙◌, ap, subst, inl, inr, arith}
 use Rattle.std.proofs.lemmas.Bool.Decides.{eqb_tells}
 use Rattle.world_units.specs.declared.cell.CPos.{CPos}
 use Rattle.world_units.specs.Angles.{dir_angle_of}
@@ -26,7 +26,7 @@ use Rattle.game_model.specs.World.{is_alive, is_occupied, living_of}
 use Rattle.game_tick.specs.Attacking.{Fought, after_attack, fought_with, is_in_range}
 use Rattle.game_tick.specs.Building.{after_build}
 use Rattle.game_tick.specs.ChangesLemmas.{IsOnly, apart_after, is_only}
-use Rattle.game_tick.specs.declared.moving.Moving.TheVariants.{Going, GivenUp}
+use Rattle.game_tick.specs.declared.moving.Moving.TheVariants.{Going}
 use Rattle.game_tick.specs.Kinds.{kind_of, costs_in}
 use Rattle.game_tick.specs.Moving.{Moved, moved_in, moved_into, moved_towards, set_out, waiting_after}
 use Rattle.game_tick.specs.MovingLemmas.{free_cell}
