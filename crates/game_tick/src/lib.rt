@@ -5,8 +5,12 @@
 //! steps towards a cell share.
 #![tactic(auto)]
 
+mod law;
 mod limits;
 mod moving;
+mod step_law;
 
+pub use law::{orders_valid, ticks_valid};
 pub use limits::LAST_ID;
 pub use moving::Moving;
+pub use step_law::{draws_are_shots, idle_actors_stay, moves_keep_apart};
