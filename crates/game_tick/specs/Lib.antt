@@ -8,6 +8,7 @@ pub mod Building
 pub mod Orders
 pub mod Turn
 pub mod Tick
+pub mod StepKeeps
 pub mod ChangesLemmas
 pub mod SoundLemmas
 pub mod MovingLemmas
@@ -19,3 +20,5 @@ pub mod OrdersLemmas
 pub mod TickLemmas
 pub mod Shots
 pub mod ShotsLemmas
+pub mod OwnLemmas
+pub mod KeepsLemmas
