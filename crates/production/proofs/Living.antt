@@ -1,5 +1,5 @@
 -- The living actor of an id, and the living actors of a kind.
-use Rattle.std.proofs.Common.{◌≡◌, ◌≢◌, ℕ, zero, suc, ◌+◌, ◌<◌, ◌==◌, ◌&&◌, eqb, Bool, true, false, cond, List, [], ◌∷◌, length, get_or, map, Option, Some, None, is_some, ◌⊎◌, inl, inr, refl, sym, subst, ap, ap₂, ◌∙◌, arith}
+use Rattle.std.proofs.Common.{◌≡◌, ◌≢◌, ℕ, zero, suc, ◌<◌, ◌==◌, ◌&&◌, eqb, Bool, true, false, cond, List, [], ◌∷◌, length, get_or, map, Some, None, is_some, ◌⊎◌, inl, inr, refl, subst, ap, ◌∙◌, arith}
 use Rattle.std.specs.List.{filter, list_any}
 use Rattle.std.proofs.lemmas.Bool.Decides.{eqb_tells}
 use Rattle.game_model.specs.declared.actor.Actor.{Actor}
@@ -70,11 +70,15 @@ any_of_kind test (a ∷ actors) client kind lives = cases (any_of_kind test acto
     first : test a.id ≡ is_alive a
     first = lives 0 a (omega arith)
 
+    joined : (x o k : Bool) → ((x && o) && k) ≡ (x && (o && k))
+    joined true o k = refl
+    joined false o k = refl
+
     cases : list_any test (ids_of (filter (is_of client kind) actors)) ≡ has_kind actors client kind → (of : Bool) → is_of client kind a ≡ of → (alive : Bool) → is_alive a ≡ alive → list_any test (ids_of (filter (is_of client kind) (a ∷ actors))) ≡ has_kind (a ∷ actors) client kind
-    cases rest true is_one true lives = rw (is_one, first, lives) refl
-    cases rest true is_one false dead = rw (is_one, first, dead) rest
-    cases rest false is_none true lives = rw (is_none, lives) rest
-    cases rest false is_none false dead = rw (is_none, dead) rest
+    cases rest true is_one true lives = rw (joined (is_alive a) (a.body.owner == client) (a.kind == kind), is_one, first, lives) refl
+    cases rest true is_one false dead = rw (joined (is_alive a) (a.body.owner == client) (a.kind == kind), is_one, first, dead) rest
+    cases rest false is_none true lives = rw (joined (is_alive a) (a.body.owner == client) (a.kind == kind), is_none, lives) rest
+    cases rest false is_none false dead = rw (joined (is_alive a) (a.body.owner == client) (a.kind == kind), is_none, dead) rest
 
 any_listed : (test : ℕ → Bool) (entries : List Listed) → list_any (λ (e : Listed). test e.id) entries ≡ list_any test (map listed_id entries)
 any_listed test [] = refl

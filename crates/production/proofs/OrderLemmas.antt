@@ -1,16 +1,15 @@
 -- What orders to build make of the actors and the cash.
-use Rattle.std.proofs.Common.{◌≡◌, ◌≢◌, ℕ, zero, suc, ◌+◌, ◌-◌, ◌<◌, Bool, true, false, cond, List, [], ◌∷◌, ◌++◌, length, get_or, take, set, Option, Some, None, is_some, slice_get, refl, sym, subst, ap, ap₂, ◌∙◌, arith}
+use Rattle.std.proofs.Common.{◌≡◌, ◌≢◌, ℕ, zero, suc, ◌-◌, true, List, [], ◌∷◌, ◌++◌, length, get_or, take, set, Some, is_some, slice_get, refl, sym, ap, ap₂, ◌∙◌, arith}
 use Rattle.std.specs.List.{remove}
 use Rattle.game_model.specs.declared.actor.Actor.{Actor}
 use Rattle.game_model.specs.declared.builds.Build.{Build}
-use Rattle.game_model.specs.declared.limits.TheConstants.{MAX_BUILDS}
 use Rattle.game_model.specs.ActorChanges.{changed_at}
 use Rattle.game_model.specs.ValidWorld.{duration_in}
 use Rattle.game_model.specs.World.{actor_of}
 use Rattle.game_tick.specs.Building.{with_builds}
 use Rattle.game_tick.specs.Harvesting.{paid_to}
 use Rattle.game_tick.specs.Kinds.{kind_of}
-use Rattle.game_tick.specs.Orders.{Goods, own_of, produce_fits, produced, with_produce, but_last, last_of, cancelled, with_cancel}
+use Rattle.game_tick.specs.Orders.{Goods, own_of, produce_fits, with_produce, but_last, last_of, cancelled, with_cancel}
 use Rattle.rule_traits.specs.declared.kind.Kind.{Kind}
 use Rattle.rule_traits.specs.Rules.{cost_of}
 use Rattle.production.proofs.Steps.{found_id}

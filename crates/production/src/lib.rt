@@ -13,3 +13,6 @@ mod orders;
 
 pub use building::build_step;
 pub use orders::{cancel, pay, produce};
+
+#[cfg(test)]
+mod tests;

@@ -24,7 +24,11 @@ fn own_of(t: &ActorTable, client: u8, id: u32) -> Option<&Actor>
     let Some(a) = living(t, id) else {
         return None;
     };
-    if a.body.owner == client { Some(a) } else { None }
+    if a.body.owner == client {
+        Some(a)
+    } else {
+        None
+    }
 }
 
 /// Whether actors of the kind have `Production`.
@@ -59,7 +63,14 @@ pub fn pay(purse: &mut Purse, owner: u8, amount: u32)
 
 /// Whether an actor can be told to build units of a kind: its kind builds them, the client has what
 /// they need and their price, and the actor has fewer than [`MAX_BUILDS`] builds.
-fn produce_fits(t: &ActorTable, purse: &Purse, rules: &Rules, client: u8, kind: u16, a: &Actor) -> bool
+fn produce_fits(
+    t: &ActorTable,
+    purse: &Purse,
+    rules: &Rules,
+    client: u8,
+    kind: u16,
+    a: &Actor,
+) -> bool
     requires { client < length purse.now }
     ensures value { result ≡ produce_fits rules.now (record { actors = t.now.actors; cash = purse.now }) client kind a.now }
     ensures room { OnTrue result (length a.now.body.builds < MAX_BUILDS) }
@@ -95,14 +106,7 @@ fn duration_of(rules: &Rules, kind: u16) -> u16
 /// and the build added last. Nothing changes where the order does not fit: the client owns the
 /// actor and it lives, its kind builds the unit, the client has what the unit needs and its price,
 /// and there are fewer than [`MAX_BUILDS`] builds.
-pub fn produce(
-    t: &mut ActorTable,
-    purse: &mut Purse,
-    rules: &Rules,
-    client: u8,
-    id: u32,
-    kind: u16,
-)
+pub fn produce(t: &mut ActorTable, purse: &mut Purse, rules: &Rules, client: u8, id: u32, kind: u16)
     requires { client < length purse.old }
     ensures { IsDone t.old t.new purse.new (with_produce rules.now (record { actors = t.old.actors; cash = purse.old }) client kind (own_of t.old.actors client id)) }
 {

@@ -1,4 +1,4 @@
-use Rattle.std.proofs.Common.{◌≡◌, true, false, nat_lt, refl, sym, ap, ◌∙◌, Option, Some, None, cond, arith}
+use Rattle.std.proofs.Common.{◌≡◌, true, false, sym, arith}
 use Rattle.std.proofs.lemmas.Bool.Decides.{nat_tests}
 use Rattle.game_model.specs.World.{is_alive}
 use Rattle.production.proofs.Living.{living_found, living_none}

@@ -1,10 +1,7 @@
-use Rattle.std.proofs.Common.{◌≡◌, ◌-◌, ℕ, List, Some, slice_get, length, false, true, refl, sym, ap, ◌∙◌}
+use Rattle.std.proofs.Common.{◌≡◌, ◌-◌, Some, slice_get, length, sym, ap, ◌∙◌}
 use Rattle.std.specs.List.{remove}
-use Rattle.game_model.specs.declared.actor.Actor.{Actor}
-use Rattle.game_model.specs.declared.builds.Build.{Build}
 use Rattle.game_tick.specs.Orders.{Goods}
 use Rattle.game_tick.specs.Harvesting.{paid_to}
-use Rattle.actor_table.specs.Table.{Table}
 use Rattle.production.proofs.OrderLemmas.{cancel_done}
 use Rattle.production.proofs.orders.cancel.Goals as goal
 
