@@ -1,5 +1,5 @@
 -- Columns that follow a script: what is found of them, and what a put and a departure make of them.
-use Rattle.std.proofs.Common.{◌≡◌, ℕ, zero, suc, ◌+◌, ◌<◌, ◌≤◌, ◌==◌, ◌&&◌, nat_lt, Bool, true, false, true≢false, if◌then◌else◌, List, [], ◌∷◌, ◌++◌, length, take, refl, sym, ap, ◌∙◌, subst, inl, inr, arith, Some, None, append-nil, append_assoc, length-append}
+use Rattle.std.proofs.Common.{◌≡◌, ℕ, zero, suc, ◌+◌, ◌<◌, ◌≤◌, ◌==◌, ◌&&◌, nat_lt, Bool, true, false, true≢false, if◌then◌else◌, List, [], ◌∷◌, ◌++◌, length, take, get_or, refl, sym, ap, ◌∙◌, subst, inl, inr, arith, Some, None, append-nil, append_assoc, length-append}
 use Rattle.std.specs.Prelude.{slice_get, Option as Maybe}
 use Rattle.std.proofs.lemmas.Bool.{ne_eqb}
 use Rattle.std.proofs.lemmas.Bool.Decides.{nat_tests}
@@ -35,6 +35,11 @@ got_some [] n x is = absurd cc
 got_some (y ∷ xs) zero x is = omega arith
 got_some (y ∷ xs) (suc n) x is = let rest = got_some xs n x is in omega arith
 
+pub got_at : (xs : List (List Order)) (n : ℕ) (x : List Order) → n < length xs → x ≡ get_or xs n x → slice_get xs n ≡ Some x
+got_at [] n x below is = absurd (omega arith)
+got_at (y ∷ xs) zero x below is = ap Some (sym is)
+got_at (y ∷ xs) (suc n) x below is = got_at xs n x (omega arith) is
+
 none_past : (xs : List (List Order)) (n : ℕ) → length xs ≤ n → slice_get xs n ≡ None
 none_past [] n past = refl
 none_past (x ∷ xs) zero past = absurd (omega arith)
@@ -58,7 +63,7 @@ next_planned later [] [] orders is at = absurd cc
 next_planned [] [] (p ∷ plays) orders is at = absurd cc
 next_planned (l ∷ later) [] (p ∷ plays) orders is at = (later, cc)
 next_planned later (d ∷ done) [] orders is at = absurd cc
-next_planned later (d ∷ done) (p ∷ plays) orders is at = next_planned later done plays orders cc at
+next_planned later (d ∷ done) (p ∷ plays) orders is at = next_planned later done plays orders (cc) at
 
 -- A column that follows a script and has all its plays, and one that was left.
 pub all_played : (plays : List (List Order)) (K : Column) → Follows (Plays plays) K → length plays ≤ length_of K → K.plays ≡ plays
@@ -96,8 +101,7 @@ has_script plays K reach n follows found (inr past) =
 -- A column that was published follows the script, and all of it is seen and known.
 pub published_so : (plays : List (List Order)) (part next : Part) (K L : Column) → part.planned ≡ Plays plays → Follows (Plays plays) L → next ≡ published part K L → FollowsScript plays next × KnowsSeen plays next
 published_so plays part next K L planned follows is =
-    subst (λ (q : Part). FollowsScript plays q × KnowsSeen plays q) (sym is)
-    (
+    subst (λ (q : Part). FollowsScript plays q × KnowsSeen plays q) (sym is) (
       record {
         planned = planned;
         within =
@@ -152,8 +156,7 @@ put_script plays K n orders follows near at few = by (nat_lt n (length_of K)) re
         let below = got_some plays n orders at in
         let more = next_planned follows.0.0 K.plays plays orders follows.0.1 (subst (λ k. slice_get plays k ≡ Some orders) here at) in
         let same : K ≡ open_column K.plays = λ i. record { plays = K.plays; left = playing i } in
-        subst (IsPut plays n) (sym (ap (λ (k : Column). put_column k n (Play orders)) same ∙ put_last K.plays n orders here (omega arith)))
-        (
+        subst (IsPut plays n) (sym (ap (λ (k : Column). put_column k n (Play orders)) same ∙ put_last K.plays n orders here (omega arith))) (
           ((more.0, follows.0.1 ∙ ap (λ l. K.plays ++ l) more.1 ∙ sym (append_assoc K.plays (orders ∷ []) more.0)), λ left. absurd (true≢false (sym left))),
           (let l = length-append K.plays (orders ∷ []) in omega arith),
         )

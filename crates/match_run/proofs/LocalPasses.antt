@@ -1,5 +1,5 @@
 -- The passes of a local match: the calls of the table keep what is known of them.
-use Rattle.std.proofs.Common.{◌≡◌, ℕ, zero, suc, ◌+◌, ◌-◌, ◌*◌, ◌/◌, ◌^◌, ◌<◌, ◌≤◌, ◌||◌, max, Bool, true, false, true≢false, List, [], ◌∷◌, ◌++◌, length, map, take, get_or, refl, sym, ap, ◌∙◌, subst, inl, inr, ⊎_elim, arith}
+use Rattle.std.proofs.Common.{◌≡◌, ℕ, zero, suc, ◌+◌, ◌-◌, ◌*◌, ◌/◌, ◌^◌, ◌<◌, ◌≤◌, ◌⊎◌, ◌||◌, max, Bool, true, false, true≢false, List, [], ◌∷◌, ◌++◌, length, map, take, get_or, refl, sym, ap, ◌∙◌, subst, inl, inr, ⊎_elim, arith}
 use native.Mathlib.Decide.{ℕ_discrete}
 use mathlib.Core.Logic.{dite}
 use Rattle.game_orders.specs.declared.order.Order.{Order}
@@ -140,11 +140,10 @@ module _ (scripts : Scripts) (table : FrameTable) (p q : Pass) (local : IsLocalP
 
 -- A split.
 same_part : (plays : List (List Order)) (old new : Part) → new.planned ≡ old.planned → new.reach ≡ old.reach → new.known ≡ old.known → FollowsScript plays old → FollowsScript plays new × (KnowsSeen plays old → KnowsSeen plays new)
-same_part plays old new planned reach known so =
-    (
-      record { planned = planned ∙ so.planned; within = subst (IsWithinPlan (Plays plays)) (sym reach) so.within },
-      λ knows. known ∙ knows ∙ ap (λ (s : Seen). record { plays = take s.plays plays; left = s.left }) (sym reach),
-    )
+same_part plays old new planned reach known so = (
+  record { planned = planned ∙ so.planned; within = subst (IsWithinPlan (Plays plays)) (sym reach) so.within },
+  λ knows. known ∙ knows ∙ ap (λ (s : Seen). record { plays = take s.plays plays; left = s.left }) (sym reach),
+)
 
 kept_so : (plays : List (List Order)) (b : Bool) (share old_share : ℕ) (m : Mark) → FollowsScript plays (part_in old_share m) → FollowsScript plays (part_in share (kept_mark b m)) × (KnowsSeen plays (part_in old_share m) → KnowsSeen plays (part_in share (kept_mark b m)))
 kept_so plays true share old_share m so = same_part plays (part_in old_share m) (part_in share (kept_mark true m)) refl refl refl so
@@ -360,3 +359,26 @@ join_more scripts table p q all rest feeder share far is of_table joined mine =
       feeders_are = parts.0;
       shares = (let s = far.shares in let m = ap shares_of is ∙ shares_push rest feeder in let j : (view_of q).share ≡ (view_of p).share + (view_of feeder.pass).share = ap (λ (v : View). v.share) joined in omega arith);
     }
+
+-- The plan, client by client.
+plan_next : (scripts : Scripts) (c : ℕ) → c < length scripts → take (suc c) (script_plan scripts) ≡ take c (script_plan scripts) ++ Plays (plays_of scripts c) ∷ []
+plan_next [] c below = absurd (omega arith)
+plan_next (s ∷ scripts) zero below = refl
+plan_next (s ∷ scripts) (suc c) below = ap (λ l. Plays s ∷ l) (plan_next scripts c (omega arith))
+
+plan_end : (scripts : Scripts) (c : ℕ) → c ≡ length scripts → take c (script_plan scripts) ≡ script_plan scripts
+plan_end [] zero is = refl
+plan_end [] (suc c) is = absurd (omega arith)
+plan_end (s ∷ scripts) zero is = absurd (omega arith)
+plan_end (s ∷ scripts) (suc c) is = ap (λ l. Plays s ∷ l) (plan_end scripts c (omega arith))
+
+pub plan_more : (scripts : Scripts) (each after : List Planned) (copy : List (List Order)) (c : ℕ) → c < length scripts → each ≡ take c (script_plan scripts) → copy ≡ plays_of scripts c → after ≡ each ++ Plays copy ∷ [] → after ≡ take (c + 1) (script_plan scripts)
+plan_more scripts each after copy c below is copied pushed =
+    pushed
+    ∙ ap (λ l. l ++ Plays copy ∷ []) is
+    ∙ ap (λ (x : List (List Order)). take c (script_plan scripts) ++ Plays x ∷ []) copied
+    ∙ sym (plan_next scripts c below)
+    ∙ ap (λ k. take k (script_plan scripts)) (let one : suc c ≡ c + 1 = omega arith in one)
+
+pub plan_whole : (scripts : Scripts) (each : List Planned) (c : ℕ) → each ≡ take c (script_plan scripts) → c ≡ length scripts → each ≡ script_plan scripts
+plan_whole scripts each c is end = is ∙ plan_end scripts c end

@@ -114,8 +114,7 @@ over_all scripts table pass n answer local knows is means c below =
     let clients = local.clients in
     let left = over c (omega arith) in
     let end = (local.columns c below).within.1 left.0 in
-    let reach : (standing pass c).reach ≡ whole_of (script_column (plays_of scripts c)) = λ i. record { plays = end i; left = left.0 i } in
-    (
+    let reach : (standing pass c).reach ≡ whole_of (script_column (plays_of scripts c)) = λ i. record { plays = end i; left = left.0 i } in (
       record {
         reach = reach;
         known = knows c below ∙ (λ i. record { plays = (ap (λ k. take k (plays_of scripts c)) end ∙ take_length (plays_of scripts c)) i; left = left.0 i });

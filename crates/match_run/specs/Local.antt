@@ -45,8 +45,8 @@ pub record IsAll (part : Part) (column : Column) : Type 0 where
 -- The table that a run of these scripts filled, with a pass that has the whole share: so each other
 -- pass was joined into it. It knows each whole column, which is the script's.
 pub record IsFilled (scripts : List (List (List Order))) (table : FrameTable) (pass : Pass) : Type 0
-    where
-  pub of_table : IsPassOf table pass
-  pub share : (view_of pass).share ≡ 2 ^ 62
-  pub columns : (c : ℕ) → c < length scripts →
-      IsAll (standing pass c) (script_column (plays_of scripts c))
+  where
+    pub of_table : IsPassOf table pass
+    pub share : (view_of pass).share ≡ 2 ^ 62
+    pub columns : (c : ℕ) → c < length scripts →
+        IsAll (standing pass c) (script_column (plays_of scripts c))

@@ -31,9 +31,11 @@ pub(crate) fn feed_all<R: Threads + Wait + Sync, G: Gate + Sync>(
     ensures all { All (λ f. IsFeeder scripts.now table.now f) feeders.new }
     ensures shares { shares_of feeders.new ≡ shares_of feeders.old }
 {
-    let each = |_: usize, feeder: &mut Feeder| {
-        feed_or_raise(rt, table, scripts, gate, out_of_memory, feeder);
-    };
+    let each = |_: usize, feeder: &mut Feeder|
+        requires { IsFeeder scripts.now table.now feeder.now }
+        ensures { IsFeeder scripts.entry.now table.entry.now feeder.exit.now ×
+            ((view_of feeder.exit.now.pass).share ≡ (view_of feeder.entry.now.pass).share) }
+    { feed_or_raise(rt, table, scripts, gate, out_of_memory, feeder) };
     thread::for_each_mut(rt, feeders, MAX_CLIENTS as usize, &each);
 }
 

@@ -48,7 +48,15 @@ pub fn run_local<S: Sim, G: Gate + Sync, R: Threads + Wait + Sync>(
     let mut sim = sim;
     let (table, mut pass) = planned_table(alloc, scripts)?;
     let mut feeders = split_feeders(alloc, &table, scripts, &mut pass)?;
-    play(rt, &table, scripts, gate, feeders.as_mut_slice(), &mut pass, &mut sim)?;
+    play(
+        rt,
+        &table,
+        scripts,
+        gate,
+        feeders.as_mut_slice(),
+        &mut pass,
+        &mut sim,
+    )?;
     join_feeders(&table, scripts, &mut pass, feeders);
     Ok(LocalRun { sim, table, pass })
 }
