@@ -19,3 +19,4 @@ pub mod OrdersLemmas
 pub mod TickLemmas
 pub mod Shots
 pub mod ShotsLemmas
+pub mod HealthLemmas

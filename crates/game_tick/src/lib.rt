@@ -13,4 +13,4 @@ mod step_law;
 pub use law::{orders_valid, ticks_valid};
 pub use limits::LAST_ID;
 pub use moving::Moving;
-pub use step_law::{draws_are_shots, idle_actors_stay, moves_keep_apart};
+pub use step_law::{draws_are_shots, health_never_rises, idle_actors_stay, moves_keep_apart};
