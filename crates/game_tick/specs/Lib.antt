@@ -22,3 +22,4 @@ pub mod Shots
 pub mod ShotsLemmas
 pub mod OwnLemmas
 pub mod KeepsLemmas
+pub mod HealthLemmas

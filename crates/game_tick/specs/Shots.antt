@@ -1,5 +1,6 @@
--- Which actor fires in its step, which is idle, and lists of actors in which nobody has gained health.
-use Rattle.std.specs.Prelude.{◌≡◌, ℕ, ◌==◌, ◌&&◌, Bool, false, List, [], ◌∷◌, Option, Some, None}
+-- Which actor fires in its step, which is idle, and lists of actors in which nobody has gained
+-- health.
+use Rattle.std.specs.Prelude.{◌≡◌, ◌≤◌, ℕ, ◌==◌, ◌&&◌, Bool, false, List, [], ◌∷◌, Option, Some, None}
 use Rattle.activities.specs.declared.activity.Activity.{Activity}
 use Rattle.activities.specs.declared.activity.Activity.TheVariants.{Move, Attack, Harvest, Deliver}
 use Rattle.rule_traits.specs.declared.kind.Kind.{Kind}
@@ -19,7 +20,8 @@ can_fire kind a (Some target) = is_in_range kind a target && (a.body.reload == 0
 abbrev pub fires : Setup → List Actor → Actor → (target : ℕ) → Bool
 fires setup actors a target = can_fire (kind_of setup.rules a.kind) a (living_of actors target)
 
--- The actor fires in the step of an activity, of its first one, and of its turn: on a leg it doesn't.
+-- The actor fires in the step of an activity, of its first one, and of its turn: on a leg it
+-- doesn't.
 abbrev pub fires_at : Setup → List Actor → Actor → Activity → Bool
 fires_at setup actors a (Attack target waits) = fires setup actors a target
 fires_at setup actors a (Move goal waits) = false
@@ -39,3 +41,11 @@ pub record IsIdle (a : Actor) : Type 0 where
   pub acts : a.body.acts ≡ []
   pub leg : a.body.leg ≡ None
   pub builds : a.body.builds ≡ []
+
+-- The actors of a list stand in another one in the same order, with their ids and with no more
+-- health; others may come after them.
+abbrev pub NoneGains : (before after : List Actor) → Type 0
+NoneGains [] after = Unit {0}
+NoneGains (a ∷ before) [] = ⊥
+NoneGains (a ∷ before) (b ∷ after) =
+    (b.id ≡ a.id) × (b.body.health ≤ a.body.health) × NoneGains before after

@@ -16,4 +16,4 @@ pub use law::{
 };
 pub use limits::LAST_ID;
 pub use moving::Moving;
-pub use step_law::{draws_are_shots, idle_actors_stay, moves_keep_apart};
+pub use step_law::{draws_are_shots, health_never_rises, idle_actors_stay, moves_keep_apart};
