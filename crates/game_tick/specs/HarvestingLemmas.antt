@@ -246,7 +246,7 @@ search_by setup clients next_id before a cell timer waits (Some p) found size st
 search_by setup clients next_id before a cell timer waits None found size steps fits =
     only_actors setup clients next_id before _ (none_by (nat_lt 0 a.body.load) setup clients next_id before a cell timer waits steps fits)
 
-gathers_moves : (kind : Kind) → gathers kind ≡ true → moves kind ≡ true
+pub gathers_moves : (kind : Kind) → gathers kind ≡ true → moves kind ≡ true
 gathers_moves kind is = (and_parts (moves kind) _ is).0
 
 harvest_by :

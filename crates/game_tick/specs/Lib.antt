@@ -9,6 +9,8 @@ pub mod Orders
 pub mod Turn
 pub mod Tick
 pub mod StepKeeps
+pub mod MidTurn
+pub mod Shots
 pub mod ChangesLemmas
 pub mod SoundLemmas
 pub mod MovingLemmas
@@ -20,3 +22,5 @@ pub mod OrdersLemmas
 pub mod TickLemmas
 pub mod OwnLemmas
 pub mod KeepsLemmas
+pub mod ActorsLemmas
+pub mod ShotsLemmas

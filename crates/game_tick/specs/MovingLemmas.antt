@@ -191,7 +191,7 @@ on_from_test width height p is =
     let parts = and_parts (nat_lt p.x width) (nat_lt p.y height) is in
     record { column = ltb-true p.x width parts.0; row = ltb-true p.y height parts.1 }
 
-best_is_way :
+pub best_is_way :
     (setup : Setup) (built : Grid Bool) (kind : Kind) (p goal : CPos) (d : ℕ) →
     IsMapFor setup.rules setup.map →
     best_dir_of setup.map (land_of setup.map built (costs_in kind.mobile) goal) p ≡ Some d →

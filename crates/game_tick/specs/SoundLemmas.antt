@@ -23,9 +23,10 @@ use Rattle.game_model.specs.ValidWorld.{IsActivityOf, IsBodyOf, IsBuildOf, IsSou
 use Rattle.game_tick.specs.Acts.{popped, with_acts, with_first}
 use Rattle.game_tick.specs.Building.{with_builds}
 use Rattle.game_tick.specs.Kinds.{kind_of}
+pub use Rattle.game_tick.specs.MidTurn.{AreSound, IsHurt}
 use Rattle.game_tick.specs.ChangesLemmas.{Stands, changed}
 
-some_holds :
+pub some_holds :
     {X : Type 0} (found : Option X) (d : X) (P : X → Type 0) → IsSomeAnd found P →
     P (unwrap_or found d)
 some_holds None d P never = absurd never
@@ -42,10 +43,6 @@ pub some_weaker :
     IsSomeAnd found Q
 some_weaker None P Q more never = absurd never
 some_weaker (Some x) P Q more holds = more x holds
-
--- The health is at most the kind's hit points. In mid-turn it may be 0.
-abbrev pub IsHurt : List Kind → Actor → Type 0
-IsHurt rules a = IsSomeAnd (kind_at rules a.kind) (λ kind. a.body.health ≤ hp_of kind)
 
 -- What is known of an actor's body.
 pub body_of :
@@ -130,12 +127,7 @@ sound_first setup clients next_id a act sound fits =
     (omega (arith, is.act_count, length-drop 1 a.body.acts))
     (All-cons P act (drop 1 a.body.acts) fits (All-drop P 1 a.body.acts is.acts))
 
--- Actors in mid-turn.
-pub record AreSound (setup : Setup) (clients next_id : ℕ) (actors : List Actor) : Type 0 where
-  pub ready : StepReady setup clients next_id actors
-  pub hurt : All (IsHurt setup.rules) actors
-
--- The same with one of them.
+-- Actors in mid-turn, and one of them.
 abbrev pub Steps : Setup → (clients next_id : ℕ) → List Actor → Actor → Type 0
 Steps setup clients next_id actors a = Stands setup clients next_id (IsHurt setup.rules) actors a
 
