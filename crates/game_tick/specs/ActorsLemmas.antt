@@ -1,6 +1,6 @@
 -- Proofs of what the step of an actor makes of the list of all actors.
-use Rattle.std.specs.Prelude.{◌≡◌, ◌≢◌, ℕ, zero, suc, ◌+◌, ◌-◌, ◌*◌, ◌<◌, ◌≤◌, ◌==◌, ◌&&◌, ◌||◌, ◌⊎◌, nat_le, nat_lt, not, Bool, true, false}
-use Rattle.std.specs.Prelude.{if◌then◌else◌, List, [], ◌∷◌, ◌++◌, length, map, get_or, Option, Some, None, is_some, refl, fold}
+use Rattle.std.specs.Prelude.{◌≡◌, ◌≢◌, ℕ, suc, ◌+◌, ◌-◌, ◌*◌, ◌<◌, ◌≤◌, ◌==◌, ◌&&◌, ◌||◌, ◌⊎◌, nat_le, nat_lt, not, Bool, true, false}
+use Rattle.std.specs.Prelude.{if◌then◌else◌, List, [], ◌∷◌, ◌++◌, length, map, get_or, Option, Some, None, is_some, refl}
 use Rattle.std.specs.List.{All, list_any, range_with_len}
 use Rattle.std.specs.Option.{unwrap_or}
 use Rattle.std.proofs.Common.{sym, ◌∙◌, ap, ap₂, subst, inl, inr, arith}
@@ -32,12 +32,12 @@ use Rattle.game_model.specs.Grid.{Grid, with_cell}
 use Rattle.game_model.specs.OreRows.{has_ore}
 use Rattle.game_model.specs.Setup.{Setup}
 use Rattle.game_model.specs.ValidMap.{IsMapFor}
-use Rattle.game_model.specs.ValidWorld.{IsActivityOf, IsBuildOf, IsUnderWay, capacity_in, is_unit, load_delay_in, unload_delay_in}
+use Rattle.game_model.specs.ValidWorld.{IsActivityOf, IsBuildOf, IsUnderWay, capacity_in, load_delay_in, unload_delay_in}
 use Rattle.game_model.specs.Walks.{land_of}
-use Rattle.game_model.specs.World.{clients_of, ids_of, is_alive, is_occupied, living_of, new_actor}
+use Rattle.game_model.specs.World.{clients_of, is_occupied, living_of, new_actor}
 use Rattle.game_tick.specs.declared.moving.Moving.{Moving}
 use Rattle.game_tick.specs.declared.moving.Moving.TheVariants.{Going, GivenUp}
-use Rattle.game_tick.specs.Acts.{popped, with_acts, with_first}
+use Rattle.game_tick.specs.Acts.{popped, with_first}
 use Rattle.game_tick.specs.Attacking.{Fought, after_attack, fought_with, hit_by, is_in_range, points_of, reloading}
 use Rattle.game_tick.specs.Building.{Built, after_build, built_first, came_out, exit_of, finished, has_room, with_builds}
 use Rattle.game_tick.specs.Harvesting.{Harvested, after_deliver, after_harvest, after_loading, after_search, after_unloading}
@@ -51,7 +51,7 @@ use Rattle.game_tick.specs.StepKeeps.{ActorKeeps, ActorsKeep}
 use Rattle.game_tick.specs.Turn.{after_activity, after_first, after_step, after_steps, after_way, blocks_of, dice_of, harvest_of}
 use Rattle.game_tick.specs.Turn.{reloaded, step_if, with_build, with_reload, with_way}
 use Rattle.game_tick.specs.AttackingLemmas.{hit_steps}
-use Rattle.game_tick.specs.ChangesLemmas.{All-found, Becomes, IsOnly, becomes, changed_other, id_of_living, length-changed_at, living_stands}
+use Rattle.game_tick.specs.ChangesLemmas.{Becomes, IsOnly, becomes, changed_other, id_of_living, length-changed_at, living_stands}
 use Rattle.game_tick.specs.HarvestingLemmas.{gathers_moves}
 use Rattle.game_tick.specs.MovingLemmas.{towards_moves}
 use Rattle.game_tick.specs.SoundLemmas.{IsHurt, Steps, body_of, some_holds}

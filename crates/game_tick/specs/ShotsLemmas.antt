@@ -1,6 +1,6 @@
 -- Proofs that a step draws one random word for its shot, and none without a shot.
 use Rattle.std.specs.Prelude.{◌≡◌, ℕ, ◌+◌, ◌==◌, ◌&&◌, if◌then◌else◌, Bool, true, false, List, [], ◌∷◌, Option, Some, None, refl}
-use Rattle.std.proofs.Common.{sym, ◌∙◌, ap, arith}
+use Rattle.std.proofs.Common.{◌∙◌, ap, arith}
 use Rattle.twister.specs.Place.{Place, after_word}
 use Rattle.activities.specs.declared.activity.Activity.{Activity}
 use Rattle.activities.specs.declared.activity.Activity.TheVariants.{Move, Attack, Harvest, Deliver}
@@ -17,7 +17,7 @@ use Rattle.game_tick.specs.Acts.{popped}
 use Rattle.game_tick.specs.Attacking.{Fought, after_attack, fought_with, hit_by, is_in_range, points_of, reloading}
 use Rattle.game_tick.specs.Kinds.{kind_of}
 use Rattle.game_tick.specs.Moving.{gone_towards}
-use Rattle.game_tick.specs.Shots.{fires, fires_at, fires_by, fires_first, fires_if, fires_in, fires_off, shots_of}
+use Rattle.game_tick.specs.Shots.{fires_at, fires_by, fires_first, fires_if, fires_in, fires_off, shots_of}
 use Rattle.game_tick.specs.Turn.{after_activity, after_first, after_step, after_way, blocks_of, dice_of}
 use Rattle.game_tick.specs.Turn.{step_if, with_build, with_reload, with_way}
 

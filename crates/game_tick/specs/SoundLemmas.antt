@@ -1,25 +1,23 @@
 -- Proofs about sound actors whose body has changed.
-use Rattle.std.specs.Prelude.{◌≡◌, ◌≢◌, ℕ, suc, ◌+◌, ◌-◌, ◌<◌, ◌≤◌, List, [], ◌∷◌, ◌++◌, drop, length}
+use Rattle.std.specs.Prelude.{◌≡◌, ℕ, ◌<◌, ◌≤◌, List, ◌∷◌, drop, length}
 use Rattle.std.specs.Prelude.{Option, Some, None, IsSomeAnd, refl}
-use Rattle.std.specs.List.{All, AllPairs}
+use Rattle.std.specs.List.{All}
 use Rattle.std.specs.Option.{unwrap_or}
-use Rattle.std.proofs.Common.{sym, ◌∙◌, ap, subst, inl, inr, arith}
-use Rattle.std.proofs.lemmas.List.Elements.{All-cons, All-drop, All-push, All-weaker}
+use Rattle.std.proofs.Common.{sym, subst, inl, arith}
+use Rattle.std.proofs.lemmas.List.Elements.{All-cons, All-drop}
 use Rattle.std.proofs.lemmas.List.{length-drop}
-use Rattle.std.proofs.lemmas.List.Quantifiers.{all_pairs_push}
 use Rattle.world_units.specs.declared.angle.TheConstants.{FULL_TURN}
 use Rattle.activities.specs.declared.activity.Activity.{Activity}
 use Rattle.activities.specs.declared.queue.TheConstants.{MAX_ACTIVITIES}
-use Rattle.rule_traits.specs.declared.kind.Kind.{Kind}
-use Rattle.rule_traits.specs.Rules.{kind_at, hp_of}
+use Rattle.rule_traits.specs.Rules.{kind_at}
 use Rattle.game_model.specs.declared.actor.Actor.{Actor}
 use Rattle.game_model.specs.declared.actor.Body.{Body}
 use Rattle.game_model.specs.declared.builds.Build.{Build}
-use Rattle.game_model.specs.declared.limits.TheConstants.{MAX_ACTORS, MAX_BUILDS}
+use Rattle.game_model.specs.declared.limits.TheConstants.{MAX_BUILDS}
 use Rattle.game_model.specs.ActorChanges.{changed_at}
 use Rattle.game_model.specs.Setup.{Setup}
 use Rattle.game_model.specs.ValidMap.{IsOwner}
-use Rattle.game_model.specs.ValidWorld.{IsActivityOf, IsBodyOf, IsBuildOf, IsSoundActor, StepReady}
+use Rattle.game_model.specs.ValidWorld.{IsActivityOf, IsBodyOf, IsBuildOf, IsSoundActor}
 use Rattle.game_tick.specs.Acts.{popped, with_acts, with_first}
 use Rattle.game_tick.specs.Building.{with_builds}
 use Rattle.game_tick.specs.Kinds.{kind_of}

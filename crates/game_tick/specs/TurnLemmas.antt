@@ -1,11 +1,10 @@
 -- Proofs that steps of actors and turns keep a world valid.
-use Rattle.std.specs.Prelude.{◌≡◌, ◌≢◌, ℕ, zero, suc, ◌+◌, ◌-◌, ◌*◌, ◌<◌, ◌≤◌, ◌==◌, ◌&&◌, nat_lt, Bool, true, false, cond, max}
-use Rattle.std.specs.Prelude.{List, [], ◌∷◌, length, Option, Some, None, IsSomeAnd, refl, slice_index, fold, get_or}
-use Rattle.std.specs.List.{All, AllPairs, filter}
-use Rattle.std.proofs.Common.{sym, ◌∙◌, ap, subst, inl, inr, arith}
+use Rattle.std.specs.Prelude.{◌≡◌, ℕ, zero, suc, ◌+◌, ◌*◌, ◌≤◌, true}
+use Rattle.std.specs.Prelude.{List, [], ◌∷◌, length, Option, Some, None, refl, get_or}
+use Rattle.std.specs.List.{All, filter}
+use Rattle.std.proofs.Common.{sym, ◌∙◌, ap, subst, inl, arith}
 use Rattle.std.proofs.lemmas.Bool.{ltb-true}
-use Rattle.std.proofs.lemmas.List.Elements.{All-cons, All-filter, All-from_get_or, All-head, All-nil, filter_passes}
-use Rattle.std.proofs.lemmas.List.Kept.{AllPairs-filter}
+use Rattle.std.proofs.lemmas.List.Elements.{All-filter, All-from_get_or, All-head, filter_passes}
 use Rattle.activities.specs.declared.activity.Activity.{Activity}
 use Rattle.activities.specs.declared.activity.Activity.TheVariants.{Move, Attack, Harvest, Deliver}
 use Rattle.rule_traits.specs.declared.kind.Kind.{Kind}
@@ -15,13 +14,11 @@ use Rattle.game_model.specs.declared.actor.Leg.{Leg}
 use Rattle.game_model.specs.declared.limits.TheConstants.{MAX_ACTORS, MAX_CASH}
 use Rattle.game_model.specs.declared.world.World.{World}
 use Rattle.game_model.specs.ActorChanges.{changed_at}
-use Rattle.game_model.specs.Grid.{Grid, HasSize}
-use Rattle.game_model.specs.Keeps.{KeepsCash}
 use Rattle.game_model.specs.Setup.{Setup}
-use Rattle.game_model.specs.ValidMap.{IsMapFor, IsOreOf}
+use Rattle.game_model.specs.ValidMap.{IsMapFor}
 use Rattle.game_model.specs.ValidTickLemmas.{filter_ready, wider}
-use Rattle.game_model.specs.ValidWorld.{IsActivityOf, IsHealthOf, IsHealthy, IsPace, IsWorldWithin, StepReady}
-use Rattle.game_model.specs.World.{AreClients, HasClients, clients_of, ids_of, is_alive, living_of}
+use Rattle.game_model.specs.ValidWorld.{IsActivityOf, IsHealthOf, IsHealthy, IsWorldWithin}
+use Rattle.game_model.specs.World.{clients_of, ids_of, is_alive, living_of}
 use Rattle.game_tick.specs.Attacking.{after_attack}
 use Rattle.game_tick.specs.Building.{after_build}
 use Rattle.game_tick.specs.Harvesting.{Harvested, after_deliver, after_harvest}
