@@ -1,11 +1,11 @@
 -- Proofs that orders keep a world valid, and of what they change only.
-use Rattle.std.specs.Prelude.{◌≡◌, ◌≢◌, ℕ, zero, suc, ◌+◌, ◌-◌, ◌==◌, ◌<◌, ◌≤◌, ◌&&◌, nat_lt, nat_le, not, max, Bool, true, false}
-use Rattle.std.specs.Prelude.{if◌then◌else◌, cond, List, [], ◌∷◌, ◌++◌, length, take, Option, Some, None, IsSomeAnd, is_some, refl}
-use Rattle.std.specs.Prelude.{slice_get, slice_index, slice_set}
-use Rattle.std.specs.List.{All, AllPairs}
+use Rattle.std.specs.Prelude.{◌≡◌, ℕ, ◌-◌, ◌==◌, ◌<◌, ◌≤◌, ◌&&◌, nat_lt, nat_le, Bool, true, false}
+use Rattle.std.specs.Prelude.{if◌then◌else◌, List, [], ◌∷◌, ◌++◌, length, Option, Some, None, IsSomeAnd, is_some, refl}
+use Rattle.std.specs.Prelude.{slice_index, slice_set}
+use Rattle.std.specs.List.{All}
 use Rattle.std.specs.Option.{unwrap_or}
-use Rattle.std.proofs.Common.{sym, ◌∙◌, ap, subst, inl, inr, arith, length-set}
-use Rattle.std.proofs.lemmas.Bool.{and_parts, eqb-true, leb-true, ltb-true}
+use Rattle.std.proofs.Common.{sym, ◌∙◌, ap, subst, inl, arith, length-set}
+use Rattle.std.proofs.lemmas.Bool.{and_parts, eqb-true, ltb-true}
 use Rattle.std.proofs.lemmas.List.{length-append, length-take}
 use Rattle.std.proofs.lemmas.List.Elements.{All-cons, All-from_get_or, All-nil, All-push, All-take}
 use Rattle.world_units.specs.declared.cell.CPos.{CPos}
@@ -23,20 +23,17 @@ use Rattle.game_model.specs.declared.builds.Build.{Build}
 use Rattle.game_model.specs.declared.limits.TheConstants.{MAX_BUILDS, MAX_CASH}
 use Rattle.game_model.specs.declared.world.World.{World}
 use Rattle.game_model.specs.ActorChanges.{changed_at}
-use Rattle.game_model.specs.Grid.{IsOn, is_on}
-use Rattle.game_model.specs.Keeps.{ChangesOnlyOwn, KeepsCash, OrdersKeep, receiver_of}
-use Rattle.game_model.specs.KeepsLemmas as model
-use Rattle.game_model.specs.OwnLemmas as own
+use Rattle.game_model.specs.Grid.{is_on}
+use Rattle.game_model.specs.Keeps.{KeepsCash}
 use Rattle.game_model.specs.Setup.{Setup}
-use Rattle.game_model.specs.StartLemmas.{all_at}
 use Rattle.game_model.specs.ValidTickLemmas as valid_model
 use Rattle.game_model.specs.ValidWorld.{IsActivityOf, IsBuildOf, IsHealthy, IsSoundActor, IsUnderWay, IsWorldWithin, StepReady, duration_in, gathers, is_unit}
-use Rattle.game_model.specs.World.{clients_of, ids_of, living_of}
-use Rattle.game_tick.specs.Acts.{acts_after, with_acts}
+use Rattle.game_model.specs.World.{clients_of, living_of}
+use Rattle.game_tick.specs.Acts.{acts_after}
 use Rattle.game_tick.specs.Building.{with_builds}
 use Rattle.game_tick.specs.Harvesting.{paid_to}
 use Rattle.game_tick.specs.Kinds.{kind_of}
-use Rattle.game_tick.specs.Orders.{Doing, after_cancel, after_order, after_orders, after_produce, attacking, but_last, cancelled, changed_if}
+use Rattle.game_tick.specs.Orders.{Doing, after_cancel, after_order, after_produce, attacking, but_last, cancelled, changed_if}
 use Rattle.game_tick.specs.Orders.{harvesting, has_needs, if_owned, is_target, last_of, moving, own_of, produce_fits, produced, stopping, told, with_order}
 use Rattle.game_tick.specs.ChangesLemmas.{Stands, changed, living_stands}
 use Rattle.game_tick.specs.HarvestingLemmas.{lowered, paid_keeps, same_cash}

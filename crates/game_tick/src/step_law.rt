@@ -1,5 +1,5 @@
-ghost use Rattle.std.specs.Prelude.{◌≡◌, ◌≢◌, ◌<◌, ◌≤◌, ℕ, ◌+◌, Bool, if◌then◌else◌};
-ghost use Rattle.std.specs.Prelude.{List, Option, Some};
+ghost use Rattle.std.specs.Prelude.{◌≡◌, ◌≢◌, ◌<◌, ℕ, Bool};
+ghost use Rattle.std.specs.Prelude.{List, Some};
 ghost use Rattle.std.specs.List.{AllPairs};
 ghost use Rattle.world_units.specs.declared.cell.CPos.{CPos};
 ghost use Rattle.game_model.specs.declared.actor.Actor.{Actor};
@@ -8,8 +8,8 @@ ghost use Rattle.game_model.specs.Grid.{Grid};
 ghost use Rattle.game_model.specs.Setup.{Setup};
 ghost use Rattle.game_model.specs.World.{living_of};
 ghost use Rattle.game_tick.specs.Moving.{moved_towards};
-ghost use Rattle.game_tick.specs.Shots.{IsIdle, NoneGains, fires_on};
-ghost use Rattle.game_tick.specs.Turn.{after_step, after_way, with_build, with_reload};
+ghost use Rattle.game_tick.specs.Idle.{IsIdle};
+ghost use Rattle.game_tick.specs.Turn.{after_step, with_reload};
 
 /// A law of moves: where ids rise and no two actors hold one cell, no two hold one after a step of
 /// a living actor towards a cell.
@@ -25,25 +25,4 @@ pub fn moves_keep_apart()
 pub fn idle_actors_stay()
     ensures { (setup : Setup) (w : World) (id : ℕ) (a : Actor) → living_of w.actors id ≡ Some a →
         IsIdle a → after_step setup w id ≡ with_reload w id }
-{}
-
-/// A law of random words: what an actor does on its leg or at its first activity draws one word
-/// exactly where it fires, and a step draws at most one.
-pub fn draws_are_shots()
-    ensures shots { (setup : Setup) (w : World) (a : Actor) → (after_way setup w a
-        a.body.leg).drawn ≡ w.drawn + (if fires_on setup w.actors a a.body.leg then 1 else 0) }
-    ensures least { (setup : Setup) (w : World) (id : ℕ) → w.drawn ≤ (after_step setup w id).drawn }
-    ensures most { (setup : Setup) (w : World) (id : ℕ) → (after_step setup w id).drawn ≤ w.drawn +
-        1 }
-{}
-
-/// A law of health: in no part of a step does anybody gain health. Ids, and the order of the
-/// actors, stay, and only new actors come.
-pub fn health_never_rises()
-    ensures reload { (w : World) (id : ℕ) → NoneGains w.actors (with_reload w id).actors }
-    ensures build { (setup : Setup) (w : World) (a : Option Actor) → NoneGains w.actors (with_build
-        setup w a).actors }
-    ensures way { (setup : Setup) (w : World) (id : ℕ) (a : Actor) → living_of w.actors id ≡ Some a
-        → AllPairs (λ (x y : Actor). x.id < y.id) w.actors → NoneGains w.actors (after_way setup w a
-        a.body.leg).actors }
 {}
