@@ -30,8 +30,8 @@ pub row_empty : (ore : Grid ℕ) (from : CPos) (y : ℕ) → ore_in_row ore y �
 row_empty ore from y none q in_row =
     let column : q.x < ore.width = in_row.rich.on_grid.column in
     let here : get_or (row_of ore.cells ore.width y) q.x 0 ≡ get_or ore.cells (y * ore.width + q.x) 0 =
-        get_or-take ore.width (drop (y * ore.width) ore.cells) q.x 0 column ∙ get_or-drop (y * ore.width) ore.cells q.x 0 in
+    get_or-take ore.width (drop (y * ore.width) ore.cells) q.x 0 column ∙ get_or-drop (y * ore.width) ore.cells q.x 0 in
     let at : ore_at ore q ≡ get_or ore.cells (y * ore.width + q.x) 0 =
-        unwrap_or-slice_get ore.cells (place_of ore.width q) 0 ∙ ap (λ n. get_or ore.cells (n * ore.width + q.x) 0) in_row.row in
+    unwrap_or-slice_get ore.cells (place_of ore.width q) 0 ∙ ap (λ n. get_or ore.cells (n * ore.width + q.x) 0) in_row.row in
     let empty : has_ore (ore_at ore q) ≡ false = ap has_ore (at ∙ sym here) ∙ none_counted (row_of ore.cells ore.width y) q.x none in
     absurd (let some = in_row.rich.some in cc)
