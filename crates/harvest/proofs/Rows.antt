@@ -1,5 +1,5 @@
 -- A row whose count is 0 has no ore.
-use Rattle.std.proofs.Common.{◌≡◌, ℕ, zero, suc, ◌+◌, ◌*◌, ◌<◌, ◌⊎◌, Bool, true, false, cond, List, [], ◌∷◌, take, drop, get_or, None, inl, inr, refl, sym, ap, ◌∙◌, arith}
+use Rattle.std.proofs.Common.{◌≡◌, ℕ, zero, suc, ◌+◌, ◌*◌, ◌<◌, Bool, true, false, cond, List, [], ◌∷◌, drop, get_or, None, refl, sym, ap, ◌∙◌, arith}
 use Rattle.std.specs.List.{count_by}
 use Rattle.std.proofs.lemmas.List.{get_or-drop, get_or-take}
 use Rattle.std.proofs.lemmas.List.Sums.{sum_by-cons}
@@ -8,7 +8,7 @@ use Rattle.world_units.specs.declared.cell.CPos.{CPos}
 use Rattle.game_model.specs.Grid.{Grid, place_of}
 use Rattle.game_model.specs.OreRows.{has_ore, ore_in_row, row_of}
 use Rattle.game_tick.specs.Nearest.{ore_at}
-use Rattle.harvest.specs.Ranks.{IsRich, IsLeast, IsRichIn}
+use Rattle.harvest.specs.Ranks.{IsLeast, IsRichIn}
 
 abbrev one_if : Bool → ℕ
 one_if b = cond b 1 0

@@ -1,4 +1,4 @@
-use Rattle.std.proofs.Common.{◌≡◌, ◌≤◌, ◌+◌, suc, length, refl, sym, ap, ◌∙◌, arith}
+use Rattle.std.proofs.Common.{◌≤◌, ◌+◌, length, sym, ◌∙◌, arith}
 use Rattle.std.specs.Option.{option_copied}
 use Rattle.harvest.proofs.RefineryLaw.{pass_ends, pass_finds, pass_next, pass_none}
 use Rattle.harvest.proofs.refinery.nearest_refinery.Goals as goal
