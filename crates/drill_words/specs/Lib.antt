@@ -10,8 +10,12 @@ pub mod EventView
 pub mod EventList
 pub mod DrillFault
 pub mod Drill
+pub mod Scripts
+pub mod ScriptLine
+pub mod Script
 pub mod Text
 pub mod ReadLemmas
 pub mod SpacedLemmas
 pub mod EventLineLemmas
 pub mod TextLemmas
+pub mod ScriptTextLemmas
