@@ -77,6 +77,14 @@ moves_apart setup built actors id a goal waits found rise apart =
     best_apart (kind_of setup.rules a.kind) actors a (is_only actors id a rise found) rise apart waits
     (best_dir_of setup.map (land_of setup.map built (costs_in (kind_of setup.rules a.kind).mobile) goal) a.cell)
 
+-- The living actor of an id after a change that leaves ids and life as they are.
+living_by :
+    (lives : Bool) (f : Actor → Actor) (b : Actor) (after before : Option Actor) →
+    after ≡ option_map f before →
+    cond lives (Some (f b)) after ≡ option_map f (cond lives (Some b) before)
+living_by true f b after before rest = refl
+living_by false f b after before rest = rest
+
 pub living_changed :
     (actors : List Actor) (id : ℕ) (f : Actor → Actor) → ((x : Actor) → (f x).id ≡ x.id) →
     ((x : Actor) → is_alive (f x) ≡ is_alive x) →

@@ -1,6 +1,6 @@
 use Rattle.std.proofs.Common.{refl, arith}
 use Rattle.match_run.proofs.LocalPasses.{halved, kept_local, kept_knows, split_more}
-use Rattle.match_run.proofs.passing.split_feeders.Goals as goal
+use Rattle.match_run.proofs.passing.split_passes.Goals as goal
 
 pub split-pass-requires-clause-share : goal.split-pass-requires-clause-share
 split-pass-requires-clause-share c =

@@ -5,7 +5,7 @@ use Rattle.std.specs.Prelude.{slice_get}
 use Rattle.drill_words.specs.Scripts.{plays_of}
 use Rattle.match_run.proofs.Columns.{got_at}
 use Rattle.match_run.proofs.LocalPasses.{put_more, left_all}
-use Rattle.match_run.proofs.feeding.feed.Goals as goal
+use Rattle.match_run.proofs.playing.play_script.Goals as goal
 
 pub loop-n-preserved : goal.loop-n-preserved
 loop-n-preserved g c =

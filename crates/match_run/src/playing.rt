@@ -1,12 +1,12 @@
-//! The threads that feed the columns.
+//! The threads that play the scripts.
 ghost use Rattle.std.specs.Prelude.{◌≡◌, ◌<◌, ◌≤◌, ℕ, length, All, OnOk};
 ghost use Rattle.game_orders.specs.declared.limits.TheConstants.{MAX_FRAMES};
 ghost use Rattle.drill_words.specs.Scripts.{plays_of};
 ghost use Rattle.frame_table.specs.Calls.{view_of, standing};
 ghost use Rattle.match_run.specs.Local.{IsAll, script_column};
-ghost use Rattle.match_run.specs.Passes.{IsLocalPass, IsFeeder, shares_of};
+ghost use Rattle.match_run.specs.Passes.{IsLocalPass, IsClientPass, shares_of};
 
-use crate::feeder::Feeder;
+use crate::client_pass::ClientPass;
 use base::NoMemory;
 use drill_words::Scripts;
 use frame_table::{FrameTable, Pass};
@@ -17,50 +17,50 @@ use std::sync::atomic::{AtomicBool, Ordering};
 use std::thread;
 use std::thread::Threads;
 
-/// Feeds the columns of all feeders' clients, each in a thread of its own. A thread that is out of
+/// Plays the script of each of these clients, in a thread of its own. A thread that is out of
 /// memory raises the flag, and ends.
-pub(crate) fn feed_all<R: Threads + Wait + Sync, G: Gate + Sync>(
+pub(crate) fn play_all<R: Threads + Wait + Sync, G: Gate + Sync>(
     rt: &R,
     table: &FrameTable,
     scripts: &Scripts,
     gate: &G,
     out_of_memory: &AtomicBool,
-    feeders: &mut [Feeder],
+    passes: &mut [ClientPass],
 )
-    requires { All (λ f. IsFeeder scripts.now table.now f) feeders.old }
-    ensures all { All (λ f. IsFeeder scripts.now table.now f) feeders.new }
-    ensures shares { shares_of feeders.new ≡ shares_of feeders.old }
+    requires { All (λ f. IsClientPass scripts.now table.now f) passes.old }
+    ensures all { All (λ f. IsClientPass scripts.now table.now f) passes.new }
+    ensures shares { shares_of passes.new ≡ shares_of passes.old }
 {
-    let each = |_: usize, feeder: &mut Feeder|
-        requires { IsFeeder scripts.now table.now feeder.now }
-        ensures { IsFeeder scripts.entry.now table.entry.now feeder.exit.now ×
-            ((view_of feeder.exit.now.pass).share ≡ (view_of feeder.entry.now.pass).share) }
-    { feed_or_raise(rt, table, scripts, gate, out_of_memory, feeder) };
-    thread::for_each_mut(rt, feeders, MAX_CLIENTS as usize, &each);
+    let each = |_: usize, own: &mut ClientPass|
+        requires { IsClientPass scripts.now table.now own.now }
+        ensures { IsClientPass scripts.entry.now table.entry.now own.exit.now ×
+            ((view_of own.exit.now.pass).share ≡ (view_of own.entry.now.pass).share) }
+    { play_or_raise(rt, table, scripts, gate, out_of_memory, own) };
+    thread::for_each_mut(rt, passes, MAX_CLIENTS as usize, &each);
 }
 
-/// Feeds the column of a feeder's client, or raises the flag where it is out of memory.
-fn feed_or_raise<R: Wait, G: Gate>(
+/// Plays the script of a client, or raises the flag where it is out of memory.
+fn play_or_raise<R: Wait, G: Gate>(
     rt: &R,
     table: &FrameTable,
     scripts: &Scripts,
     gate: &G,
     out_of_memory: &AtomicBool,
-    feeder: &mut Feeder,
+    own: &mut ClientPass,
 )
-    requires { IsFeeder scripts.now table.now feeder.old }
-    ensures feeder { IsFeeder scripts.now table.now feeder.new }
-    ensures share { (view_of feeder.new.pass).share ≡ (view_of feeder.old.pass).share }
+    requires { IsClientPass scripts.now table.now own.old }
+    ensures own { IsClientPass scripts.now table.now own.new }
+    ensures share { (view_of own.new.pass).share ≡ (view_of own.old.pass).share }
 {
-    let fed = feed(rt, table, scripts, gate, feeder.client, &mut feeder.pass);
-    if fed.is_err() {
+    let played = play_script(rt, table, scripts, gate, own.client, &mut own.pass);
+    if played.is_err() {
         out_of_memory.store(true, Ordering::SeqCst);
     }
 }
 
 /// Puts each play of client `c`, which is below the number of clients, and lets the client leave
 /// after the last. Out of memory is its one error; then the client has not left.
-fn feed<R: Wait, G: Gate>(
+fn play_script<R: Wait, G: Gate>(
     rt: &R,
     table: &FrameTable,
     scripts: &Scripts,
@@ -72,7 +72,7 @@ fn feed<R: Wait, G: Gate>(
     requires client { c < length scripts.now }
     ensures pass { IsLocalPass scripts.now table.now pass.new }
     ensures share { (view_of pass.new).share ≡ (view_of pass.old).share }
-    ensures fed { OnOk result (IsAll (standing pass.new c)
+    ensures played { OnOk result (IsAll (standing pass.new c)
         (script_column (plays_of scripts.now c))) }
 {
     let plays = scripts.plays(c);
