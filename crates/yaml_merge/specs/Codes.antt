@@ -40,7 +40,8 @@ built-words (more key value place children rest) list stack =
     let word : Word = Some ((key, value), (place.file, place.line)) in
     ap (λ l. grown word (built l stack)) (append_assoc (words children) (words rest) list)
     ∙ ap (grown word)
-    (built-words children (words rest ++ list) stack ∙ ap (λ s. children ∷ s) (built-words rest list stack))
+    (built-words children (words rest ++ list) stack
+    ∙ ap (λ s. children ∷ s) (built-words rest list stack))
 
 pub back-words : (trees : Trees) → back (words trees) ≡ trees
 back-words trees =

@@ -1,5 +1,5 @@
 -- A list has more nodes than each of its lists of children.
-use Rattle.std.specs.Prelude.{◌≡◌, ℕ, zero, suc, ◌≤◌, true, false, List, [], ◌∷◌}
+use Rattle.std.specs.Prelude.{◌≡◌, ℕ, zero, suc, ◌≤◌, List, [], ◌∷◌}
 use Rattle.std.proofs.Common.{arith, inl, inr, ap, refl}
 use Rattle.std.proofs.lemmas.Bool.{cases_Bool, cond-true, cond-false}
 use Rattle.yaml_merge.specs.declared.growing_list.Slot.{Slot}
