@@ -21,36 +21,6 @@ use Rattle.match_cli.specs.Run.{RunsRequest}
 use Rattle.match_cli.specs.Stop.{IsReadStop, IsUntoldStop, ReturnsStep, PrintsStop, PrintsText}
 use Rattle.match_cli.proofs.RequestLemmas.{map_some, map_none, request_given, request_stopped, text_printed}
 
--- ---- a map that is named, or none
-
-pub no_map_told : (o : Option Files) → IfSome o (λ files. Ok {Option (List ℕ)} {Reply} None ≡ Ok None)
-no_map_told None = tt
-no_map_told (Some files) = refl
-
-pub no_map_untold : (o : Option Files) → IfNone o (IsWithinLimit None None)
-no_map_untold None = tt
-no_map_untold (Some files) = tt
-
-pub named_told :
-    (name bytes : List ℕ) (o : Option Files) →
-    IfSome o (λ files. content_of (rule_file name) (files name) ≡ Ok bytes) →
-    IfSome o (λ files. read_optional (Some (rule_file name)) files ≡ Ok (Some bytes))
-named_told name bytes o = map_some o _ _ (λ files read. ap (λ step. step >>= λ bytes. Ok (Some bytes)) read)
-
-named_stop :
-    (name : List ℕ) (stop : Stop) (files : Files) (R : Type 0) →
-    IsReadStop stop (content_of (rule_file name) (files name)) (IsSome (files name) × R) →
-    IsReadStop stop (read_optional (Some (rule_file name)) files) (IsFirstThere (rule_file name ∷ []) files × R)
-named_stop name (Refused file place cause) files R stops = ap (λ step. step >>= λ bytes. Ok (Some bytes)) stops
-named_stop name ReadFault files R stops = stops
-named_stop name NoMemory files R stops = tt
-
-pub named_stop_told :
-    (name : List ℕ) (stop : Stop) (R : Type 0) (o : Option Files) →
-    IfSome o (λ files. IsReadStop stop (content_of (rule_file name) (files name)) (IsSome (files name) × R)) →
-    IfSome o (λ files. IsReadStop stop (read_optional (Some (rule_file name)) files) (IsFirstThere (rule_file name ∷ []) files × R))
-named_stop_told name stop R o = map_some o _ _ (λ files stops. named_stop name stop files R stops)
-
 -- ---- all were read
 
 abbrev pub both : List (List ℕ) → Option (List ℕ) → Contents

@@ -30,7 +30,7 @@ eqb_same a b is = elim (eqb_tells a b) [ inl same ↦ same.1 | inr other ↦ abs
 -- ---- the best direction
 
 is_sum : (a b : ℕ) → a ≡ b → is_cost (Some a) (Some b) ≡ true
-is_sum a b same = elim (eqb_tells a b) [ inl yes ↦ yes.0 | inr no ↦ absurd (no.1 same) ]
+is_sum a b same = elim (eqb_tells a b) [ inl met ↦ met.0 | inr other ↦ absurd (other.1 same) ]
 
 -- Both are this cost.
 record IsCost (first second : Option ℕ) : Type 0 where
@@ -50,8 +50,8 @@ cost_of (Some a) (Some b) is =
 -- A direction that leads on by the test does.
 leads : (m : Map) (land : Land) (p : CPos) (d n : ℕ) → IsDistance land p n → distance_of m land p ≡ Some n → d < 8 → leads_on m land p d ≡ true → LeadsOn land p d
 unfolding distance_of
-leads m land p d n distance found low leads =
-    let both : IsCost (by_direction land (distance_of m land) p d) (distance_of m land p) = cost_of (by_direction land (distance_of m land) p d) (distance_of m land p) leads in
+leads m land p d n distance found low test =
+    let both : IsCost (by_direction land (distance_of m land) p d) (distance_of m land p) = cost_of (by_direction land (distance_of m land) p d) (distance_of m land p) test in
     let same : both.cost ≡ n = cc (both.there, found) in
     let way : IsWayOn land (distance_of m land) p d both.cost = way_on land (distance_of m land) p d both.cost low both.here in
     let rest : IsWalked land way.entered way.left = walked land (enough_steps m) way.entered way.left way.there in
@@ -81,11 +81,11 @@ first_found test from zero d least most is others = absurd (omega arith)
 first_found test from (suc more) d least most is others =
     elim (cases_eq from d) [
       | inl same ↦
-          let yes : test from ≡ true = ap test same ∙ is in
-          ap (λ b. cond b (Some from) (find test (counting (from + 1) more))) yes ∙ ap Some same
+          let met : test from ≡ true = ap test same ∙ is in
+          ap (λ b. cond b (Some from) (find test (counting (from + 1) more))) met ∙ ap Some same
       | inr other ↦
-          let no : test from ≡ false = others from (omega arith) in
-          ap (λ b. cond b (Some from) (find test (counting (from + 1) more))) no
+          let unmet : test from ≡ false = others from (omega arith) in
+          ap (λ b. cond b (Some from) (find test (counting (from + 1) more))) unmet
           ∙ first_found test (from + 1) more d (omega arith) (omega arith) is others
     ]
 
@@ -248,6 +248,7 @@ apart_from land w h n q on distance (r ∷ cells) each = (
 distinct :
     (land : Land) (w h : ℕ) → IsInside land w h → (cells : List CPos) (p : CPos) (n : ℕ) → IsDistance land p n → FollowsBest land p cells →
     IsDistinct eqb (map (place_of w) cells)
+unfolding IsDistinct
 distinct land w h inside [] p n distance follows = tt
 distinct land w h inside (q ∷ cells) p n distance follows =
     let way : Goes land p q follows.0 n = goes land p q follows.0 n distance follows.1.leads follows.2 in (

@@ -184,7 +184,12 @@ pub fn read_files<'a, D: Disk>(
     ensures files { (D.state disk.new).files ≡ (D.state disk.old).files }
     ensures later { (D.state disk.old).faults ≤ (D.state disk.new).faults }
 {
-    let rules = read_rules(alloc, disk, names)?;
-    let map_file = read_named(alloc, disk, map_file)?;
-    Ok(GivenFiles { rules, map_file })
+    let rules = match read_rules(alloc, disk, names) {
+        Ok(rules) => rules,
+        Err(stop) => return Err(stop),
+    };
+    match read_named(alloc, disk, map_file) {
+        Ok(map_file) => Ok(GivenFiles { rules, map_file }),
+        Err(stop) => Err(stop),
+    }
 }

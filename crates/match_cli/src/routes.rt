@@ -77,7 +77,8 @@ fn block(blocks: &mut Blocks, rules: &Rules, start: &Start)
 /// The cells on which a building of the map stands.
 fn blocks_of(alloc: Global, rules: &Rules, map: &Map) -> Result<Blocks, NoMemory>
     requires { IsMapFor rules.now map.now }
-    ensures { IfOk result (λ blocks. blocks ≡ blocks_of rules.now map.now) }
+    ensures made { IfOk result (λ blocks. blocks ≡ blocks_of rules.now map.now) }
+    ensures size { IfOk result (HasSize map.now.width map.now.height) }
 {
     let mut blocks = Blocks::create(alloc, map.width, map.height)?;
     let starts = map.starts.as_slice();
