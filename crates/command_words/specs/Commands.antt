@@ -1,13 +1,17 @@
 -- The command line as it is given to the library `clap`: one definition a command, and the one
 -- level above them. `clap`'s own definitions decide what is accepted, and what the words then name.
 use Rattle.std.specs.Prelude.{Some, true, codes}
-use Rattle.clap.specs.Walk.{Rule}
+use Rattle.clap.specs.Walk.{Rule, Text}
 use Rattle.clap.specs.Simple.{App, new_app, new_rule, on_top, with_rule, with_subcommand}
 use Rattle.clap.specs.declared.builder.action.ArgAction.TheVariants.{Append}
 
--- `--script FILE`, which is required.
-abbrev pub script_option : Rule
-script_option = record (new_rule (codes "script")) { long = Some (codes "script"); required = true }
+-- `--NAME VALUE`, which may be left out.
+abbrev pub option_named : Text → Rule
+option_named name = record (new_rule name) { long = Some name }
+
+-- `--NAME VALUE`, which is required.
+abbrev pub required_option : Text → Rule
+required_option name = record (option_named name) { required = true }
 
 -- The positional arguments: names of files, any number of them.
 abbrev pub file_names : Rule
@@ -15,15 +19,34 @@ file_names = record (new_rule (codes "names")) { action = Some Append }
 
 -- `drill --script FILE`.
 unfoldable pub drill_app : App
-drill_app = with_rule (new_app (codes "drill")) script_option
+drill_app = with_rule (new_app (codes "drill")) (required_option (codes "script"))
 
 -- `yaml FILES`.
 unfoldable pub yaml_app : App
 yaml_app = with_rule (new_app (codes "yaml")) file_names
 
--- `check RULES`.
+-- `check --map FILE RULES`, where the map may be left out.
 unfoldable pub check_app : App
-check_app = with_rule (new_app (codes "check")) file_names
+check_app =
+    with_rule (with_rule (new_app (codes "check")) (option_named (codes "map"))) file_names
+
+-- `route --map FILE --kind NAME`, so far.
+unfoldable pub routed_app : App
+routed_app =
+    with_rule
+    (with_rule (new_app (codes "route")) (required_option (codes "map")))
+    (required_option (codes "kind"))
+
+-- The same with `--from X,Y --to X,Y`.
+unfoldable pub ends_app : App
+ends_app =
+    with_rule
+    (with_rule routed_app (required_option (codes "from")))
+    (required_option (codes "to"))
+
+-- `route --map FILE --kind NAME --from X,Y --to X,Y RULES`.
+unfoldable pub route_app : App
+route_app = with_rule ends_app file_names
 
 -- A command that one of its subcommands must follow, without words for help or the version.
 unfoldable pub bare_app : App
@@ -34,8 +57,11 @@ bare_app = on_top (λ shape. record shape {
   subcommand_required = true;
 }) (new_app (codes "lockstep"))
 
+-- The command line with its first commands.
+unfoldable pub first_app : App
+first_app =
+    with_subcommand (with_subcommand bare_app drill_app.top) yaml_app.top
+
 -- The whole command line.
 unfoldable pub lockstep_app : App
-lockstep_app =
-    with_subcommand
-    (with_subcommand (with_subcommand bare_app drill_app.top) yaml_app.top) check_app.top
+lockstep_app = with_subcommand (with_subcommand first_app check_app.top) route_app.top

@@ -1,6 +1,8 @@
 ghost use Rattle.std.specs.Prelude.{◌≡◌, IfOk, false};
-ghost use Rattle.command_words.specs.Commands.{bare_app, drill_app, yaml_app, check_app};
-ghost use Rattle.command_words.specs.Commands.{lockstep_app, script_option, file_names};
+ghost use Rattle.command_words.specs.Commands.{bare_app, drill_app, yaml_app, check_app, route_app};
+ghost use Rattle.command_words.specs.Commands.{routed_app, ends_app, first_app};
+ghost use Rattle.command_words.specs.Commands.{lockstep_app, option_named, required_option};
+ghost use Rattle.command_words.specs.Commands.{file_names};
 ghost use Rattle.command_words.specs.Follows.{Follows};
 ghost use Rattle.clap.specs.Simple.{app_of};
 ghost use Rattle.clap.specs.Walk.{rule_of};
@@ -14,19 +16,25 @@ use std::alloc::Global;
 pub(crate) fn lockstep_command<'a>(alloc: Global) -> Result<Command<'a>, NoMemory>
     ensures { IfOk result (λ command. app_of command ≡ lockstep_app) }
 {
+    let check = check_command(alloc)?;
+    let route = route_command(alloc)?;
+    first_commands(alloc)?.subcommand(check)?.subcommand(route)
+}
+
+/// The command of the program with its first subcommands.
+#[tactic(auto, unfolding(crate::specs::Commands::first_app))]
+fn first_commands<'a>(alloc: Global) -> Result<Command<'a>, NoMemory>
+    ensures { IfOk result (Follows first_app) }
+{
     let drill = drill_command(alloc)?;
     let yaml = yaml_command(alloc)?;
-    let check = check_command(alloc)?;
-    bare_command(alloc)
-        .subcommand(drill)?
-        .subcommand(yaml)?
-        .subcommand(check)
+    bare_command(alloc).subcommand(drill)?.subcommand(yaml)
 }
 
 /// A command that one of its subcommands must follow, without words for help or the version.
 #[tactic(auto, unfolding(crate::specs::Commands::bare_app))]
 fn bare_command<'a>(alloc: Global) -> Command<'a>
-    ensures { app_of result ≡ bare_app }
+    ensures { Follows bare_app result }
 {
     Command::new(alloc, "lockstep")
         .disable_help_flag(true)
@@ -39,7 +47,7 @@ fn bare_command<'a>(alloc: Global) -> Command<'a>
 fn drill_command<'a>(alloc: Global) -> Result<Command<'a>, NoMemory>
     ensures { IfOk result (Follows drill_app) }
 {
-    let script = script_option(alloc);
+    let script = required_option(alloc, "script");
     Command::new(alloc, "drill").arg(script)
 }
 
@@ -55,15 +63,53 @@ fn yaml_command<'a>(alloc: Global) -> Result<Command<'a>, NoMemory>
 fn check_command<'a>(alloc: Global) -> Result<Command<'a>, NoMemory>
     ensures { IfOk result (Follows check_app) }
 {
+    let map = option_named(alloc, "map");
     let names = file_names(alloc);
-    Command::new(alloc, "check").arg(names)
+    Command::new(alloc, "check").arg(map)?.arg(names)
 }
 
-fn script_option<'a>(alloc: Global) -> Arg<'a>
-    ensures rule { rule_of result ≡ script_option }
+#[tactic(auto, unfolding(crate::specs::Commands::route_app))]
+fn route_command<'a>(alloc: Global) -> Result<Command<'a>, NoMemory>
+    ensures { IfOk result (Follows route_app) }
+{
+    let names = file_names(alloc);
+    ends_command(alloc)?.arg(names)
+}
+
+/// `route` with all its options.
+#[tactic(auto, unfolding(crate::specs::Commands::ends_app))]
+fn ends_command<'a>(alloc: Global) -> Result<Command<'a>, NoMemory>
+    ensures { IfOk result (Follows ends_app) }
+{
+    let from = required_option(alloc, "from");
+    let to = required_option(alloc, "to");
+    routed_command(alloc)?.arg(from)?.arg(to)
+}
+
+/// `route` with its first options: what walks on which map.
+#[tactic(auto, unfolding(crate::specs::Commands::routed_app))]
+fn routed_command<'a>(alloc: Global) -> Result<Command<'a>, NoMemory>
+    ensures { IfOk result (Follows routed_app) }
+{
+    let map = required_option(alloc, "map");
+    let kind = required_option(alloc, "kind");
+    Command::new(alloc, "route").arg(map)?.arg(kind)
+}
+
+/// `--NAME VALUE`, which may be left out.
+fn option_named<'a>(alloc: Global, name: &'a str) -> Arg<'a>
+    ensures rule { rule_of result ≡ option_named name.entry.now }
     ensures local { result.global ≡ false }
 {
-    Arg::new(alloc, "script").long("script").required(true)
+    Arg::new(alloc, name).long(name)
+}
+
+/// `--NAME VALUE`, which is required.
+fn required_option<'a>(alloc: Global, name: &'a str) -> Arg<'a>
+    ensures rule { rule_of result ≡ required_option name.entry.now }
+    ensures local { result.global ≡ false }
+{
+    Arg::new(alloc, name).long(name).required(true)
 }
 
 /// The positional arguments: any number of them, each a use of its own.

@@ -5,7 +5,7 @@ ghost use Rattle.clap.specs.Simple.{subcommand_of};
 ghost use Rattle.command_words.specs.Commands.{lockstep_app};
 ghost use Rattle.command_words.specs.RequestPlain.{Drill, Yaml, Check};
 ghost use Rattle.command_words.specs.Reading.{request_of, is_accepted, is_plain, allowed};
-ghost use Rattle.command_words.specs.Reading.{NamesRefused};
+ghost use Rattle.command_words.specs.Reading.{NamesRefused, CellRefused};
 
 /// A law of the definition: no words, and the program's name alone, are refused.
 #[tactic(auto, using(crate::proofs::LiteralLemmas::no_words, crate::proofs::LiteralLemmas::alone))]
@@ -46,13 +46,15 @@ pub fn yaml_names()
 pub fn check_names()
     ensures { (program : List ℕ) (names : List (List ℕ)) →
         All (λ name. is_plain name ≡ true) names →
-        request_of (program ∷ codes "check" ∷ names) ≡ option_map Check (allowed names) }
+        request_of (program ∷ codes "check" ∷ names) ≡ option_map (Check None) (allowed names) }
 {}
 
 /// A law of the definition: words that `clap` accepts name a request, unless they have too many
-/// positional arguments after `yaml` or `check`, or none.
+/// positional arguments after `yaml`, `check` or `route`, or none, or a cell of `route` is none.
 #[tactic(auto, using(crate::proofs::AcceptedLemmas::accepted_request))]
 pub fn accepted_words_name_a_request()
     ensures { (words : List (List ℕ)) → is_accepted words ≡ true →
-        (is_some (request_of words) ≡ true) ⊎ NamesRefused (subcommand_of lockstep_app words) }
+        (is_some (request_of words) ≡ true)
+        ⊎ (NamesRefused (subcommand_of lockstep_app words)
+        ⊎ CellRefused (subcommand_of lockstep_app words)) }
 {}

@@ -1,9 +1,9 @@
 //! The words of the command line, read by `clap`.
 //!
 //! `read_words` returns the request that they name. A list of words is accepted exactly where
-//! `clap`'s own definition of such a command line accepts it and the number of files that it names
-//! is allowed; the definition stands in `specs/Commands.antt`, one entry a command. It is a crate
-//! of its own so that only this one is proved together with `clap`.
+//! `clap`'s own definition of such a command line accepts it, the number of files that it names is
+//! allowed, and the cells of a route are cells; the definition stands in `specs/Commands.antt`, one
+//! entry a command. It is a crate of its own so that only this one is proved together with `clap`.
 #![tactic(auto)]
 
 mod command;
@@ -11,6 +11,7 @@ mod file_names;
 mod laws;
 mod reading;
 mod request;
+mod route_query;
 mod words_fault;
 
 pub use file_names::FileNames;
@@ -20,9 +21,10 @@ pub use laws::{
 };
 pub use reading::read_words;
 pub use request::Request;
+pub use route_query::RouteQuery;
 pub use words_fault::WordsFault;
 
-/// The most positional arguments of `yaml` and `check`.
+/// The most positional arguments of `yaml`, `check` and `route`.
 pub const MAX_FILES: usize = 64;
 
 #[cfg(test)]

@@ -5,15 +5,17 @@ ghost use Rattle.clap.specs.Walk.{rows_of, first_of, all_of};
 ghost use Rattle.clap.specs.Matches.{found_of};
 ghost use Rattle.clap.specs.Simple.{subcommand_of, subcommand_rows_of};
 ghost use Rattle.command_words.specs.Commands.{lockstep_app};
-ghost use Rattle.command_words.specs.RequestPlain.{plain_of, HasFewFiles};
+ghost use Rattle.command_words.specs.RequestPlain.{plain_of, plain_route, HasFewFiles};
 ghost use Rattle.command_words.specs.Reading.{is_accepted, is_allowed, command_request, names_in};
-ghost use Rattle.command_words.specs.Reading.{found_request, request_of};
+ghost use Rattle.command_words.specs.Reading.{found_request, request_of, cell_in, route_in};
 
 use crate::command::lockstep_command;
-use crate::{FileNames, MAX_FILES, Request, WordsFault};
+use crate::{FileNames, MAX_FILES, Request, RouteQuery, WordsFault};
 use clap::ArgMatches;
 use clap::error::ErrorKind;
+use rule_values::read_cell;
 use std::alloc::Global;
+use world_units::CPos;
 
 /// The request that the words name; the first of them is the program's name.
 ///
@@ -86,24 +88,58 @@ fn request_for<'a>(
 {
     match command {
         "drill" => Ok(Request::Drill {
-            script: script_in(found).ok_or(WordsFault::Refused)?,
+            script: value_in(found, "script").ok_or(WordsFault::Refused)?,
         }),
         "yaml" => Ok(Request::Yaml {
             files: names_in(alloc, found)?,
         }),
         "check" => Ok(Request::Check {
+            map_file: value_in(found, "map"),
             rules: names_in(alloc, found)?,
         }),
+        "route" => Ok(Request::Route(route_in(alloc, found)?)),
         _ => Err(WordsFault::Refused),
     }
 }
 
-/// The value of `--script`.
-fn script_in<'a>(found: &ArgMatches<'a>) -> Option<&'a str>
-    ensures { option_map (λ script. script.now) result
-        ≡ first_of (codes "script") (rows_of (found_of found.now)) }
+/// The route that is asked for.
+#[tactic(auto, unfolding(crate::specs::Reading::route_in))]
+fn route_in<'a>(alloc: Global, found: &ArgMatches<'a>) -> Result<RouteQuery<'a>, WordsFault>
+    ensures query { IfOk result
+        (λ query. route_in (rows_of (found_of found.now)) ≡ Some (plain_route query)) }
+    ensures few { IfOk result (λ query. length query.rules ≤ MAX_FILES) }
+    ensures refused { result ≡ Err WordsFault.Refused →
+        route_in (rows_of (found_of found.now)) ≡ None }
 {
-    found.get_str("script")
+    let map_file = value_in(found, "map").ok_or(WordsFault::Refused)?;
+    let kind = value_in(found, "kind").ok_or(WordsFault::Refused)?;
+    let from = cell_in(found, "from").ok_or(WordsFault::Refused)?;
+    let to = cell_in(found, "to").ok_or(WordsFault::Refused)?;
+    let rules = names_in(alloc, found)?;
+    Ok(RouteQuery {
+        map_file,
+        kind,
+        from,
+        to,
+        rules,
+    })
+}
+
+/// The value of an option, where it is given.
+fn value_in<'a>(found: &ArgMatches<'a>, option: &str) -> Option<&'a str>
+    ensures { option_map (λ value. value.now) result
+        ≡ first_of option.now (rows_of (found_of found.now)) }
+{
+    found.get_str(option)
+}
+
+/// The cell that an option writes, where it is given and writes one.
+#[tactic(auto, unfolding(crate::specs::Reading::cell_in))]
+fn cell_in(found: &ArgMatches<'_>, option: &str) -> Option<CPos>
+    ensures { result ≡ cell_in option.now (rows_of (found_of found.now)) }
+{
+    let (x, y) = read_cell(value_in(found, option)?)?;
+    Some(CPos { x, y })
 }
 
 /// The positional arguments, where their number is allowed.

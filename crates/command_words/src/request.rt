@@ -1,4 +1,5 @@
 use crate::file_names::FileNames;
+use crate::route_query::RouteQuery;
 
 /// The request of an accepted command line. Each name is a word, or the part of one after `=`, as
 /// it was given.
@@ -16,9 +17,15 @@ pub enum Request<'a> {
         files: FileNames<'a>,
     },
 
-    /// `check RULES`: check the files as rules, taken together in this order.
+    /// `check --map FILE RULES`: check the files as rules, taken together in this order, and the
+    /// map for them.
     Check {
+        /// The name of the map's file, if one is given.
+        map_file: Option<&'a str>,
         /// The names of the files, 1 to `MAX_FILES`.
         rules: FileNames<'a>,
     },
+
+    /// `route --map FILE --kind NAME --from X,Y --to X,Y RULES`: print a route over the map.
+    Route(RouteQuery<'a>),
 }

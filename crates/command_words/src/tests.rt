@@ -1,6 +1,6 @@
 //! Command lines with the request that they name, or that are refused.
 
-use crate::{MAX_FILES, Request, WordsFault, read_words};
+use crate::{MAX_FILES, Request, RouteQuery, WordsFault, read_words};
 use base::NoMemory;
 use std::alloc::{AllocError, Global};
 use std::fmt::Write;
@@ -27,12 +27,40 @@ fn written(alloc: Global, command: &str, names: &[&str]) -> Result<String, NoMem
     Ok(text)
 }
 
+/// The command of a route and its options.
+fn route_text(alloc: Global, query: &RouteQuery<'_>) -> Result<String, NoMemory> {
+    let (map_file, kind) = (query.map_file, query.kind);
+    let (from, to) = (query.from, query.to);
+    format!(in alloc;
+        "route <{map_file}> <{kind}> {},{} {},{}",
+        from.x, from.y, to.x, to.y
+    )
+}
+
 /// The request that a list of words names, of which the first is the program's name.
 fn request_text(alloc: Global, words: &[String]) -> Result<String, NoMemory> {
     match read_words(alloc, words) {
         Ok(Request::Drill { script }) => written(alloc, "drill", &[script]),
         Ok(Request::Yaml { files }) => written(alloc, "yaml", files.as_slice()),
-        Ok(Request::Check { rules }) => written(alloc, "check", rules.as_slice()),
+        Ok(
+            Request::Check {
+                map_file: None,
+                rules,
+            },
+        ) => written(alloc, "check", rules.as_slice()),
+        Ok(
+            Request::Check {
+                map_file: Some(map_file),
+                rules,
+            },
+        ) => {
+            let command = format!(in alloc; "check map <{map_file}>")?;
+            written(alloc, &command, rules.as_slice())
+        }
+        Ok(Request::Route(query)) => {
+            let command = route_text(alloc, &query)?;
+            written(alloc, &command, query.rules.as_slice())
+        }
         Err(WordsFault::Refused) => String::from_str(alloc, "refused"),
         Err(WordsFault::NoMemory) => Err(AllocError),
     }
@@ -79,7 +107,7 @@ const WITHOUT_A_COMMAND: [&str; 31] = [
 ];
 
 /// Words after a command that are refused.
-const REFUSED_AFTER: [&str; 37] = [
+const REFUSED_AFTER: [&str; 36] = [
     // `drill`: its option once, with one value.
     "drill",
     "drill|--script",
@@ -119,7 +147,6 @@ const REFUSED_AFTER: [&str; 37] = [
     "yaml|--names=a",
     "yaml|a|--map=m|b",
     "check",
-    "check|r|--map|m",
     "check|--script|d",
 ];
 
@@ -159,6 +186,96 @@ const ACCEPTED_LINES: [(&str, &str); 28] = [
     ("check|r.yaml", "check <r.yaml>"),
     ("check|r|-|--|--map|m", "check <r> <-> <--map> <m>"),
 ];
+
+/// Words after `check` and `route` that are refused.
+const REFUSED_QUERIES: [&str; 24] = [
+    // `check`: the map at most once, and rules.
+    "check|--map|m",
+    "check|--map",
+    "check|r|--map",
+    "check|--map|m|--map|m|r",
+    "check|--map|-m|r",
+    "check|--script|m|r",
+    // `route`: each option once, and rules.
+    "route",
+    "route|r",
+    "route|--kind|k|--from|0,0|--to|1,1|r",
+    "route|--map|m|--from|0,0|--to|1,1|r",
+    "route|--map|m|--kind|k|--to|1,1|r",
+    "route|--map|m|--kind|k|--from|0,0|r",
+    "route|--map|m|--kind|k|--from|0,0|--to|1,1",
+    "route|--map|m|--kind|k|--kind|k|--from|0,0|--to|1,1|r",
+    "route|--map|m|--kind|k|--from|0,0|--to|1,1|--to|1,1|r",
+    "route|--map|m|--kind|-k|--from|0,0|--to|1,1|r",
+    // Cells.
+    "route|--map|m|--kind|k|--from|0|--to|1,1|r",
+    "route|--map|m|--kind|k|--from|0,0|--to|1,1,1|r",
+    "route|--map|m|--kind|k|--from|256,0|--to|1,1|r",
+    "route|--map|m|--kind|k|--from|0,0|--to|1,256|r",
+    "route|--map|m|--kind|k|--from|0,0|--to||r",
+    "route|--map|m|--kind|k|--from|0;0|--to|1,1|r",
+    "route|--map|m|--kind|k|--from=-1,0|--to|1,1|r",
+    "route|--map|m|--kind|k|--from|0,0|--to|+1,1|r",
+];
+
+/// Words after `check` and `route` with the request that they name.
+const ACCEPTED_QUERIES: [(&str, &str); 11] = [
+    ("check|--map|m|r", "check map <m> <r>"),
+    ("check|r|--map=m|s", "check map <m> <r> <s>"),
+    ("check|--map=|r", "check map <> <r>"),
+    ("check|r|--|--map|m", "check <r> <--map> <m>"),
+    (
+        "route|--map|m|--kind|k|--from|0,1|--to|2,255|r",
+        "route <m> <k> 0,1 2,255 <r>",
+    ),
+    (
+        "route|a|--to=7,8|b|--from=5,6|--kind=|--map=--|c",
+        "route <--> <> 5,6 7,8 <a> <b> <c>",
+    ),
+    (
+        "route|--from|1,2|--to|1,2|--map|from|--kind|to|--|--map",
+        "route <from> <to> 1,2 1,2 <--map>",
+    ),
+    (
+        "route|--map|-|--kind|-|--from|0,0|--to|0,0|-",
+        "route <-> <-> 0,0 0,0 <->",
+    ),
+    // A cell has blanks round its numbers or none, and its numbers may have leading zeros.
+    (
+        "route|--map|m|--kind|k|--from| 3 , 4 |--to|003,0000000004|r",
+        "route <m> <k> 3,4 3,4 <r>",
+    ),
+    (
+        "route|--map|m|--kind|k|--from|\t3,4|--to|3,\r4|r",
+        "route <m> <k> 3,4 3,4 <r>",
+    ),
+    (
+        "route|--map|m|--kind|k x|--from|0,0|--to|0,0|route",
+        "route <m> <k x> 0,0 0,0 <route>",
+    ),
+];
+
+#[test]
+fn refused_queries(rt: HostRuntime) -> Result<(), Fail> {
+    let alloc = rt.alloc();
+    for words in REFUSED_QUERIES {
+        let line = command_line(alloc, words)?;
+        let got = request_text(alloc, &line)?;
+        assert_eq!(rt; got.as_str(), REFUSED, "of {words}");
+    }
+    Ok(())
+}
+
+#[test]
+fn accepted_queries(rt: HostRuntime) -> Result<(), Fail> {
+    let alloc = rt.alloc();
+    for (words, want) in ACCEPTED_QUERIES {
+        let line = command_line(alloc, words)?;
+        let got = request_text(alloc, &line)?;
+        assert_eq!(rt; got.as_str(), want, "of {words}");
+    }
+    Ok(())
+}
 
 #[test]
 fn lines_without_a_command(rt: HostRuntime) -> Result<(), Fail> {

@@ -4,5 +4,4 @@ pub mod Fault
 pub mod Fields
 pub mod MapOf
 pub mod Rows
-pub mod Sample
 pub mod Starts

@@ -735,3 +735,25 @@ fn sample_map(rt: HostRuntime) -> Result<(), Fail> {
     );
     Ok(())
 }
+
+/// A map with so many actors, each on a cell of its own.
+fn crowd(alloc: Global, actors: usize) -> Result<String, AllocError> {
+    let mut text = String::from_str(alloc, "Size: 128,128\nActors:\n")?;
+    for number in 0..actors {
+        let (x, y) = (number % 128, number / 128);
+        write!(text, "\ta{number}: unit\n\t\tLocation: {x},{y}\n")?;
+    }
+    Ok(text)
+}
+
+/// A map has at most 2,048 actors: the fault is at the node of the one that follows them.
+#[test]
+fn crowded_maps(rt: HostRuntime) -> Result<(), Fail> {
+    let full = crowd(rt.alloc(), 2048)?;
+    let got = outcome(rt.alloc(), "unit:\n", &full)?;
+    assert_eq!(rt; got.as_str(), "128 128 2048");
+    let more = crowd(rt.alloc(), 2049)?;
+    let got = outcome(rt.alloc(), "unit:\n", &more)?;
+    assert_eq!(rt; got.as_str(), "! TooManyActors 4099");
+    Ok(())
+}

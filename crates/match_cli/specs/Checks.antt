@@ -1,16 +1,16 @@
 -- The answer to the command `check`.
-use Rattle.std.specs.Prelude.{ℕ, ◌+◌, List, [], ◌∷◌, ◌++◌, if◌then◌else◌, Result, Ok, Err, codes}
+use Rattle.std.specs.Prelude.{ℕ, ◌+◌, List, [], ◌∷◌, ◌++◌, if◌then◌else◌, Option, Ok, codes}
 use Rattle.std.specs.Fmt.{decimal}
 use Rattle.base.specs.Steps.{◌>>=◌}
-use Rattle.rule_traits.specs.declared.fault.RuleFault.{RuleFault}
-use Rattle.rule_traits.specs.Fault.{cause_of, place_of}
 use Rattle.rule_traits.specs.declared.kind.Kind.{Kind}
 use Rattle.rule_traits.specs.declared.skipped.Skipped.{Skipped}
 use Rattle.rule_traits.specs.declared.traits.Trait.{Trait}
 use Rattle.rule_traits.specs.Traits.{all_traits, name_of, has_trait}
-use Rattle.rule_traits.specs.Typed.{typed}
+use Rattle.game_model.specs.declared.map.Map.{Map}
 use Rattle.match_cli.specs.Step.{Step}
-use Rattle.match_cli.specs.RuleFiles.{name_at, fault_reply, resolved_rules}
+use Rattle.match_cli.specs.Contents.{Contents}
+use Rattle.match_cli.specs.RuleFiles.{name_at}
+use Rattle.match_cli.specs.Maps.{typed_rules, optional_map, map_lines}
 
 -- A node that was passed over: its file, its line and its key.
 unfoldable pub skipped_line : List (List ℕ) → Skipped → List ℕ
@@ -38,18 +38,15 @@ abbrev pub kind_lines : ℕ → List Kind → List ℕ
 kind_lines number [] = []
 kind_lines number (kind ∷ rest) = kind_line number kind ++ kind_lines (number + 1) rest
 
--- What was passed over, then the kinds.
-abbrev pub check_lines : List (List ℕ) → List Kind × List Skipped → List ℕ
-check_lines names made =
-    skipped_lines names made.1 ++ kind_lines 0 made.0 ++ codes "end\n"
+-- What was passed over, then the kinds, then the map, if one is named.
+abbrev pub check_lines : List (List ℕ) → List Kind × List Skipped → Option Map → List ℕ
+check_lines names made checked =
+    skipped_lines names made.1 ++ kind_lines 0 made.0 ++ map_lines checked ++ codes "end\n"
 
-abbrev pub typed_step :
-    List (List ℕ) → Result (List Kind × List Skipped) RuleFault → Step (List ℕ)
-typed_step names (Ok made) = Ok (check_lines names made)
-typed_step names (Err fault) = Err (fault_reply names (place_of fault) (cause_of fault))
-
--- The lines of typed rules, or their first fault, after those in lines and in merging.
-abbrev pub check_step : (names contents : List (List ℕ)) → Step (List ℕ)
-check_step names contents = do
-  forest ← resolved_rules names contents
-  typed_step names (typed forest)
+-- The lines of typed rules and of a map for them, or the first fault: those of the rules come
+-- before those of the map.
+abbrev pub check_step : (names : List (List ℕ)) → Option (List ℕ) → Contents → Step (List ℕ)
+check_step names map_file contents = do
+  made ← typed_rules names contents.rules
+  checked ← optional_map made.0 map_file contents.map_file
+  Ok (check_lines names made checked)

@@ -7,9 +7,13 @@ pub mod Printing
 pub mod Step
 pub mod WantedFiles
 pub mod Contents
+pub mod Given
 pub mod Drills
 pub mod RuleFiles
+pub mod Maps
 pub mod Checks
+pub mod Routes
+pub mod FoundRoute
 pub mod Request
 pub mod Run
 pub mod Stop

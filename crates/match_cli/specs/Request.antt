@@ -1,8 +1,8 @@
 -- The answer to a request.
-use Rattle.std.specs.Prelude.{ℕ, List, [], map, Option, None, Some, IsOk, unwrap_or}
+use Rattle.std.specs.Prelude.{ℕ, List, [], map, Option, None, Some, IsOk, unwrap_or, option_map}
 use Rattle.base.specs.Steps.{◌>>=◌}
 use Rattle.game_io.specs.Files.{Files}
-use Rattle.command_words.specs.RequestPlain.{RequestPlain, Drill, Yaml, Check}
+use Rattle.command_words.specs.RequestPlain.{RequestPlain, Drill, Yaml, Check, Route}
 use Rattle.drill_words.specs.declared.limits.TheConstants.{MAX_DRILL_BYTES}
 use Rattle.match_cli.specs.declared.files.TheConstants.{MAX_RULE_BYTES}
 use Rattle.match_cli.specs.Reply.{Reply, done}
@@ -12,6 +12,7 @@ use Rattle.match_cli.specs.Contents.{Contents, contents_of}
 use Rattle.match_cli.specs.Drills.{drill_step}
 use Rattle.match_cli.specs.RuleFiles.{yaml_step}
 use Rattle.match_cli.specs.Checks.{check_step}
+use Rattle.match_cli.specs.Routes.{route_step}
 
 abbrev pub rule_file : List ℕ → Wanted
 rule_file name = record { name = name; limit = MAX_RULE_BYTES }
@@ -19,24 +20,32 @@ rule_file name = record { name = name; limit = MAX_RULE_BYTES }
 abbrev pub script_file : List ℕ → Wanted
 script_file name = record { name = name; limit = MAX_DRILL_BYTES }
 
+-- Rule files, and a map, if one is named. A map is as long as a rule file at most.
+abbrev pub rules_and_map : List (List ℕ) → Option (List ℕ) → WantedFiles
+rules_and_map names map_file =
+    record no_files { rules = map rule_file names; map_file = option_map rule_file map_file }
+
 -- The files that a request wants to be read.
 abbrev pub wanted : RequestPlain → WantedFiles
 wanted (Drill script) = record no_files { script = Some (script_file script) }
 wanted (Yaml names) = record no_files { rules = map rule_file names }
-wanted (Check names) = record no_files { rules = map rule_file names }
+wanted (Check map_file names) = rules_and_map names map_file
+wanted (Route query) = rules_and_map query.rules (Some query.map_file)
 
 -- The file that a request names to be written, if it names one.
 abbrev pub written_by : RequestPlain → Option (List ℕ)
 written_by (Drill script) = None
 written_by (Yaml names) = None
-written_by (Check names) = None
+written_by (Check map_file names) = None
+written_by (Route query) = None
 
--- The text of a command whose files have these contents, or its refusal. A script is there wherever
--- one is wanted.
+-- The text of a command whose files have these contents, or its refusal. A script and a map are
+-- there wherever one is wanted.
 abbrev pub text_of : RequestPlain → Contents → Step (List ℕ)
 text_of (Drill script) contents = drill_step script (unwrap_or contents.script [])
 text_of (Yaml names) contents = yaml_step names contents.rules
-text_of (Check names) contents = check_step names contents.rules
+text_of (Check map_file names) contents = check_step names map_file contents
+text_of (Route query) contents = route_step query contents
 
 -- The answer to a request whose files have these contents.
 abbrev pub given_reply : RequestPlain → Contents → Reply

@@ -1,4 +1,4 @@
--- The answer to the command `yaml`.
+-- Rule files as one tree, and the answer to the command `yaml`.
 use Rattle.std.specs.Prelude.{ℕ, ◌+◌, List, [], ◌∷◌, ◌++◌, Option, None, Some, Result, Ok, Err}
 use Rattle.std.specs.Prelude.{unwrap_or, slice_get}
 use Rattle.base.specs.Steps.{◌>>=◌}

@@ -1,5 +1,6 @@
-ghost use Rattle.std.specs.Prelude.{◌≡◌, ◌≤◌, length, map, string_bytes};
-ghost use Rattle.command_words.specs.RequestPlain.{Drill, Yaml, Check, plain_of, HasFewFiles};
+ghost use Rattle.std.specs.Prelude.{◌≡◌, ◌≤◌, length, map, option_map, string_bytes};
+ghost use Rattle.command_words.specs.RequestPlain.{Drill, Yaml, Check, Route, plain_of};
+ghost use Rattle.command_words.specs.RequestPlain.{plain_route, HasFewFiles};
 ghost use Rattle.command_words.specs.Reading.{request_of};
 ghost use Rattle.match_cli.specs.Causes.{causes_of};
 ghost use Rattle.match_cli.specs.Outside.{outside};
@@ -8,13 +9,14 @@ ghost use Rattle.match_cli.specs.Drills.{drill_reply};
 ghost use Rattle.match_cli.specs.Run.{Runs, RunsRequest};
 
 use crate::check::check_text;
-use crate::files::{read_one, read_rules};
+use crate::files::{read_files, read_one, read_rules};
 use crate::print::{print_stop, print_text, refuse_words};
 use crate::refusals::drill_stop;
+use crate::routes::route_text;
 use crate::rules::yaml_text;
 use crate::statuses::OUT_OF_MEMORY;
 use crate::worlds::run_worlds;
-use command_words::{FileNames, MAX_FILES, Request, WordsFault, read_words};
+use command_words::{FileNames, MAX_FILES, Request, RouteQuery, WordsFault, read_words};
 use drill_words::{MAX_DRILL_BYTES, read_drill};
 use game_io::{Disk, Sink};
 use std::alloc::Global;
@@ -24,7 +26,7 @@ use std::alloc::Global;
 ///
 /// - 0, the command is done, and exactly its text was written;
 /// - 2, the words are refused;
-/// - 3, a file that they name is missing, too long, or has a fault;
+/// - 3, a file that they name is missing, too long, or has a fault, or there is a `RouteFault`;
 /// - 4, a read failed: the disk's count of faults rose;
 /// - 5, a write failed: the sink's count of faults rose, and a prefix of the text was written;
 /// - 6, out of memory, and a prefix of the text was written.
@@ -55,7 +57,8 @@ fn run_request<D: Disk, K: Sink>(
     match request {
         Request::Drill { script } => run_script(alloc, script, disk, out),
         Request::Yaml { files } => run_yaml(alloc, files, disk, out),
-        Request::Check { rules } => run_check(alloc, rules, disk, out),
+        Request::Check { map_file, rules } => run_check(alloc, *map_file, rules, disk, out),
+        Request::Route(query) => run_route(alloc, query, disk, out),
     }
 }
 
@@ -98,9 +101,11 @@ fn run_yaml<D: Disk, K: Sink>(alloc: Global, names: &FileNames<'_>, disk: &mut D
     }
 }
 
-/// The command `check`: reads rule files and prints their kinds.
+/// The command `check`: reads rule files and a map for them, if one is named, and prints what they
+/// have.
 fn run_check<D: Disk, K: Sink>(
     alloc: Global,
+    map_file: Option<&str>,
     names: &FileNames<'_>,
     disk: &mut D,
     out: &mut K,
@@ -108,11 +113,30 @@ fn run_check<D: Disk, K: Sink>(
     requires { length names.now ≤ MAX_FILES }
     ensures { let old = outside (D.state disk.old) (K.state out.old) in
         let new = outside (D.state disk.new) (K.state out.new) in
-        RunsRequest (Check names.now) result (causes_of old new) old new }
+        RunsRequest (Check (option_map (λ name. name.now) map_file.entry) names.now) result
+        (causes_of old new) old new }
 {
     let names = names.as_slice();
-    match read_rules(alloc, disk, names) {
-        Ok(contents) => print_text(alloc, check_text(alloc, names, &contents), out),
+    match read_files(alloc, disk, names, map_file) {
+        Ok(given) => print_text(alloc, check_text(alloc, names, map_file, &given), out),
+        Err(stop) => print_stop(alloc, stop, out),
+    }
+}
+
+/// The command `route`: reads rule files and a map for them, and prints a route over it.
+fn run_route<D: Disk, K: Sink>(
+    alloc: Global,
+    query: &RouteQuery<'_>,
+    disk: &mut D,
+    out: &mut K,
+) -> u8
+    requires { length query.now.rules ≤ MAX_FILES }
+    ensures { let old = outside (D.state disk.old) (K.state out.old) in
+        let new = outside (D.state disk.new) (K.state out.new) in
+        RunsRequest (Route (plain_route query.now)) result (causes_of old new) old new }
+{
+    match read_files(alloc, disk, query.rules.as_slice(), Some(query.map_file)) {
+        Ok(given) => print_text(alloc, route_text(alloc, query, &given), out),
         Err(stop) => print_stop(alloc, stop, out),
     }
 }

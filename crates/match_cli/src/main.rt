@@ -11,6 +11,8 @@ mod command;
 mod files;
 mod print;
 mod refusals;
+mod route_fault;
+mod routes;
 mod rules;
 mod statuses;
 mod stop;

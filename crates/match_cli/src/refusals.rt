@@ -1,13 +1,15 @@
-ghost use Rattle.std.specs.Prelude.{◌≡◌, map};
+ghost use Rattle.std.specs.Prelude.{◌≡◌, ◌∷◌, [], map};
 ghost use Rattle.drill_words.specs.DrillFault as drill;
 ghost use Rattle.yaml_lines.specs.Fault as line;
 ghost use Rattle.yaml_merge.specs.Fault as merge;
 ghost use Rattle.rule_traits.specs.Fault as rule;
+ghost use Rattle.map_grid.specs.Fault as grid;
 ghost use Rattle.match_cli.specs.RuleFiles.{name_at};
 ghost use Rattle.match_cli.specs.Stop.{IsFaultStop, IsDrillStop};
 
 use crate::stop::Stop;
 use drill_words::DrillFault;
+use map_grid::MapFault;
 use rule_traits::RuleFault;
 use yaml_lines::{LineFault, Place};
 use yaml_merge::MergeFault;
@@ -58,6 +60,14 @@ pub fn rule_stop<'a>(names: &[&'a str], fault: &RuleFault) -> Stop<'a>
         (rule.place_of fault.now) (rule.cause_of fault.now) result }
 {
     fault_stop(names, fault.place(), fault.cause())
+}
+
+/// Refuses a fault of a map, whose file has this name.
+pub fn map_stop<'a>(name: &'a str, fault: &MapFault) -> Stop<'a>
+    ensures { IsFaultStop (name.now ∷ []) (grid.place_of fault.now) (grid.cause_of fault.now)
+        result }
+{
+    fault_stop(&[name], fault.place(), fault.cause())
 }
 
 /// Refuses a faulty drill.

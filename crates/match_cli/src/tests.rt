@@ -9,6 +9,17 @@ mod long_drills_1;
 mod long_drills_2;
 mod long_drills_3;
 mod long_drills_4;
+mod made_maps_1;
+mod made_maps_2;
+mod made_maps_3;
+mod made_maps_4;
+mod made_maps_5;
+mod made_maps_6;
+mod made_routes_1;
+mod made_routes_2;
+mod made_routes_3;
+mod made_routes_4;
+mod map_pages;
 mod more_order_drills_1;
 mod more_order_drills_2;
 mod order_drills_1;
@@ -16,7 +27,9 @@ mod order_drills_2;
 mod order_drills_3;
 mod pages;
 mod parents;
+mod queries;
 mod reports;
+mod sample_world;
 mod schedules;
 mod short_drills_1;
 mod short_drills_2;
@@ -548,5 +561,127 @@ fn long_rule_files_are_refused(rt: HostRuntime) -> Result<(), Fail> {
         let right = is_answered(rt.alloc(), &["yaml", "a"], disk, None, status, text)?;
         assert!(rt; right, "{lines}");
     }
+    Ok(())
+}
+
+/// A run over rules and a map: what it shows, the words with `|` between them, the files, the
+/// status and the text.
+#[derive(Drop)]
+struct Query {
+    shows: &'static str,
+    words: &'static str,
+    files: &'static [(&'static str, &'static str)],
+    status: u8,
+    text: &'static str,
+}
+
+/// Whether a run is answered with its status and its text.
+fn is_query_right(alloc: Global, query: &Query) -> Result<bool, AllocError> {
+    let mut words = Vec::new(alloc);
+    for word in query.words.split('|') {
+        words.push(word)?;
+    }
+    let disk = disk_of(alloc, query.files, None)?;
+    is_answered(
+        alloc,
+        words.as_slice(),
+        disk,
+        None,
+        query.status,
+        query.text,
+    )
+}
+
+/// The first of these runs that isn't answered with its status and its text.
+fn first_wrong_query(alloc: Global, rows: &[Query]) -> Result<Option<&'static str>, AllocError> {
+    for query in rows {
+        if !is_query_right(alloc, query)? {
+            return Ok(Some(query.shows));
+        }
+    }
+    Ok(None)
+}
+
+#[test]
+fn queries_are_answered(rt: HostRuntime) -> Result<(), Fail> {
+    let wrong = first_wrong_query(rt.alloc(), queries::ROWS.as_slice())?;
+    assert_eq!(rt; wrong, None);
+    Ok(())
+}
+
+#[test]
+fn made_routes_1_are_answered(rt: HostRuntime) -> Result<(), Fail> {
+    let wrong = first_wrong_query(rt.alloc(), made_routes_1::ROWS.as_slice())?;
+    assert_eq!(rt; wrong, None);
+    Ok(())
+}
+
+#[test]
+fn made_routes_2_are_answered(rt: HostRuntime) -> Result<(), Fail> {
+    let wrong = first_wrong_query(rt.alloc(), made_routes_2::ROWS.as_slice())?;
+    assert_eq!(rt; wrong, None);
+    Ok(())
+}
+
+#[test]
+fn made_routes_3_are_answered(rt: HostRuntime) -> Result<(), Fail> {
+    let wrong = first_wrong_query(rt.alloc(), made_routes_3::ROWS.as_slice())?;
+    assert_eq!(rt; wrong, None);
+    Ok(())
+}
+
+#[test]
+fn made_routes_4_are_answered(rt: HostRuntime) -> Result<(), Fail> {
+    let wrong = first_wrong_query(rt.alloc(), made_routes_4::ROWS.as_slice())?;
+    assert_eq!(rt; wrong, None);
+    Ok(())
+}
+
+#[test]
+fn made_maps_1_are_answered(rt: HostRuntime) -> Result<(), Fail> {
+    let wrong = first_wrong_query(rt.alloc(), made_maps_1::ROWS.as_slice())?;
+    assert_eq!(rt; wrong, None);
+    Ok(())
+}
+
+#[test]
+fn made_maps_2_are_answered(rt: HostRuntime) -> Result<(), Fail> {
+    let wrong = first_wrong_query(rt.alloc(), made_maps_2::ROWS.as_slice())?;
+    assert_eq!(rt; wrong, None);
+    Ok(())
+}
+
+#[test]
+fn made_maps_3_are_answered(rt: HostRuntime) -> Result<(), Fail> {
+    let wrong = first_wrong_query(rt.alloc(), made_maps_3::ROWS.as_slice())?;
+    assert_eq!(rt; wrong, None);
+    Ok(())
+}
+
+#[test]
+fn made_maps_4_are_answered(rt: HostRuntime) -> Result<(), Fail> {
+    let wrong = first_wrong_query(rt.alloc(), made_maps_4::ROWS.as_slice())?;
+    assert_eq!(rt; wrong, None);
+    Ok(())
+}
+
+#[test]
+fn made_maps_5_are_answered(rt: HostRuntime) -> Result<(), Fail> {
+    let wrong = first_wrong_query(rt.alloc(), made_maps_5::ROWS.as_slice())?;
+    assert_eq!(rt; wrong, None);
+    Ok(())
+}
+
+#[test]
+fn made_maps_6_are_answered(rt: HostRuntime) -> Result<(), Fail> {
+    let wrong = first_wrong_query(rt.alloc(), made_maps_6::ROWS.as_slice())?;
+    assert_eq!(rt; wrong, None);
+    Ok(())
+}
+
+#[test]
+fn map_pages_are_answered(rt: HostRuntime) -> Result<(), Fail> {
+    let wrong = first_wrong_query(rt.alloc(), map_pages::ROWS.as_slice())?;
+    assert_eq!(rt; wrong, None);
     Ok(())
 }

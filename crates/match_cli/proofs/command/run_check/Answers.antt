@@ -1,36 +1,27 @@
-use Rattle.std.proofs.Common.{refl, map, subst}
+use Rattle.std.proofs.Common.{refl, sym, ap, map}
+use Rattle.std.specs.Prelude.{option_map}
 use Rattle.command_words.specs.RequestPlain.{Check}
-use Rattle.match_cli.specs.Causes.{causes_of}
-use Rattle.match_cli.specs.Outside.{outside}
-use Rattle.match_cli.specs.Run.{RunsRequest}
-use Rattle.match_cli.proofs.RequestLemmas.{rules_given, rules_stopped}
+use Rattle.match_cli.specs.Given.{given_contents}
+use Rattle.match_cli.specs.Request.{rules_and_map}
+use Rattle.match_cli.proofs.FilesLemmas.{files_given, files_stopped}
 use Rattle.match_cli.proofs.command.run_check.Goals as goal
 
--- The rule files were read.
+-- The files were read.
 pub returns-in-Ok : goal.returns-in-Ok
 returns-in-Ok g c =
-    let names = map (λ name. name.now) c.as_slice-names.result.now in
-    let contents = map (λ bytes. bytes.items) c.in-Ok.contents.items in
-    let d = g.D.Disk.state c.args.disk.now in
-    let d' = g.D.Disk.state c.read_rules.new.disk in
-    let s = g.K.Sink.state c.args.out.now in
-    let s' = g.K.Sink.state c.print_text.new.out in
-    subst (λ names. RunsRequest (Check names) c.print_text.result (causes_of (outside d s) (outside d' s')) (outside d s) (outside d' s'))
-    c.as_slice-names.ensures
-    (rules_given (Check names) names contents c.check_text.result c.print_text.result d d' s s' refl refl
+    let map_file = option_map (λ name. name.now) c.args.map_file in
+    files_given (Check map_file c.args.names.now) (map (λ name. name.now) c.as_slice-names.result.now) map_file (given_contents c.in-Ok.given) c.check_text.result c.print_text.result
+    (g.D.Disk.state c.args.disk.now) (g.D.Disk.state c.read_files.new.disk) (g.K.Sink.state c.args.out.now) (g.K.Sink.state c.print_text.new.out)
+    (ap (λ names. rules_and_map names map_file) (sym c.as_slice-names.ensures)) refl
     c.in-Ok.ensures.files c.in-Ok.ensures.later c.print_text.ensures.later c.in-Ok.ensures.told c.in-Ok.ensures.untold
-    (rw c.deref.ensures.value at c.check_text.ensures) c.print_text.ensures.prints)
+    (rw c.as_slice-names.ensures at c.check_text.ensures) c.print_text.ensures.prints
 
 -- One of them was not.
 pub returns-in-Err : goal.returns-in-Err
 returns-in-Err g c =
-    let names = map (λ name. name.now) c.as_slice-names.result.now in
-    let d = g.D.Disk.state c.args.disk.now in
-    let d' = g.D.Disk.state c.read_rules.new.disk in
-    let s = g.K.Sink.state c.args.out.now in
-    let s' = g.K.Sink.state c.print_stop.new.out in
-    subst (λ names. RunsRequest (Check names) c.print_stop.result (causes_of (outside d s) (outside d' s')) (outside d s) (outside d' s'))
-    c.as_slice-names.ensures
-    (rules_stopped (Check names) names c.in-Err.stop c.print_stop.result d d' s s' refl refl
+    let map_file = option_map (λ name. name.now) c.args.map_file in
+    files_stopped (Check map_file c.args.names.now) (map (λ name. name.now) c.as_slice-names.result.now) map_file c.in-Err.stop c.print_stop.result
+    (g.D.Disk.state c.args.disk.now) (g.D.Disk.state c.read_files.new.disk) (g.K.Sink.state c.args.out.now) (g.K.Sink.state c.print_stop.new.out)
+    (ap (λ names. rules_and_map names map_file) (sym c.as_slice-names.ensures)) refl
     c.in-Err.ensures.files c.in-Err.ensures.later c.print_stop.ensures.later c.in-Err.ensures.told c.in-Err.ensures.untold
-    c.print_stop.ensures.prints)
+    c.print_stop.ensures.prints
