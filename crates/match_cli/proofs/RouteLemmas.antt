@@ -312,7 +312,7 @@ at_goal_none m land from same =
 pub route_is :
     (m : Map) (land : Land) (from : CPos) (route : Option Route) → IsInside land m.width m.height → from ≢ land.goal → IsRoute land from route →
     found_route route ≡ route_of m land from
-route_is m land from (Some route) inside other is = route_there m land from route.cost route.cells inside other is
+route_is m land from (Some route) inside other is = route_there m land from route.cost route.cells inside other is.1
 route_is m land from None inside other (inl same) = absurd (other same)
 route_is m land from None inside other (inr none) = no_route m land from other none
 

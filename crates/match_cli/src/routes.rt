@@ -110,7 +110,7 @@ fn find_route(
         return Ok(None);
     }
     let mut router = Router::create(alloc, map.width, map.height)?;
-    router.walk(map, blocks, costs, from, goal, alloc)
+    router.walk(alloc, map, blocks, costs, from, goal)
 }
 
 /// Cells, each after a blank.
