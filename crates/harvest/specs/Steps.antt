@@ -11,7 +11,8 @@ use Rattle.game_tick.specs.Harvesting.{Harvested, after_harvest, after_deliver}
 use Rattle.actor_table.specs.Table.{Table}
 
 -- The table has the actors of the step, and the ore and the cash are those after it.
-pub record IsHarvested (old new : Table) (left : Grid ℕ) (purse : List ℕ) (after : Harvested) : Type 0 where
+pub record IsHarvested (old new : Table) (left : Grid ℕ) (purse : List ℕ) (after : Harvested)
+    : Type 0 where
   pub actors : new ≡ record old { actors = after.actors }
   pub ore : left ≡ after.ore
   pub cash : purse ≡ after.cash

@@ -32,8 +32,10 @@ fn unload_turn(
     timer: u16,
     waits: u8,
 )
-    ensures { (ore : Grid ℕ) (a : Actor) → actor_of t.old.actors id ≡ Some a → IsHarvested t.old t.new ore purse.new
-        (after_unloading (record { actors = t.old.actors; ore = ore; cash = purse.old }) a (kind_of rules.now a.kind) value home timer waits) }
+    ensures { (ore : Grid ℕ) (a : Actor) → actor_of t.old.actors id ≡ Some a →
+        IsHarvested t.old t.new ore purse.new (after_unloading
+        (record { actors = t.old.actors; ore = ore; cash = purse.old }) a (kind_of rules.now a.kind)
+        value home timer waits) }
 {
     let _ids_rise = t.len();
     let Some(a) = t.get(id) else {
@@ -41,17 +43,9 @@ fn unload_turn(
     };
     let (kind, owner, load) = (a.kind, a.body.owner, a.body.load);
     if is_unloaded(rules, kind, timer) {
+        let (timer, left) = (0, load.saturating_sub(1));
         pay(purse, owner, value);
-        carry(
-            t,
-            id,
-            load.saturating_sub(1),
-            Activity::Deliver {
-                home,
-                timer: 0,
-                waits,
-            },
-        );
+        carry(t, id, left, Activity::Deliver { home, timer, waits });
     } else {
         set_head(
             t,
@@ -78,8 +72,9 @@ pub(crate) fn deliver(
     waits: u8,
 )
     requires fits { FitsMap g.now.map.now (built_in g.now) t.old r.old }
-    ensures delivered { (ore : Grid ℕ) (a : Actor) → actor_of t.old.actors id ≡ Some a → IsHarvested t.old t.new ore purse.new
-        (after_deliver (setup_in g.now) (built_in g.now) (record { actors = t.old.actors; ore = ore; cash = purse.old }) a home timer waits) }
+    ensures delivered { (ore : Grid ℕ) (a : Actor) → actor_of t.old.actors id ≡ Some a →
+        IsHarvested t.old t.new ore purse.new (after_deliver (setup_in g.now) (built_in g.now)
+        (record { actors = t.old.actors; ore = ore; cash = purse.old }) a home timer waits) }
     ensures router { IsSameSize r.old r.new }
 {
     let _on_map = t.len();

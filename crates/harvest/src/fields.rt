@@ -1,4 +1,4 @@
-ghost use Rattle.std.specs.Prelude.{◌≡◌, ◌+◌, ◌-◌, ◌^◌, ◌<◌, ◌&&◌, nat_le, not, false};
+ghost use Rattle.std.specs.Prelude.{◌≡◌, ◌+◌, ◌-◌, ◌^◌, ◌<◌, nat_le, false};
 ghost use Rattle.game_model.specs.Grid.{HasSize, IsOn, with_cell};
 ghost use Rattle.game_model.specs.OreRows.{has_ore};
 ghost use Rattle.game_model.specs.ValidWorld.{capacity_in, load_delay_in, unload_delay_in};
@@ -89,7 +89,8 @@ pub(crate) fn is_loaded(rules: &Rules, kind: u16, timer: u16) -> bool
 
 /// Whether the turn after so many is the last that a bale takes to unload.
 pub(crate) fn is_unloaded(rules: &Rules, kind: u16, timer: u16) -> bool
-    ensures value { result ≡ nat_le (unload_delay_in (kind_of rules.now kind).harvester) (timer + 1) }
+    ensures value { result
+        ≡ nat_le (unload_delay_in (kind_of rules.now kind).harvester) (timer + 1) }
     ensures room { result ≡ false → timer < 2 ^ 16 - 1 }
 {
     is_over(timer, unload_delay_of(rules, kind))

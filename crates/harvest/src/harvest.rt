@@ -24,8 +24,10 @@ use world_units::CPos;
 /// loaded is delivered, or the activity ends.
 fn search(t: &mut ActorTable, ore: &Ore, id: u32, cell: CPos)
     requires { HasSize t.old.width t.old.height ore.now }
-    ensures { (cash : List ℕ) (a : Actor) → actor_of t.old.actors id ≡ Some a → IsHarvested t.old t.new ore.now cash
-        (after_search (record { actors = t.old.actors; ore = ore.now; cash = cash }) a cell (nearest_ore ore.now a.cell)) }
+    ensures { (cash : List ℕ) (a : Actor) → actor_of t.old.actors id ≡ Some a →
+        IsHarvested t.old t.new ore.now cash (after_search
+        (record { actors = t.old.actors; ore = ore.now; cash = cash }) a cell
+        (nearest_ore ore.now a.cell)) }
 {
     let _on_map = t.len();
     let Some(a) = t.get(id) else {
@@ -73,8 +75,11 @@ fn load_turn(
 )
     requires cell { IsOn ore.old.width ore.old.height cell }
     requires room { (a : Actor) → actor_of t.old.actors id ≡ Some a → a.body.load < 2 ^ 16 - 1 }
-    ensures { (cash : List ℕ) (a : Actor) → actor_of t.old.actors id ≡ Some a → IsHarvested t.old t.new ore.new cash
-        (after_loading (record { actors = t.old.actors; ore = ore.old; cash = cash }) a (kind_of rules.now a.kind) cell timer waits) }
+    ensures loaded { (cash : List ℕ) (a : Actor) → actor_of t.old.actors id ≡ Some a →
+        IsHarvested t.old t.new ore.new cash (after_loading
+        (record { actors = t.old.actors; ore = ore.old; cash = cash }) a (kind_of rules.now a.kind)
+        cell timer waits) }
+    ensures size { HasSize ore.old.width ore.old.height ore.new }
 {
     let _ids_rise = t.len();
     let Some(a) = t.get(id) else {
@@ -82,17 +87,9 @@ fn load_turn(
     };
     let (kind, load) = (a.kind, a.body.load);
     if is_loaded(rules, kind, timer) {
+        let timer = 0;
         take_bale(ore, cell);
-        carry(
-            t,
-            id,
-            load + 1,
-            Activity::Harvest {
-                cell,
-                timer: 0,
-                waits,
-            },
-        );
+        carry(t, id, load + 1, Activity::Harvest { cell, timer, waits });
     } else {
         set_head(
             t,
@@ -121,8 +118,10 @@ pub(crate) fn harvest(
     requires fits { FitsMap g.now.map.now (built_in g.now) t.old r.old }
     requires ore { HasSize g.now.map.now.width g.now.map.now.height ore.old }
     requires cell { IsOn g.now.map.now.width g.now.map.now.height cell }
-    ensures harvested { (cash : List ℕ) (a : Actor) → actor_of t.old.actors id ≡ Some a → IsHarvested t.old t.new ore.new cash
-        (after_harvest (setup_in g.now) (built_in g.now) (record { actors = t.old.actors; ore = ore.old; cash = cash }) a cell timer waits) }
+    ensures harvested { (cash : List ℕ) (a : Actor) → actor_of t.old.actors id ≡ Some a →
+        IsHarvested t.old t.new ore.new cash (after_harvest (setup_in g.now) (built_in g.now)
+        (record { actors = t.old.actors; ore = ore.old; cash = cash }) a cell timer waits) }
+    ensures size { HasSize g.now.map.now.width g.now.map.now.height ore.new }
     ensures router { IsSameSize r.old r.new }
 {
     let Some(a) = t.get(id) else {

@@ -20,3 +20,5 @@ pub use steps::harvest_step;
 
 #[cfg(test)]
 mod tests;
+#[cfg(test)]
+mod worked;

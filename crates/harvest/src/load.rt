@@ -24,7 +24,9 @@ fn set_load(t: &mut ActorTable, id: u32, load: u16)
 /// The actor of an id, if it is there, holds so many bales, and the activity takes the place of its
 /// first.
 pub(crate) fn carry(t: &mut ActorTable, id: u32, load: u16, activity: Activity)
-    ensures { t.new ≡ record t.old { actors = changed_at t.old.actors id (λ (b : Actor). with_load load (with_first activity b)) } }
+    ensures { t.new ≡ record t.old {
+      actors = changed_at t.old.actors id (λ (b : Actor). with_load load (with_first activity b));
+    } }
 {
     set_head(t, id, activity);
     set_load(t, id, load);

@@ -4,7 +4,8 @@ ghost use Rattle.game_model.specs.Grid.{HasSize};
 ghost use Rattle.game_model.specs.World.{actor_of};
 ghost use Rattle.grid_routes.specs.Routing.{IsSameSize};
 ghost use Rattle.motion.specs.Ground.{FitsMap, built_in, setup_in};
-ghost use Rattle.harvest.specs.Steps.{HasWay, IsHarvested, LeadsOnMap, after_first, harvested_by_id};
+ghost use Rattle.harvest.specs.Steps.{HasWay, IsHarvested, LeadsOnMap, after_first};
+ghost use Rattle.harvest.specs.Steps.{harvested_by_id};
 
 use crate::deliver::deliver;
 use crate::harvest::harvest;
@@ -26,8 +27,10 @@ fn harvest_by(
     requires fits { FitsMap g.now.map.now (built_in g.now) t.old r.old }
     requires ore { HasSize g.now.map.now.width g.now.map.now.height ore.old }
     requires way { LeadsOnMap g.now.map.now first }
-    ensures harvested { (a : Actor) → actor_of t.old.actors id ≡ Some a → IsHarvested t.old t.new ore.new purse.new
-        (after_first (setup_in g.now) (built_in g.now) (record { actors = t.old.actors; ore = ore.old; cash = purse.old }) a (Some first)) }
+    ensures harvested { (a : Actor) → actor_of t.old.actors id ≡ Some a →
+        IsHarvested t.old t.new ore.new purse.new (after_first (setup_in g.now) (built_in g.now)
+        (record { actors = t.old.actors; ore = ore.old; cash = purse.old }) a (Some first)) }
+    ensures size { HasSize g.now.map.now.width g.now.map.now.height ore.new }
     ensures router { IsSameSize r.old r.new }
 {
     match first {
@@ -54,8 +57,11 @@ pub fn harvest_step(
     requires fits { FitsMap g.now.map.now (built_in g.now) t.old r.old }
     requires ore { HasSize g.now.map.now.width g.now.map.now.height ore.old }
     requires way { IfSome (actor_of t.old.actors id) (HasWay g.now.map.now) }
-    ensures harvested { IsHarvested t.old t.new ore.new purse.new (harvested_by_id (setup_in g.now) (built_in g.now)
-        (record { actors = t.old.actors; ore = ore.old; cash = purse.old }) (actor_of t.old.actors id)) }
+    ensures harvested { IsHarvested t.old t.new ore.new purse.new
+        (harvested_by_id (setup_in g.now) (built_in g.now)
+        (record { actors = t.old.actors; ore = ore.old; cash = purse.old })
+        (actor_of t.old.actors id)) }
+    ensures size { HasSize g.now.map.now.width g.now.map.now.height ore.new }
     ensures router { IsSameSize r.old r.new }
 {
     let Some(a) = t.get(id) else {

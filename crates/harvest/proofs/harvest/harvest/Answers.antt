@@ -19,7 +19,7 @@ pub returns-then-eq-clause-harvested : goal.returns-then-eq-clause-harvested
 returns-then-eq-clause-harvested c cash a found =
     let same : Some a ≡ Some c.in-Some.a.now = sym found ∙ sym c.in-Some.ensures in
     let is : a ≡ c.in-Some.a.now = cc in
-    rw is (harvest_loads c.args.t.now c.load_turn.new.t c.args.ore.now cash c.args.id c.in-Some.a.now (sym c.in-Some.ensures) (setup_in c.args.g.now) (built_in c.args.g.now) c.args.cell c.args.timer c.args.waits c.load_turn.new.ore (sym c.is_full.ensures.value ∙ c.if-is_full.false) (sym c.has_ore.ensures ∙ c.if-not-has_ore.false) (sym c.eq.ensures ∙ c.if-eq.true) (c.load_turn.ensures cash c.in-Some.a.now (sym c.in-Some.ensures)))
+    rw is (harvest_loads c.args.t.now c.load_turn.new.t c.args.ore.now cash c.args.id c.in-Some.a.now (sym c.in-Some.ensures) (setup_in c.args.g.now) (built_in c.args.g.now) c.args.cell c.args.timer c.args.waits c.load_turn.new.ore (sym c.is_full.ensures.value ∙ c.if-is_full.false) (sym c.has_ore.ensures ∙ c.if-not-has_ore.false) (sym c.eq.ensures ∙ c.if-eq.true) (c.load_turn.ensures.loaded cash c.in-Some.a.now (sym c.in-Some.ensures)))
 
 pub returns-else-eq-clause-harvested : goal.returns-else-eq-clause-harvested
 returns-else-eq-clause-harvested c cash a found =
