@@ -1,17 +1,17 @@
 -- A ring more: what was right stays right, up to a higher level.
-use Rattle.std.proofs.Common.{◌≡◌, ◌≢◌, ℕ, zero, suc, ◌+◌, ◌*◌, ◌%◌, ◌<◌, ◌≤◌, ◌⊎◌, inl, inr, not, nat_lt, Bool, true, false, cond, length, List, [], ◌∷◌, get_or, refl, ap, sym, ◌∙◌, arith, subst}
+use Rattle.std.proofs.Common.{◌≡◌, ◌≢◌, ℕ, zero, suc, ◌+◌, ◌*◌, ◌%◌, ◌<◌, ◌≤◌, ◌⊎◌, inl, inr, not, nat_lt, Bool, true, false, cond, length, List, [], ◌∷◌, get_or, refl, sym, ◌∙◌, arith, subst}
 use Rattle.std.proofs.lemmas.Bool.{cases_eq, cases_lt}
 use Rattle.std.proofs.lemmas.Bool.Decides.{nat_tests}
-use Rattle.std.proofs.lemmas.List.Sums.{sum_by-cons, count_by-le-length}
+use Rattle.std.proofs.lemmas.List.Sums.{sum_by-cons}
 use Rattle.std.proofs.lemmas.Nat.{mul-lt}
-use Rattle.std.specs.List.{count_by, sum_by}
+use Rattle.std.specs.List.{count_by}
 use Rattle.world_units.specs.declared.cell.CPos.{CPos}
-use Rattle.game_model.specs.Grid.{Grid, IsOn, HasSize, place_of}
+use Rattle.game_model.specs.Grid.{Grid, IsOn, place_of}
 use Rattle.grid_routes.specs.declared.field.TheConstants.{NONE}
 use Rattle.game_model.specs.Walks.{Land, IsStep, IsWalk}
 use Rattle.grid_routes.specs.Labels.{Distances, IsFull, IsRight, label_of, open_count}
-use Rattle.grid_routes.specs.Held.{Shelves, IsAt, IsHeld, emptied}
-use Rattle.grid_routes.specs.Steps.{AreQueued, HasLabel, IsClear, IsExpanded, IsMade, IsNext, IsSearch, Lowers, rings_left}
+use Rattle.grid_routes.specs.Held.{Shelves, IsAt, emptied}
+use Rattle.grid_routes.specs.Steps.{AreQueued, HasLabel, IsClear, IsExpanded, IsNext, IsSearch, Lowers, rings_left}
 use Rattle.grid_routes.proofs.Cells.{placed}
 use Rattle.grid_routes.proofs.Filling.{labelled-on}
 use Rattle.grid_routes.proofs.Lowering.{falls, level-stays, level-was, label-read}

@@ -1,18 +1,17 @@
 -- A field that begins is right up to level 0.
-use Rattle.std.proofs.Common.{◌≡◌, ◌≢◌, ℕ, ◌+◌, ◌*◌, ◌<◌, ◌≤◌, ◌⊎◌, inl, inr, Bool, true, false, cond, length, List, [], replicate, get_or, refl, ap, sym, ◌∙◌, arith, subst, length-set}
+use Rattle.std.proofs.Common.{◌≡◌, ℕ, ◌*◌, ◌<◌, ◌≤◌, inl, inr, Bool, true, false, cond, length, [], replicate, get_or, refl, ap, sym, ◌∙◌, arith, length-set}
 use Rattle.std.proofs.lemmas.List.Sums.{count_by-le-length}
 use Rattle.std.proofs.lemmas.List.{get_or-replicate, length-replicate}
 use Rattle.std.proofs.Math.ListN.{get_or-eq_default}
 use Rattle.std.proofs.lemmas.Bool.{cases_lt}
 use Rattle.world_units.specs.declared.cell.CPos.{CPos}
-use Rattle.game_model.specs.Grid.{Grid, HasSize, IsOn, is_on, place_of, with_cell}
+use Rattle.game_model.specs.Grid.{Grid, IsOn, is_on, place_of}
 use Rattle.grid_routes.specs.declared.field.TheConstants.{NONE}
 use Rattle.grid_routes.specs.Values.{value_in}
 use Rattle.grid_routes.specs.Tolls.{AreTolls, toll_in}
-use Rattle.game_model.specs.Walks.{Land, IsWalk}
-use Rattle.grid_routes.specs.Labels.{Distances, IsFull, IsRight, begun, label_of, open_count}
+use Rattle.grid_routes.specs.Labels.{Distances, IsFull, begun, label_of, open_count}
 use Rattle.grid_routes.specs.Held.{Shelves}
-use Rattle.grid_routes.specs.Steps.{IsFair, IsSearch, FitsTogether}
+use Rattle.grid_routes.specs.Steps.{IsSearch, FitsTogether}
 use Rattle.grid_routes.proofs.Best.{fair-of}
 use Rattle.grid_routes.proofs.Cells.{set-here, set-other}
 use Rattle.grid_routes.proofs.Lowering.{one-or-not}

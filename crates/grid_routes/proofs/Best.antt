@@ -1,5 +1,5 @@
 -- What final labels say: the distance, and the direction to take.
-use Rattle.std.proofs.Common.{◌≡◌, ◌≢◌, ℕ, zero, suc, ◌+◌, ◌*◌, ◌%◌, ◌<◌, ◌≤◌, ◌⊎◌, inl, inr, Bool, true, false, cond, length, List, [], ◌∷◌, Option, Some, None, MatchOption, refl, ap, sym, ◌∙◌, arith, subst}
+use Rattle.std.proofs.Common.{◌≡◌, ℕ, ◌+◌, ◌*◌, ◌<◌, ◌≤◌, ◌⊎◌, inl, inr, Bool, true, false, cond, length, List, [], ◌∷◌, Option, Some, None, MatchOption, refl, ap, ◌∙◌, arith, subst}
 use Rattle.std.proofs.lemmas.Bool.{cases_eq, cases_lt}
 use Rattle.std.proofs.lemmas.Nat.{mul-lt}
 use Rattle.world_units.specs.declared.cell.CPos.{CPos}
@@ -9,9 +9,12 @@ use Rattle.grid_routes.specs.Tolls.{AreTolls, toll_in}
 use Rattle.grid_routes.proofs.Cells.{is_on-on}
 use Rattle.grid_routes.specs.declared.field.TheConstants.{NONE}
 use Rattle.game_model.specs.Walks.{Land, IsStep, IsWalk, IsDistance, HasNoWalk, LeadsOn, IsBest, IsBestDirection, fare_of}
-use Rattle.grid_routes.specs.Labels.{Distances, IsRight, label_of}
+use Rattle.grid_routes.specs.Labels.{Distances, label_of}
 use Rattle.grid_routes.specs.Held.{Shelves}
 use Rattle.grid_routes.specs.Steps.{IsFair, IsSearch, IsLead, IsLeastLead}
+use Rattle.game_model.specs.declared.map.Map.{Map}
+use Rattle.game_model.specs.BestDirection.{best_dir_of}
+use Rattle.grid_routes.proofs.Distances.{IsNear, best-dir-is}
 
 zero-either : (b c : Bool) → ◌≡◌ {A = ℕ} (cond b (5 * 0) (cond c (7 * 0) 0)) 0
 zero-either true c = refl
@@ -204,3 +207,24 @@ pub no-direction :
     IsOn f.labels.width f.labels.height p → label_of f.labels p ≤ f.level → n ≡ NONE → n ≡ label_of f.labels p →
     (p ≡ land.goal) ⊎ HasNoWalk land p
 no-direction land f s search p n on final end is = inr (no-walk land f s search p on final (omega arith))
+
+-- A final label says how far the cell is, or that it has no walk.
+near-or-none :
+    (map : Map) (land : Land) (f : Distances) (s : Shelves) → IsSearch land f s → (p : CPos) →
+    IsOn map.width map.height p → HasSize map.width map.height f.labels → label_of f.labels p ≤ f.level →
+    IsNear map land p ⊎ HasNoWalk land p
+near-or-none map land f s search p on size final =
+    let here : IsOn f.labels.width f.labels.height p = record { column = rw size.width on.column; row = rw size.height on.row } in
+    let cells : length f.labels.cells ≡ map.width * map.height = search.full.size ∙ ap (λ n. n * f.labels.height) size.width ∙ ap (λ n. map.width * n) size.height in
+    elim (cases_lt (label_of f.labels p) NONE) [
+      | inl less ↦ inl (label_of f.labels p, omega (arith, search.right.small p less, cells), distance land f s search p here final less)
+      | inr end ↦ inr (no-walk land f s search p here final end)
+    ]
+
+-- The answer of a search is the best direction as a function.
+pub best-value :
+    (map : Map) (land : Land) (f : Distances) (s : Shelves) → IsSearch land f s → (p : CPos) →
+    IsOn map.width map.height p → HasSize map.width map.height f.labels → label_of f.labels p ≤ f.level →
+    (answer : Option ℕ) → IsBestDirection land p answer → answer ≡ best_dir_of map land p
+best-value map land f s search p on size final answer best =
+    best-dir-is map land p answer best (near-or-none map land f s search p on size final)

@@ -1,9 +1,9 @@
 -- What a cell's and a ring's expansion has done so far.
-use Rattle.std.proofs.Common.{◌≡◌, ◌≢◌, ℕ, ◌+◌, ◌*◌, ◌%◌, ◌<◌, ◌≤◌, ◌⊎◌, inl, inr, Bool, true, false, Some, length, List, refl, ap, sym, ◌∙◌, arith, subst}
-use Rattle.std.proofs.lemmas.Bool.{cases_eq, cases_lt}
+use Rattle.std.proofs.Common.{◌≡◌, ℕ, ◌+◌, ◌*◌, ◌%◌, ◌<◌, ◌≤◌, inl, inr, Some, refl, ap, sym, ◌∙◌, arith, subst}
+use Rattle.std.proofs.lemmas.Bool.{cases_eq}
 use Rattle.world_units.specs.declared.cell.CPos.{CPos}
 use Rattle.world_units.specs.Directions.{opposite_of, step_of}
-use Rattle.game_model.specs.Grid.{Grid, IsOn, HasSize}
+use Rattle.game_model.specs.Grid.{Grid, IsOn}
 use Rattle.game_model.specs.Walks.{IsStep}
 use Rattle.grid_routes.specs.Tolls.{toll_in}
 use Rattle.grid_routes.specs.Labels.{Distances, IsFull, label_of}

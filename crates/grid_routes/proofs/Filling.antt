@@ -1,12 +1,12 @@
 -- Buckets that are filled from the labels, cell by cell.
-use Rattle.std.proofs.Common.{◌≡◌, ◌≢◌, ℕ, ◌+◌, ◌*◌, ◌%◌, ◌<◌, ◌≤◌, ◌⊎◌, inl, inr, Bool, true, false, cond, length, List, refl, ap, sym, ◌∙◌, arith, subst}
-use Rattle.std.proofs.lemmas.Bool.{cases_eq, cases_lt}
+use Rattle.std.proofs.Common.{◌≡◌, ℕ, ◌+◌, ◌*◌, ◌%◌, ◌<◌, ◌≤◌, inl, inr, Bool, true, false, cond, length, refl, ap, sym, ◌∙◌, arith, subst}
+use Rattle.std.proofs.lemmas.Bool.{cases_eq}
 use Rattle.world_units.specs.declared.cell.CPos.{CPos}
-use Rattle.game_model.specs.Grid.{Grid, IsOn, is_on, place_of}
+use Rattle.game_model.specs.Grid.{Grid, IsOn, is_on}
 use Rattle.grid_routes.specs.declared.field.TheConstants.{NONE}
 use Rattle.grid_routes.specs.Values.{value_in}
 use Rattle.grid_routes.specs.Labels.{Distances, IsFull, label_of}
-use Rattle.grid_routes.specs.Held.{Shelves, IsAt, IsHeld, IsWhole, len_of, pushed}
+use Rattle.grid_routes.specs.Held.{Shelves, IsHeld, IsWhole, len_of, pushed}
 use Rattle.grid_routes.specs.Steps.{AreQueued, IsFilled}
 use Rattle.grid_routes.proofs.Cells.{placed, is_on-on}
 use Rattle.grid_routes.proofs.Lowering.{one-or-not}

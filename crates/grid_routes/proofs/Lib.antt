@@ -3,6 +3,7 @@ pub mod Beginning
 pub mod Best
 pub mod Cells
 pub mod Directions
+pub mod Distances
 pub mod Expanding
 pub mod Filling
 pub mod Lowering

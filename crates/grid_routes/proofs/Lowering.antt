@@ -1,16 +1,16 @@
 -- Labels that fall by steps into cells of one level.
-use Rattle.std.proofs.Common.{◌≡◌, ◌≢◌, ℕ, ◌+◌, ◌*◌, ◌%◌, ◌<◌, ◌≤◌, ◌⊎◌, inl, inr, not, nat_lt, Bool, true, false, cond, length, List, set, get_or, refl, ap, sym, ◌∙◌, arith, subst, length-set}
-use Rattle.std.proofs.lemmas.Bool.{cases_eq, cases_lt}
+use Rattle.std.proofs.Common.{◌≡◌, ◌≢◌, ℕ, ◌+◌, ◌%◌, ◌<◌, ◌≤◌, ◌⊎◌, inl, inr, not, nat_lt, cond, length, List, set, get_or, refl, ap, sym, ◌∙◌, arith, subst, length-set}
+use Rattle.std.proofs.lemmas.Bool.{cases_eq}
 use Rattle.std.proofs.lemmas.Bool.Decides.{nat_tests}
 use Rattle.std.proofs.lemmas.List.Sums.{sum_by-set}
-use Rattle.std.specs.List.{count_by, sum_by}
+use Rattle.std.specs.List.{count_by}
 use Rattle.world_units.specs.declared.cell.CPos.{CPos}
-use Rattle.game_model.specs.Grid.{Grid, IsOn, HasSize, place_of, with_cell}
+use Rattle.game_model.specs.Grid.{Grid, IsOn, place_of, with_cell}
 use Rattle.grid_routes.specs.declared.field.TheConstants.{NONE}
 use Rattle.grid_routes.specs.Values.{value_in}
 use Rattle.game_model.specs.Walks.{IsStep}
 use Rattle.grid_routes.specs.Labels.{IsFull, label_of, open_count}
-use Rattle.grid_routes.specs.Held.{Shelves, IsAt, IsHeld, IsWhole, pushed, len_of}
+use Rattle.grid_routes.specs.Held.{Shelves, IsWhole, pushed}
 use Rattle.grid_routes.specs.Steps.{IsMade, Lowers, IsExpanded}
 use Rattle.grid_routes.proofs.Cells.{placed, set-here, set-other, is_on-true}
 use Rattle.grid_routes.proofs.Shelves.{pushed-kept, pushed-held, pushed-others, pushed-lost, pushed-room}

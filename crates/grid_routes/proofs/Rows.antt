@@ -1,14 +1,13 @@
 -- Tolls that are laid cell by cell, row by row.
-use Rattle.std.proofs.Common.{◌≡◌, ◌≢◌, ℕ, ◌+◌, ◌*◌, ◌<◌, ◌≤◌, ◌⊎◌, inl, inr, ◌&&◌, ◌||◌, not, nat_lt, Bool, true, false, cond, length, List, refl, ap, sym, ◌∙◌, arith}
+use Rattle.std.proofs.Common.{◌≡◌, ◌≢◌, ℕ, ◌+◌, ◌<◌, ◌≤◌, inl, inr, Bool, true, false, cond, refl, ap, sym, ◌∙◌, arith}
 use Rattle.std.proofs.lemmas.Bool.{cases_eq}
 use Rattle.world_units.specs.declared.cell.CPos.{CPos}
-use Rattle.world_units.specs.Cells.{same_cell}
 use Rattle.rule_traits.specs.declared.trait_fields.Costs.{Costs}
 use Rattle.game_model.specs.declared.terrain.Terrain.{Terrain}
-use Rattle.game_model.specs.Grid.{Grid, IsOn, HasSize, is_on, at_cell, with_cell}
+use Rattle.game_model.specs.Grid.{Grid, IsOn, HasSize, is_on, with_cell}
 use Rattle.grid_routes.specs.Values.{value_in}
 use Rattle.grid_routes.specs.Tolls.{AreTolls, toll_in}
-use Rattle.game_model.specs.Walks.{toll_of, cost_at, holds}
+use Rattle.game_model.specs.Walks.{toll_of}
 use Rattle.grid_routes.proofs.Cells.{set-here, set-other, is_on-on}
 
 abbrev pub at : ℕ → ℕ → CPos

@@ -1,5 +1,5 @@
 -- Buckets after a cell is put in or a bucket is emptied.
-use Rattle.std.proofs.Common.{◌≡◌, ◌≢◌, ℕ, ◌+◌, ◌*◌, ◌<◌, ◌≤◌, ◌⊎◌, inl, inr, Bool, true, false, length, List, set, get_or, refl, ap, sym, ◌∙◌, arith, get_or-set_other, get_or-set_same, cond, nat_lt}
+use Rattle.std.proofs.Common.{◌≡◌, ◌≢◌, ℕ, ◌+◌, ◌*◌, ◌<◌, ◌≤◌, ◌⊎◌, inl, inr, true, false, length, set, get_or, refl, ap, sym, ◌∙◌, arith, get_or-set_other, get_or-set_same, nat_lt}
 use Rattle.std.proofs.lemmas.Nat.{mul-add-lt, same_from_place}
 use Rattle.std.proofs.lemmas.Bool.{cases_eq, cond_both, ltb-true, ltb-false}
 use Rattle.std.proofs.lemmas.List.{get_or_default}

@@ -1,10 +1,10 @@
 -- A route that follows the best directions, cell by cell.
-use Rattle.std.proofs.Common.{◌≡◌, ◌≢◌, ℕ, ◌+◌, ◌*◌, ◌<◌, ◌≤◌, ◌⊎◌, inl, inr, length, List, [], ◌∷◌, ◌++◌, Option, Some, None, refl, ap, sym, ◌∙◌, arith, subst, append_assoc, append-nil}
+use Rattle.std.proofs.Common.{◌≡◌, ℕ, ◌+◌, ◌<◌, ◌≤◌, List, [], ◌∷◌, ◌++◌, Some, refl, ap, sym, ◌∙◌, arith, subst, append_assoc, append-nil}
 use Rattle.world_units.specs.declared.cell.CPos.{CPos}
 use Rattle.world_units.specs.Directions.{step_of}
-use Rattle.game_model.specs.Grid.{Grid, IsOn}
+use Rattle.game_model.specs.Grid.{IsOn}
 use Rattle.grid_routes.specs.declared.field.TheConstants.{NONE}
-use Rattle.game_model.specs.Walks.{Land, IsStep, IsWalk, IsBest, IsDistance, IsRouteOver, FollowsBest}
+use Rattle.game_model.specs.Walks.{Land, IsStep, IsWalk, IsRouteOver, FollowsBest}
 use Rattle.grid_routes.specs.Labels.{Distances, label_of}
 use Rattle.grid_routes.specs.Held.{Shelves}
 use Rattle.grid_routes.specs.Steps.{IsSearch, IsLead, IsLeastLead, IsOnward}

@@ -1,6 +1,7 @@
 ghost use Rattle.std.specs.Prelude.{◌≡◌, ◌+◌, ◌-◌, ◌^◌, ◌≤◌, min, IfOk};
 ghost use Rattle.game_model.specs.Grid.{IsOn, HasSize};
 ghost use Rattle.grid_routes.specs.Tolls.{IsCheap, toll_in};
+ghost use Rattle.game_model.specs.BestDirection.{best_dir_of};
 ghost use Rattle.game_model.specs.Walks.{IsBestDirection, land_of, toll_of};
 ghost use Rattle.grid_routes.specs.Labels.{label_of};
 ghost use Rattle.grid_routes.specs.Routing.{AreSized, IsSameSize};
@@ -69,6 +70,7 @@ impl Router {
         requires costs { IsCheap costs.now }
         requires from { IsOn map.now.width map.now.height from }
         requires goal { IsOn map.now.width map.now.height goal }
+        ensures value { result ≡ best_dir_of map.now (land_of map.now blocks.now costs.now goal) from }
         ensures best { IsBestDirection (land_of map.now blocks.now costs.now goal) from result }
         ensures size { IsSameSize self.old self.new }
         ensures computed { self.new.computed ≡ min (self.old.computed + 1) (2 ^ 64 - 1) }

@@ -118,7 +118,7 @@ impl Tolls {
     }
 
     /// What the step from a cell in direction `d` costs that enters `q`, 0 where it isn't allowed.
-    #[tactic(auto, unfolding(crate::specs::Walks::fare_of))]
+    #[tactic(auto, unfolding(game_model::specs::Walks::fare_of))]
     pub(crate) fn fare(&self, p: CPos, d: u8, q: CPos) -> u32
         requires { d < 8 }
         ensures value { result ≡ fare_of (toll_in self.now) p d q }
@@ -135,7 +135,7 @@ impl Tolls {
 }
 
 /// What it costs to enter a cell on the way to a goal, 0 where it can't be entered.
-#[tactic(auto, unfolding(crate::specs::Walks::toll_of))]
+#[tactic(auto, unfolding(game_model::specs::Walks::toll_of))]
 fn toll_of(map: &Map, blocks: &Blocks, costs: &Costs, goal: CPos, p: CPos) -> u8
     requires terrain { IsOn map.now.terrain.width map.now.terrain.height p }
     requires blocks { IsOn blocks.now.width blocks.now.height p }

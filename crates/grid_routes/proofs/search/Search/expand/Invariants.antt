@@ -1,5 +1,3 @@
-use Rattle.std.proofs.Common.{◌≡◌, ℕ}
-use Rattle.grid_routes.specs.Tolls.{toll_in}
 use Rattle.grid_routes.proofs.Expanding.{Offered}
 use Rattle.grid_routes.proofs.search.Search.expand.Given as goal
 

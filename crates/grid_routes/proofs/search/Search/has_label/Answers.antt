@@ -1,4 +1,4 @@
-use Rattle.std.proofs.Common.{◌≡◌, ℕ, ◌∙◌, inl, inr, sym, ap, arith, subst}
+use Rattle.std.proofs.Common.{ℕ, ◌∙◌, inl, inr, sym, ap, arith, subst}
 use Rattle.std.proofs.lemmas.Bool.{cases_eq}
 use Rattle.grid_routes.specs.Labels.{label_of}
 use Rattle.grid_routes.specs.Held.{IsAt}

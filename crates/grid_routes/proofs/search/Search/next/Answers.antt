@@ -1,4 +1,3 @@
-use Rattle.std.proofs.Common.{arith}
 use Rattle.grid_routes.specs.Tolls.{toll_in}
 use Rattle.grid_routes.proofs.Walking.{leads-somewhere, onward}
 use Rattle.grid_routes.proofs.search.Search.next.Goals as goal

@@ -1,6 +1,5 @@
 use Rattle.std.proofs.Common.{◌≡◌, ℕ, ◌+◌, ◌≤◌, ◌∙◌, Some, subst, sym}
 use Rattle.world_units.specs.declared.cell.CPos.{CPos}
-use Rattle.world_units.specs.Directions.{opposite_of}
 use Rattle.grid_routes.specs.Tolls.{toll_in}
 use Rattle.game_model.specs.Walks.{IsStep}
 use Rattle.grid_routes.specs.Labels.{label_of}

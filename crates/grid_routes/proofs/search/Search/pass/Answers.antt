@@ -1,6 +1,5 @@
 use Rattle.grid_routes.specs.Tolls.{toll_in}
 use Rattle.grid_routes.proofs.Advancing.{passed, passed-fewer}
-use Rattle.std.proofs.Common.{arith}
 use Rattle.grid_routes.proofs.search.Search.pass.Goals as goal
 
 pub returns-clause-search : goal.returns-clause-search

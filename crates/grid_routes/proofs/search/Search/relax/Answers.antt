@@ -1,8 +1,7 @@
-use Rattle.std.proofs.Common.{◌≡◌, ℕ, ◌+◌, ◌<◌, ◌∙◌, sym, arith}
-use Rattle.game_model.specs.Grid.{with_cell}
+use Rattle.std.proofs.Common.{◌≡◌, ◌+◌, ◌<◌, ◌∙◌, sym, arith}
 use Rattle.grid_routes.specs.declared.field.TheConstants.{NONE}
 use Rattle.grid_routes.specs.Tolls.{toll_in}
-use Rattle.game_model.specs.Walks.{IsStep, fare_of}
+use Rattle.game_model.specs.Walks.{IsStep}
 use Rattle.grid_routes.specs.Labels.{label_of}
 use Rattle.grid_routes.proofs.Cells.{set-here}
 use Rattle.grid_routes.proofs.Lowering.{relaxed}

@@ -1,6 +1,5 @@
-use Rattle.std.proofs.Common.{◌≡◌, ℕ, ◌∙◌, sym, ap, arith}
-use Rattle.grid_routes.specs.Labels.{label_of}
-use Rattle.grid_routes.proofs.Expanding.{full-stays, ringed-none, ringed-skip, ringed-step}
+use Rattle.std.proofs.Common.{◌∙◌, arith}
+use Rattle.grid_routes.proofs.Expanding.{ringed-none, ringed-skip, ringed-step}
 use Rattle.grid_routes.proofs.search.Search.ring.Goals as goal
 use Rattle.grid_routes.proofs.search.Search.ring.Goals.{then-label-level, else-label-level}
 

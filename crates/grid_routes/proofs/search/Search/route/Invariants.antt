@@ -1,4 +1,3 @@
-use Rattle.std.proofs.Common.{◌≡◌}
 use Rattle.grid_routes.specs.Tolls.{toll_in}
 use Rattle.grid_routes.specs.Labels.{label_of}
 use Rattle.grid_routes.proofs.Walking.{RouteSoFar}

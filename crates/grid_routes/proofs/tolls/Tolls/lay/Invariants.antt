@@ -1,4 +1,3 @@
-use Rattle.std.proofs.Common.{◌≡◌}
 use Rattle.game_model.specs.Walks.{toll_of}
 use Rattle.grid_routes.proofs.Rows.{RowsSoFar}
 use Rattle.grid_routes.proofs.tolls.Tolls.lay.Given as goal

@@ -1,0 +1,29 @@
+-- What a step sees of the world around its actor, and what it asks of it.
+use Rattle.std.specs.Prelude.{◌≡◌, ◌<◌, Bool, IfSome}
+use Rattle.world_units.specs.declared.direction.TheConstants.{DIRECTIONS}
+use Rattle.game_model.specs.declared.actor.Actor.{Actor}
+use Rattle.game_model.specs.declared.actor.Leg.{Leg}
+use Rattle.game_model.specs.declared.ground.Ground.{Ground}
+use Rattle.game_model.specs.declared.map.Map.{Map}
+use Rattle.game_model.specs.Grid.{Grid}
+use Rattle.game_model.specs.Setup.{Setup}
+use Rattle.actor_table.specs.Table.{Table}
+use Rattle.grid_routes.specs.Routing.{Routing, AreSized}
+
+-- The rules and the map of a ground.
+abbrev pub setup_in : Ground → Setup
+setup_in g = record { rules = g.rules.now; map = g.map.now }
+
+-- The cells of a ground on which a building stands.
+abbrev pub built_in : Ground → Grid Bool
+built_in g = g.blocks.now
+
+-- The table, the router and the blocks have the map's size, and the map a terrain for each cell.
+pub record FitsMap (map : Map) (built : Grid Bool) (table : Table) (router : Routing) : Type 0 where
+  pub wide : table.width ≡ map.width
+  pub high : table.height ≡ map.height
+  pub routes : AreSized router map built
+
+-- The leg of the actor, if it is on one, has one of the eight directions.
+abbrev pub HasDirection : Actor → Type 0
+HasDirection a = IfSome a.body.leg (λ leg. leg.dir < DIRECTIONS)
