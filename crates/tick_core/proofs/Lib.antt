@@ -1,2 +1,3 @@
 pub mod TickLemmas
 pub mod BurialLemmas
+pub mod TouchedLemmas

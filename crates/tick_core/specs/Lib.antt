@@ -3,3 +3,4 @@ pub mod Burial
 pub mod Game
 pub mod Live
 pub mod Idle
+pub mod Touched
