@@ -7,3 +7,13 @@ pub mod Harvesting
 pub mod Building
 pub mod Orders
 pub mod Turn
+pub mod Tick
+pub mod ChangesLemmas
+pub mod SoundLemmas
+pub mod MovingLemmas
+pub mod AttackingLemmas
+pub mod HarvestingLemmas
+pub mod BuildingLemmas
+pub mod TurnLemmas
+pub mod OrdersLemmas
+pub mod TickLemmas

@@ -5,8 +5,10 @@
 //! steps towards a cell share.
 #![tactic(auto)]
 
+mod law;
 mod limits;
 mod moving;
 
+pub use law::{orders_valid, ticks_valid};
 pub use limits::LAST_ID;
 pub use moving::Moving;

@@ -2,7 +2,6 @@
 use Rattle.std.specs.Prelude.{◌≡◌, ◌<◌, Bool, IfSome}
 use Rattle.world_units.specs.declared.direction.TheConstants.{DIRECTIONS}
 use Rattle.game_model.specs.declared.actor.Actor.{Actor}
-use Rattle.game_model.specs.declared.actor.Leg.{Leg}
 use Rattle.game_model.specs.declared.ground.Ground.{Ground}
 use Rattle.game_model.specs.declared.map.Map.{Map}
 use Rattle.game_model.specs.Grid.{Grid}

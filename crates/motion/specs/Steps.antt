@@ -1,12 +1,19 @@
 -- What a step makes of the actors, where the actor is given by its id and the activity by its value.
-use Rattle.std.specs.Prelude.{ℕ, Bool, List, Option, Some, None}
+use Rattle.std.specs.Prelude.{◌≡◌, ℕ, Bool, List, Option, Some, None}
 use Rattle.world_units.specs.declared.cell.CPos.{CPos}
 use Rattle.activities.specs.declared.activity.Activity.{Activity}
 use Rattle.activities.specs.declared.activity.Activity.TheVariants.{Move, Attack, Harvest, Deliver}
 use Rattle.game_model.specs.declared.actor.Actor.{Actor}
 use Rattle.game_model.specs.Grid.{Grid}
 use Rattle.game_model.specs.Setup.{Setup}
-use Rattle.game_tick.specs.Moving.{after_move, gone_towards}
+use Rattle.game_tick.specs.declared.moving.Moving.{Moving}
+use Rattle.game_tick.specs.Moving.{Moved, after_move, gone_towards}
+use Rattle.actor_table.specs.Table.{Table}
+
+-- The table has the actors of a step towards a cell, and the call the answer of the step.
+pub record IsMoved (old new : Table) (ended : Moving) (moved : Moved) : Type 0 where
+  pub actors : new ≡ record old { actors = moved.actors }
+  pub answer : ended ≡ moved.answer
 
 -- How many steps in a row the actor of the activity has waited.
 abbrev pub waits_of : Activity → ℕ

@@ -1,11 +1,15 @@
-ghost use Rattle.std.specs.Prelude.{◌≡◌, false, Some};
+ghost use Rattle.std.specs.Prelude.{◌≡◌, ◌<◌, false, IsSome, Some};
+ghost use Rattle.world_units.specs.Angles.{dir_angle_of};
+ghost use Rattle.world_units.specs.Turning.{turn_of};
+ghost use Rattle.game_model.specs.declared.actor.Actor.{Actor};
 ghost use Rattle.game_model.specs.ActorChanges.{changed_at, with_body};
 ghost use Rattle.game_model.specs.Grid.{IsOn};
 ghost use Rattle.game_model.specs.World.{actor_of, is_occupied};
-ghost use Rattle.game_tick.specs.Moving.{Moved, moved_by_id, waiting_after};
+ghost use Rattle.game_tick.specs.Kinds.{kind_of, turning_in};
+ghost use Rattle.game_tick.specs.Moving.{moved_by_id, moved_into, set_out, waiting_after};
 ghost use Rattle.grid_routes.specs.Routing.{IsSameSize};
 ghost use Rattle.motion.specs.Ground.{FitsMap, built_in, setup_in};
-ghost use Rattle.motion.specs.Steps.{gone_by_id, after_move_by_id};
+ghost use Rattle.motion.specs.Steps.{IsMoved, gone_by_id, after_move_by_id};
 
 use crate::acts::{go_on, pop_head, waits_of};
 use crate::fields::{costs_of, speed_of, turning_of};
@@ -15,7 +19,8 @@ use actor_table::ActorTable;
 use game_model::{Ground, Leg, MAX_WAITS};
 use game_tick::Moving;
 use grid_routes::Router;
-use world_units::{CPos, dir_angle, step, turn_towards};
+use rule_traits::Rules;
+use world_units::{CPos, DIRECTIONS, dir_angle, step, turn_towards};
 
 /// One more wait. At [`MAX_WAITS`] the actor gives up.
 fn waiting_after(waits: u8) -> Moving
@@ -27,6 +32,67 @@ fn waiting_after(waits: u8) -> Moving
     } else {
         Moving::GivenUp
     }
+}
+
+/// Turns the actor of an id, if it is there, towards a direction, by what its kind turns in a turn.
+fn turn(t: &mut ActorTable, rules: &Rules, id: u32, d: u8)
+    requires { d < DIRECTIONS }
+    ensures { (a : Actor) → actor_of t.old.actors id ≡ Some a → t.new ≡ record t.old {
+      actors =
+          with_body t.old.actors a.id (record a.body {
+            facing = turn_of a.body.facing
+                (dir_angle_of d) (turning_in (kind_of rules.now a.kind).mobile);
+          });
+    } }
+{
+    let Some(a) = t.get(id) else {
+        return;
+    };
+    let mut body = a.body.copy();
+    body.facing = turn_towards(body.facing, dir_angle(d), turning_of(rules, a.kind));
+    t.swap_body(id, &mut body);
+}
+
+/// The actor of an id, which is there, sets out for a free cell in a direction: it holds that cell
+/// from now on, and begins a leg with its first step.
+fn set_out(t: &mut ActorTable, rules: &Rules, id: u32, d: u8, next: CPos)
+    requires there { IsSome (actor_of t.old.actors id) }
+    requires direction { d < DIRECTIONS }
+    requires on { IsOn t.old.width t.old.height next }
+    requires free { is_occupied t.old.actors next ≡ false }
+    ensures { (a : Actor) → actor_of t.old.actors id ≡ Some a → t.new ≡ record t.old {
+      actors =
+          changed_at t.old.actors id (set_out (kind_of rules.now a.kind) d next);
+    } }
+{
+    let _ids_rise = t.len();
+    let Some(a) = t.get(id) else {
+        return;
+    };
+    let mut body = a.body.copy();
+    let leg = Leg {
+        dir: d,
+        progress: 0,
+    };
+    body.leg = leg_after(speed_of(rules, a.kind), Some(leg));
+    t.move_to(id, next);
+    t.swap_body(id, &mut body);
+}
+
+/// The actor of an id, which is there and faces a cell in a direction, waits where that cell is
+/// occupied, after so many waits in a row, and else sets out.
+fn enter(t: &mut ActorTable, rules: &Rules, id: u32, d: u8, next: CPos, waits: u8) -> Moving
+    requires there { IsSome (actor_of t.old.actors id) }
+    requires direction { d < DIRECTIONS }
+    requires on { IsOn t.old.width t.old.height next }
+    ensures { (a : Actor) → actor_of t.old.actors id ≡ Some a → IsMoved t.old t.new result
+        (moved_into (kind_of rules.now a.kind) t.old.actors id waits d (Some next)) }
+{
+    if t.at_cell(next).is_some() {
+        return waiting_after(waits);
+    }
+    set_out(t, rules, id, d, next);
+    Moving::Going(0)
 }
 
 /// A step of the actor of an id towards a cell of the map, after so many waits in a row. It turns
@@ -45,21 +111,27 @@ pub fn move_step(
 ) -> Moving
     requires fits { FitsMap g.now.map.now (built_in g.now) t.old r.old }
     requires goal { IsOn g.now.map.now.width g.now.map.now.height goal }
-    ensures moved { let moved = moved_by_id (setup_in g.now) (built_in g.now) t.old.actors goal
-        waits (actor_of t.old.actors id) in
-        (t.new ≡ record t.old { actors = moved.actors }) × (result ≡ moved.answer) }
+    ensures moved { IsMoved t.old t.new result (moved_by_id (setup_in g.now) (built_in g.now)
+        t.old.actors goal waits (actor_of t.old.actors id)) }
     ensures router { IsSameSize r.old r.new }
 {
     let _on_map = t.len();
     let Some(a) = t.get(id) else {
         return Moving::GivenUp;
     };
-    let (kind, cell) = (a.kind, a.cell);
-    let costs = costs_of(g.rules, kind);
+    let (cell, facing) = (a.cell, a.body.facing);
+    let costs = costs_of(g.rules, a.kind);
     let Some(d) = r.best_dir(g.map, g.blocks, &costs, cell, goal) else {
         return Moving::GivenUp;
     };
-    Moving::GivenUp
+    if facing.units() != dir_angle(d).units() {
+        turn(t, g.rules, id, d);
+        return Moving::Going(waits);
+    }
+    match step(cell, d) {
+        Some(next) => enter(t, g.rules, id, d, next, waits),
+        None => Moving::GivenUp,
+    }
 }
 
 /// A step of the actor of an id towards a cell of the map, at the activity that leads there. The

@@ -1,0 +1,5 @@
+use Rattle.game_tick.specs.TickLemmas.{tick_valid}
+use Rattle.game_tick.proofs.law.ticks_valid.Goals as goal
+
+pub returns : goal.returns
+returns c = λ setup frames w frame is valid. tick_valid setup frames w frame is.map valid
