@@ -4,3 +4,4 @@ pub mod Game
 pub mod Live
 pub mod Idle
 pub mod Touched
+pub mod Scene
