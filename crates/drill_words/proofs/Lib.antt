@@ -2,4 +2,5 @@ pub mod WordsLemmas
 pub mod KeptLineLemmas
 pub mod OrderListLemmas
 pub mod DrillLemmas
+pub mod ScriptLemmas
 pub mod EventListLemmas

@@ -10,6 +10,9 @@ pub mod EventView
 pub mod EventList
 pub mod DrillFault
 pub mod Drill
+pub mod Scripts
+pub mod ScriptLine
+pub mod Script
 pub mod Text
 pub mod ReadLemmas
 pub mod SpacedLemmas

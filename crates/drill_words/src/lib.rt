@@ -1,11 +1,13 @@
-//! The text of drills: written network schedules of one match.
+//! The text of drills, written network schedules of one match, and of scripts, which are what each
+//! client of a match plays.
 //!
-//! `read_drill` returns the [`Drill`] that a file's bytes write, or the first fault with its line.
+//! `read_drill` returns the [`Drill`] that a file's bytes write, or the first fault with its line,
+//! and `read_script` the [`Scripts`] with the seed.
 //! The crate stands on `base` for lines and numbers, and on `game_orders` for orders and the limits
 //! of a match. Its definitions go from the text inward: the kept lines and their words
 //! (`specs/KeptLine.antt`, `specs/Words.antt`), how words are read (`specs/Read.antt`), the line of
 //! a match and of an event (`specs/MatchLine.antt`, `specs/EventLine.antt`), and the whole file
-//! (`specs/Drill.antt`). The canonical text of a drill (`specs/Text.antt`) is read back as exactly
+//! (`specs/Drill.antt`; of a script `specs/ScriptLine.antt` and `specs/Script.antt`). The canonical text of a drill (`specs/Text.antt`) is read back as exactly
 //! this drill ([`lines_read_back`]).
 #![tactic(auto)]
 
@@ -25,6 +27,10 @@ mod match_line;
 mod order_list;
 mod order_word;
 mod reading;
+mod script_line;
+mod script_reading;
+mod script_words;
+mod scripts;
 mod seal_orders;
 mod word_cursor;
 mod word_fault;
@@ -38,7 +44,11 @@ pub use hash::HASH_DIGITS;
 pub use law::lines_read_back;
 pub use limits::{MAX_DRILL_BYTES, MAX_EVENTS};
 pub use reading::read_drill;
+pub use script_reading::read_script;
+pub use scripts::Scripts;
 pub use seal_orders::SealOrders;
 
+#[cfg(test)]
+mod script_tests;
 #[cfg(test)]
 mod tests;

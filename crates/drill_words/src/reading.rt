@@ -92,7 +92,7 @@ fn read_event_on(
 }
 
 /// The fault of a line, by that of its word.
-fn fault_at(fault: WordFault, line: u32) -> DrillFault
+pub(crate) fn fault_at(fault: WordFault, line: u32) -> DrillFault
     ensures { result ≡ at_line line fault }
 {
     match fault {

@@ -12,7 +12,7 @@ use Rattle.frame_table.specs.declared.planned.Planned.TheVariants.{Free, Plays}
 use Rattle.frame_table.specs.Part.{Part}
 use Rattle.frame_table.specs.Word.{word_for, word_of, seen_of, whole_of}
 use Rattle.frame_table.specs.Rule.{IsReach, Follows}
-use Rattle.frame_table.specs.Steps.{IsFurther, MayAdd, MayEnd, MayBecome, known_after}
+use Rattle.frame_table.specs.Steps.{IsFurther, MayAdd, MayEnd, MayBecome, known_after, IsWithinPlan}
 
 -- the two parts of a column
 columns_same : (K L : Column) → K.plays ≡ L.plays → K.left ≡ L.left → K ≡ L
@@ -129,3 +129,11 @@ after_known (Plays plays) k K follows grows =
 
 pub after_free : (q : Planned) (seen : Seen) (k : Column) → q ≡ Free → known_after q seen k ≡ k
 after_free q seen k free = ap (λ p. known_after p seen k) free
+
+-- all of a column is of its plan
+pub whole_within : (q : Planned) (K : Column) → Follows q K → IsWithinPlan q (whole_of K)
+whole_within Free K follows = tt
+whole_within (Plays plays) K follows =
+    let l = ap length follows.0.1 in
+    let m = length-append K.plays follows.0.0 in
+    (omega arith, follows.1)

@@ -17,7 +17,8 @@ use Rattle.frame_table.specs.Rule.{planned_of, Keeps, IsKept, Fits, Follows}
 use Rattle.frame_table.specs.Steps.{Slot, Meets}
 use Rattle.frame_table.specs.Passes.{kept_mark, given_mark, kept_view, given_view, size_of, longer, shorter, joined_mark, joined_view, spent_view, first_mark, first_view, is_free}
 use Rattle.frame_table.proofs.Lists.{map_set, map_snoc, index_some}
-use Rattle.frame_table.proofs.SplitJoin.{handed, kept_split, kept_joined, agree, joined_at, joined_length, given_length, lt_true, lt_false}
+use Rattle.frame_table.specs.PassesLemmas.{handed, joined_at, joined_length, given_length, first_at, first_length}
+use Rattle.frame_table.proofs.SplitJoin.{kept_split, kept_joined, agree, lt_true, lt_false}
 
 module _ (plan : List Planned) (id : ℕ) (v : View) where
   pub splits : 1 < v.share → Splits (IsKept plan) id v (kept_view v) (given_view v)
@@ -112,15 +113,6 @@ at_replicate : {A : Type 0} (n i : ℕ) (a : A) → i < n → get_elem? (replica
 at_replicate zero i a below = absurd (omega arith)
 at_replicate (suc n) zero a below = refl
 at_replicate (suc n) (suc i) a below = at_replicate n i a (omega arith)
-
-pub first_at : (plan : List Planned) (c : ℕ) → c < length plan → get_or (map first_mark plan) c no_mark ≡ first_mark (get_or plan c Free)
-first_at [] c below = absurd (omega arith)
-first_at (p ∷ plan) zero below = refl
-first_at (p ∷ plan) (suc c) below = first_at plan c (omega arith)
-
-pub first_length : (plan : List Planned) → length (map first_mark plan) ≡ length plan
-first_length [] = refl
-first_length (p ∷ plan) = ap suc (first_length plan)
 
 first_held : (planned : Planned) (share : ℕ) → (part_in share (first_mark planned)).held ≡ []
 first_held planned share = refl

@@ -17,9 +17,9 @@ use Rattle.frame_table.specs.declared.view.Mark.{Mark}
 use Rattle.frame_table.specs.Part.{Part, part_of, part_in, no_mark, OthersStay}
 use Rattle.frame_table.specs.Word.{word_of, seen_of, whole_of}
 use Rattle.frame_table.specs.Rule.{planned_of, home_of, Keeps, IsKept}
-use Rattle.frame_table.specs.Steps.{Slot, IsFurther, loaded, holding, Loads, Takes, Publishes, GivesBack, published, held_in, MayBecome}
+use Rattle.frame_table.specs.Steps.{Slot, IsFurther, loaded, holding, Loads, Takes, Publishes, GivesBack, published, held_in, MayBecome, IsWithinPlan}
 use Rattle.frame_table.proofs.Lists.{set_some, get_or_set, get_or_other, length_set, map_set, index_some}
-use Rattle.frame_table.proofs.Growth.{seen_whole, plays_of_word, unlocked, locked_word, further_whole}
+use Rattle.frame_table.proofs.Growth.{seen_whole, plays_of_word, unlocked, locked_word, further_whole, whole_within}
 use Rattle.frame_table.proofs.OneColumn.{kept_loaded, kept_held, kept_found, kept_given, kept_published}
 
 abbrev pub Now : Type 0
@@ -93,6 +93,7 @@ module _ (plan : List Planned) (slots id : ℕ) (v : View) (carried : List (ℕ 
           subst (IsFurther (part_of c v).reach) (sym shows) (further_whole K (part_of c v).reach (one.fits id (part_of c v) there).reach),
           subst (λ (r : Part). GrowsTo (part_of c v).known r.known) (sym is_now) held_so.0,
           subst (λ n. n ≤ 262144) (sym (ap (λ n. n / 4) found ∙ plays_of_word K one.locked)) frames,
+          subst (IsWithinPlan (part_of c v).planned) (sym shows) (subst (λ q. IsWithinPlan q (whole_of K)) (sym ((one.fits id (part_of c v) there).plan some_share)) (whole_within (planned_of plan c) K one.follows)),
         ),
       )
 

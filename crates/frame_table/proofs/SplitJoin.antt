@@ -16,34 +16,10 @@ use Rattle.frame_table.specs.Part.{Part, part_in, no_mark}
 use Rattle.frame_table.specs.Word.{one_if}
 use Rattle.frame_table.specs.Rule.{IsReach, IsWithinReach, Fits, total, Keeps}
 use Rattle.frame_table.specs.Steps.{Slot}
-use Rattle.frame_table.specs.Passes.{kept_mark, given_mark, kept_marks, given_marks, size_of, longer, shorter, further, known_in, joined_mark, joined_marks}
+use Rattle.frame_table.specs.Passes.{kept_mark, given_mark, size_of, longer, shorter, further, known_in, joined_mark}
 use Rattle.frame_table.proofs.Lists.{total_set, total_snoc, all_set}
 use Rattle.frame_table.proofs.Growth.{grows_length}
 use Rattle.frame_table.proofs.OneColumn.{share_in, made_in, feeds_in}
-
-abbrev IsHanded : Bool → Mark → Mark → Mark → Type 0
-IsHanded b mark kept given =
-    (kept ≡ kept_mark b mark) × (given ≡ given_mark b mark) × (b ≡ true → mark.feeds ≡ true)
-
-abbrev Handed : List Mark → ℕ → Type 0
-Handed marks c =
-    (b : Bool) × IsHanded b (get_or marks c no_mark) (get_or (kept_marks marks) c no_mark) (get_or (given_marks marks) c no_mark)
-
-unfed : (ms : List Mark) (d : ℕ) → get_or (map (given_mark false) ms) d no_mark ≡ given_mark false (get_or ms d no_mark)
-unfed [] d = refl
-unfed (m ∷ ms) zero = refl
-unfed (m ∷ ms) (suc d) = unfed ms d
-
-handed_by : (mark : Mark) (marks : List Mark) (feeds : Bool) → mark.feeds ≡ feeds → (d : ℕ) → ((e : ℕ) → Handed marks e) → Handed (mark ∷ marks) d
-handed_by mark marks true is zero rest = (true, (rw is refl, rw is refl, λ _. is))
-handed_by mark marks true is (suc d) rest = (false, (rw is refl, rw is (unfed marks d), λ no. absurd (true≢false (sym no))))
-handed_by mark marks false is zero rest = (false, (rw is refl, rw is refl, λ no. absurd (true≢false (sym no))))
-handed_by mark marks false is (suc d) rest = let r = rest d in (r.0, (rw is r.1.0, rw is r.1.1, r.1.2))
-
--- which right is handed over
-pub handed : (marks : List Mark) (c : ℕ) → Handed marks c
-handed [] c = (false, (refl, refl, λ is. absurd (true≢false (sym is))))
-handed (mark ∷ marks) c = handed_by mark marks mark.feeds refl c (λ e. handed marks e)
 
 module _ (planned : Planned) (word : Option ℕ) (home : Option (Option Slot)) (parts : List Part) (id : ℕ) (share : ℕ) (m : Mark) where
   -- a pass is split in two
@@ -278,33 +254,3 @@ module _ (planned : Planned) (word : Option ℕ) (home : Option (Option Slot)) (
             met = shorter_fits K (known_in a) (known_in b) was.known theirs.known;
             poor = λ none_of_it. absurd (omega arith);
           }
-
-pub joined_at : (xs ys : List Mark) (c : ℕ) → c < length xs → c < length ys → get_or (joined_marks xs ys) c no_mark ≡ joined_mark (get_or xs c no_mark) (get_or ys c no_mark)
-joined_at [] ys c n m = absurd (omega arith)
-joined_at (a ∷ xs) [] c n m = absurd (omega arith)
-joined_at (a ∷ xs) (b ∷ ys) zero n m = refl
-joined_at (a ∷ xs) (b ∷ ys) (suc c) n m = joined_at xs ys c (omega arith) (omega arith)
-
-pub joined_length : (xs ys : List Mark) → length (joined_marks xs ys) ≡ length xs
-joined_length [] ys = refl
-joined_length (a ∷ xs) [] = refl
-joined_length (a ∷ xs) (b ∷ ys) = ap suc (joined_length xs ys)
-
-pub given_length : (ms : List Mark) → (length (kept_marks ms) ≡ length ms) × (length (given_marks ms) ≡ length ms)
-given_length [] = (refl, refl)
-given_length (m ∷ ms) = by m.feeds refl (given_length ms)
-  where
-    mapped : (xs : List Mark) → length (map (given_mark false) xs) ≡ length xs
-    mapped [] = refl
-    mapped (x ∷ xs) = ap suc (mapped xs)
-
-    by : (t : Bool) → m.feeds ≡ t → ((length (kept_marks ms) ≡ length ms) × (length (given_marks ms) ≡ length ms)) →
-        (length (kept_marks (m ∷ ms)) ≡ suc (length ms)) × (length (given_marks (m ∷ ms)) ≡ suc (length ms))
-    by true is rest = (rw is refl, rw is (ap suc (mapped ms)))
-    by false is rest = (rw is (ap suc rest.0), rw is (ap suc rest.1))
-
-pub joined_held : (xs ys : List Mark) (c : ℕ) → (get_or (joined_marks xs ys) c no_mark).held ≡ (get_or xs c no_mark).held
-joined_held [] ys c = refl
-joined_held (a ∷ xs) [] c = refl
-joined_held (a ∷ xs) (b ∷ ys) zero = refl
-joined_held (a ∷ xs) (b ∷ ys) (suc c) = joined_held xs ys c

@@ -1,5 +1,5 @@
 -- What the tests need of a pass of a table with free columns.
-use Rattle.std.proofs.Common.{◌≡◌, ℕ, zero, suc, ◌^◌, ◌<◌, Bool, true, false, List, [], ◌∷◌, length, get_or, replicate, refl, sym, ap, ◌∙◌, subst, inl, arith}
+use Rattle.std.proofs.Common.{◌≡◌, ℕ, zero, suc, ◌^◌, ◌<◌, Bool, true, false, List, [], ◌∷◌, length, get_or, replicate, refl, sym, ap, ◌∙◌, subst, inl, ⊎_elim, arith}
 use native.Mathlib.Decide.{ℕ_discrete}
 use mathlib.Core.Logic.{dite}
 use Rattle.game_orders.specs.declared.entry.Entry.{Entry}
@@ -13,11 +13,10 @@ use Rattle.frame_table.specs.declared.pass.Pass.{Pass}
 use Rattle.frame_table.specs.declared.table.FrameTable.{FrameTable}
 use Rattle.frame_table.specs.Part.{Part, part_of, part_in, no_mark}
 use Rattle.frame_table.specs.Passes.{kept_mark, given_marks, kept_view, given_view, first_view, first_mark}
-use Rattle.frame_table.specs.Steps.{MayEnd}
-use Rattle.frame_table.specs.Calls.{plan_of, view_of, IsPassOf, MayPut, MayPutPlay, MayLeaveBy, Acted, IsLater}
+use Rattle.frame_table.specs.Steps.{MayEnd, loaded}
+use Rattle.frame_table.specs.Calls.{plan_of, view_of, IsPassOf, MayPut, MayPutPlay, MayLeaveBy, Acted, IsLater, IsLaterPart}
 use Rattle.frame_table.specs.Tests.{IsFreePass, IsFeedingPass}
-use Rattle.frame_table.proofs.KeptPasses.{first_at}
-use Rattle.frame_table.proofs.SplitJoin.{handed}
+use Rattle.frame_table.specs.PassesLemmas.{first_at, handed}
 
 pub free_may_put : (p : Part) (n : ℕ) (e : Entry) → p.planned ≡ Free → p.feeds ≡ true → MayPut p n e
 free_may_put p n (Play orders) free feeds = subst (λ q. MayPutPlay q p n orders) (sym free) (inl feeds)
@@ -40,11 +39,15 @@ module _ (table : FrameTable) (p q : Pass) (c : ℕ) (K L : Column) (is : IsPass
   feeds_stay feeding =
       record { free = free_stays feeding.free; feeds = λ d below. same_right (λ (r : Part). r.feeds) (ap (λ (r : Part). r.feeds) acted.part) d ∙ feeding.feeds d below }
 
+-- a look changes nothing else of a pass
+later_same : {A : Type 0} (f : Part → A) (old new : Part) → f (loaded old new.reach) ≡ f old → IsLaterPart old new → f new ≡ f old
+later_same f old new stays later = ⊎_elim (λ same. ap f same) (λ once. ap f once.0 ∙ stays) later.exact
+
 pub later_feeds : (table : FrameTable) (p q : Pass) → IsPassOf table q → IsLater (view_of p) (view_of q) → IsFeedingPass table p → IsFeedingPass table q
 later_feeds table p q is later feeding =
     record {
-      free = record { is = is; planned = λ d below. ap (λ (r : Part). r.planned) (later.parts d).else_same ∙ feeding.free.planned d below };
-      feeds = λ d below. ap (λ (r : Part). r.feeds) (later.parts d).else_same ∙ feeding.feeds d below;
+      free = record { is = is; planned = λ d below. later_same (λ (r : Part). r.planned) (part_of d (view_of p)) (part_of d (view_of q)) refl (later.parts d) ∙ feeding.free.planned d below };
+      feeds = λ d below. later_same (λ (r : Part). r.feeds) (part_of d (view_of p)) (part_of d (view_of q)) refl (later.parts d) ∙ feeding.feeds d below;
     }
 
 free_at : (n c : ℕ) → get_or (replicate n Free) c Free ≡ Free

@@ -1,5 +1,5 @@
 -- What the calls of the table ask of a pass, and what they leave.
-use Rattle.std.specs.Prelude.{◌≡◌, ℕ, ◌<◌, ◌≤◌, ◌⊎◌, nat_lt, Bool, true, if◌then◌else◌}
+use Rattle.std.specs.Prelude.{◌≡◌, ℕ, ◌<◌, ◌≤◌, ◌⊎◌, nat_lt, Bool, true, false, if◌then◌else◌}
 use Rattle.std.specs.Prelude.{List, [], ◌∷◌, ◌++◌, length, map, take, Some, None, slice_get}
 use Rattle.std.specs.Prelude.{slice_set}
 use Rattle.atomic_table.specs.Table.{Me}
@@ -15,7 +15,7 @@ use Rattle.frame_core.specs.Grows.{GrowsTo}
 use Rattle.frame_core.specs.declared.input.Input.{Input}
 use Rattle.frame_core.specs.declared.input.Input.TheVariants.{Missing, Played, Departed}
 use Rattle.frame_core.specs.declared.ready.Ready.{Ready}
-use Rattle.frame_core.specs.Input.{ready_of, ready_from}
+use Rattle.frame_core.specs.Input.{ready_of, ready_from, MeansReady}
 use Rattle.frame_table.specs.declared.seen.Seen.{Seen}
 use Rattle.frame_table.specs.declared.planned.Planned.{Planned}
 use Rattle.frame_table.specs.declared.planned.Planned.TheVariants.{Free, Plays}
@@ -24,7 +24,8 @@ use Rattle.frame_table.specs.declared.view.Mark.{Mark}
 use Rattle.frame_table.specs.declared.pass.Pass.{Pass}
 use Rattle.frame_table.specs.declared.table.FrameTable.{FrameTable}
 use Rattle.frame_table.specs.Part.{Part, part_of, OthersStay}
-use Rattle.frame_table.specs.Steps.{Slot, IsFurther, IsFound, holding, published, MayEnd}
+use Rattle.frame_table.specs.Steps.{Slot, IsFurther, IsFound, holding, published, loaded, MayEnd}
+use Rattle.frame_table.specs.Steps.{IsWithinPlan}
 
 -- What is planned for each client's column.
 abbrev pub plan_of : FrameTable → List Planned
@@ -111,12 +112,30 @@ inputs_seen view n = map (λ (mark : Mark). input_seen mark.reach n) view.marks
 abbrev pub ready_seen : View → ℕ → Ready
 ready_seen view n = ready_of (inputs_seen view n)
 
--- The columns' words may have been loaded: more may have been seen, and nothing else has changed.
+-- By what a pass has seen: client c has played frame n; has left at or before it; has done neither.
+abbrev pub SawPlay : View → ℕ → ℕ → Type 0
+SawPlay view n c = n < (part_of c view).reach.plays
+
+abbrev pub SawLeave : View → ℕ → ℕ → Type 0
+SawLeave view n c =
+    ((part_of c view).reach.left ≡ true) × ((part_of c view).reach.plays ≤ n)
+
+abbrev pub SawNothing : View → ℕ → ℕ → Type 0
+SawNothing view n c =
+    ((part_of c view).reach.left ≡ false) × ((part_of c view).reach.plays ≤ n)
+
+-- What an answer on frame n means by what a pass has seen: each client has played it or left by
+-- then, and one has played it; or some client is the least that has done neither; or all have left.
+abbrev pub MeansReadySeen : View → ℕ → Ready → Type 0
+MeansReadySeen view n =
+    MeansReady (SawPlay view n) (SawLeave view n) (SawNothing view n) (length view.marks)
+
+-- A column's word may have been loaded, once: then what it showed is seen, and known as far as it is
+-- planned, and in a planned column it is of the plan. Nothing else has changed.
 pub record IsLaterPart (old new : Part) : Type 0 where
+  pub exact : (new ≡ old) ⊎ ((new ≡ loaded old new.reach) × IsWithinPlan old.planned new.reach)
   pub further : IsFurther old.reach new.reach
-  pub loads : old.loads ≤ new.loads
   pub known : GrowsTo old.known new.known
-  pub else_same : new ≡ record old { reach = new.reach; loads = new.loads; known = new.known }
 
 -- The lock of column c was given back.
 pub record GaveBack (c : ℕ) (old new : Me Slot View) : Type 0 where
@@ -133,6 +152,7 @@ pub record IsLater (old new : View) : Type 0 where
 -- a play.
 pub record LookedSoFar (old now : View) (n c : ℕ) (played : Bool) : Type 0 where
   pub later : IsLater old now
+  pub rest : (d : ℕ) → c ≤ d → part_of d now ≡ part_of d old
   pub ready : (rest : List Input) →
       ready_of (take c (inputs_seen now n) ++ rest) ≡ ready_from c played rest
   pub limit : played ≡ true → n < MAX_FRAMES

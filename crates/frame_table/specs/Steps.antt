@@ -40,6 +40,12 @@ loaded part seen =
       loads = part.loads + 1;
     }
 
+-- Of a planned column no more is seen than is planned, and its departure only at the plan's end.
+abbrev pub IsWithinPlan : Planned → Seen → Type 0
+IsWithinPlan Free seen = Unit {0}
+IsWithinPlan (Plays plays) seen =
+    (seen.plays ≤ length plays) × (seen.left ≡ true → seen.plays ≡ length plays)
+
 -- A load of the column's word: what the word shows is seen.
 abbrev pub Loads : Step Slot → Me Slot View → ℕ → Me Slot View → Type 0
 Loads s old found new =
@@ -48,6 +54,7 @@ Loads s old found new =
     × IsFurther (part_of s.word old.0).reach (seen_of found)
     × GrowsTo (part_of s.word old.0).known (part_of s.word new.0).known
     × (found / 4 ≤ MAX_FRAMES)
+    × IsWithinPlan (part_of s.word old.0).planned (seen_of found)
 
 -- The lock of the column was taken.
 abbrev pub holding : Part → Column → Part

@@ -3,9 +3,9 @@ ghost use Rattle.std.specs.Prelude.{◌≡◌, ◌<◌, ◌≤◌, length, ℕ};
 ghost use Rattle.game_orders.specs.declared.limits.TheConstants.{MAX_FRAMES};
 ghost use Rattle.frame_table.specs.Part.{OthersStay};
 ghost use Rattle.frame_core.specs.Grows.{GrowsTo};
-ghost use Rattle.frame_table.specs.Steps.{IsFurther, loaded};
+ghost use Rattle.frame_table.specs.Steps.{IsFurther, IsWithinPlan, loaded};
 ghost use Rattle.frame_table.specs.Calls.{plan_of, view_of, standing, IsPassOf, IsLater};
-ghost use Rattle.frame_table.specs.Calls.{input_seen, ready_seen};
+ghost use Rattle.frame_table.specs.Calls.{input_seen, ready_seen, MeansReadySeen};
 
 use crate::pass::Pass;
 use crate::rule::Loading;
@@ -16,7 +16,8 @@ use frame_core::{Input, Ready};
 
 impl FrameTable {
     /// How much of the column of client `c`, which is below the number of clients, its word shows
-    /// now. The pass has seen just that afterwards, which is no less than before.
+    /// now. The pass has seen just that afterwards, which is no less than before. Of a planned
+    /// column it is no more than is planned, and the departure only at the plan's end.
     pub fn seen(&self, pass: &mut Pass, c: u8) -> Seen
         requires pass { IsPassOf self.now pass.old }
         requires client { c < length (plan_of self.now) }
@@ -26,6 +27,7 @@ impl FrameTable {
         ensures further { IsFurther (standing pass.old c).reach result }
         ensures known { GrowsTo (standing pass.old c).known (standing pass.new c).known }
         ensures limit { result.plays ≤ MAX_FRAMES }
+        ensures plan { IsWithinPlan (standing pass.old c).planned result }
     {
         let found = self
             .inner
@@ -43,6 +45,7 @@ impl FrameTable {
         ensures pass { IsPassOf self.now pass.new }
         ensures later { IsLater (view_of pass.old) (view_of pass.new) }
         ensures value { result ≡ ready_seen (view_of pass.new) n }
+        ensures means { MeansReadySeen (view_of pass.new) n result }
         ensures loaded { (c : ℕ) → result ≡ Ready.NotYet c →
             (standing pass.old c).loads < (standing pass.new c).loads }
         ensures limit { result ≡ Ready.Yes → n < MAX_FRAMES }

@@ -3,7 +3,8 @@
 //! Each of `Source`, `Sink` and `Disk` has a count of faults that never falls, and may tell its
 //! contents. A call fails only where the count rose in it, and what an object tells changes only as
 //! the call says. The memory forms tell all that they hold and fail at the calls that they were
-//! told to; the adapters over std's writers and files tell nothing. It stands on `base`.
+//! told to; the adapters over std's writers and files tell nothing. A `Gate` holds the threads of a
+//! match where a test wants them held. It stands on `base`.
 #![tactic(auto)]
 
 mod disk;
@@ -11,6 +12,8 @@ mod disk_error;
 mod failed;
 mod failing_call;
 mod file_disk;
+mod gate;
+mod hold_gate;
 mod mem_disk;
 mod mem_sink;
 mod mem_source;
@@ -31,6 +34,8 @@ pub use disk_error::DiskError;
 pub use failed::Failed;
 pub use failing_call::{FailingCall, Remains};
 pub use file_disk::FileDisk;
+pub use gate::{Gate, NoGate};
+pub use hold_gate::{HoldGate, MAX_HOLD_TURNS};
 pub use mem_disk::MemDisk;
 pub use mem_sink::MemSink;
 pub use mem_source::MemSource;

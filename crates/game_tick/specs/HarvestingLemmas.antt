@@ -30,6 +30,7 @@ use Rattle.game_tick.specs.Harvesting.{paid_to, is_beside, after_unloading, deli
 use Rattle.game_tick.specs.Kinds.{bale_value_in, kind_of}
 use Rattle.game_tick.specs.Moving.{gone_towards}
 use Rattle.game_tick.specs.Nearest.{cell_of, cells_of, first_least, lesser_by, nearest_ore, ore_at}
+use Rattle.game_tick.specs.StepKeeps.{HasNoMoreOre}
 use Rattle.game_tick.specs.ChangesLemmas.{changed}
 use Rattle.game_tick.specs.MovingLemmas.{towards_sound}
 use Rattle.game_tick.specs.SoundLemmas.{AreSound, IsHurt, Steps, all_sound, body_of, first_sound, popped_sound, sound_body, sound_first}
@@ -52,13 +53,6 @@ lifted (x ∷ xs) zero more limit zero within = omega arith
 lifted (x ∷ xs) zero more limit (suc k) within = omega arith
 lifted (x ∷ xs) (suc i) more limit zero within = omega arith
 lifted (x ∷ xs) (suc i) more limit (suc k) within = lifted xs i more limit k within
-
--- No cell has more ore than it had.
-pub record HasNoMoreOre (old new : Grid ℕ) : Type 0 where
-  pub width : new.width ≡ old.width
-  pub height : new.height ≡ old.height
-  pub count : length new.cells ≡ length old.cells
-  pub most : (k : ℕ) → slice_index new.cells k ≤ slice_index old.cells k
 
 pub same_ore : (ore : Grid ℕ) → HasNoMoreOre ore ore
 same_ore ore = record { width = refl; height = refl; count = refl; most = λ k. omega arith }

@@ -8,6 +8,7 @@ pub mod Building
 pub mod Orders
 pub mod Turn
 pub mod Tick
+pub mod StepKeeps
 pub mod ChangesLemmas
 pub mod SoundLemmas
 pub mod MovingLemmas
@@ -17,3 +18,7 @@ pub mod BuildingLemmas
 pub mod TurnLemmas
 pub mod OrdersLemmas
 pub mod TickLemmas
+pub mod Shots
+pub mod ShotsLemmas
+pub mod OwnLemmas
+pub mod KeepsLemmas

@@ -96,30 +96,44 @@ has_kind actors client kind =
 abbrev pub has_needs : List Actor → (client : ℕ) → Kind → Bool
 has_needs actors client product = list_all (has_kind actors client) (needs_in product.buildable)
 
+-- What orders to build change: the actors, and the cash of each client.
+pub record Goods : Type 0 where
+  pub actors : List Actor
+  pub cash : List ℕ
+
+abbrev pub goods_of : World → Goods
+goods_of w = record { actors = w.actors; cash = w.cash }
+
+abbrev pub with_goods : World → Goods → World
+with_goods w goods = record w { actors = goods.actors; cash = goods.cash }
+
 -- A Produce fits where the actor's kind builds the product, which is a unit; the client has what it
 -- needs and the cash; and the actor has fewer than `MAX_BUILDS` builds.
-abbrev pub produce_fits : Setup → World → (client number : ℕ) → Actor → Bool
-produce_fits setup w client number a =
-    let product = kind_of setup.rules number in
-    is_some (kind_of setup.rules a.kind).production && is_unit product
-    && builds setup.rules a.kind number && has_needs w.actors client product
-    && nat_lt (length a.body.builds) MAX_BUILDS
-    && nat_le (cost_of product) (slice_index w.cash client)
+abbrev pub produce_fits : List Kind → Goods → (client number : ℕ) → Actor → Bool
+produce_fits rules goods client number a =
+    let product = kind_of rules number in
+    is_some (kind_of rules a.kind).production && is_unit product && builds rules a.kind number
+    && has_needs goods.actors client product && nat_lt (length a.body.builds) MAX_BUILDS
+    && nat_le (cost_of product) (slice_index goods.cash client)
 
 -- The price is paid and the build added last.
-abbrev pub produced : Setup → World → (client number : ℕ) → Actor → World
-produced setup w client number a =
-    let product = kind_of setup.rules number in
+abbrev pub produced : List Kind → Goods → (client number : ℕ) → Actor → Goods
+produced rules goods client number a =
+    let product = kind_of rules number in
     let build : Build = record { kind = number; left = duration_in product.buildable } in
-    record w {
-      actors = changed_at w.actors a.id (with_builds (a.body.builds ++ build ∷ []));
-      cash = slice_set w.cash client (slice_index w.cash client - cost_of product);
+    record {
+      actors = changed_at goods.actors a.id (with_builds (a.body.builds ++ build ∷ []));
+      cash = slice_set goods.cash client (slice_index goods.cash client - cost_of product);
     }
 
+abbrev pub with_produce : List Kind → Goods → (client number : ℕ) → Option Actor → Goods
+with_produce rules goods client number None = goods
+with_produce rules goods client number (Some a) =
+    if produce_fits rules goods client number a then produced rules goods client number a else goods
+
 abbrev pub after_produce : Setup → World → (client number : ℕ) → Option Actor → World
-after_produce setup w client number None = w
-after_produce setup w client number (Some a) =
-    if produce_fits setup w client number a then produced setup w client number a else w
+after_produce setup w client number a =
+    with_goods w (with_produce setup.rules (goods_of w) client number a)
 
 -- All builds but the last, and the last.
 abbrev pub but_last : List Build → List Build
@@ -129,21 +143,24 @@ abbrev pub last_of : List Build → Option Build
 last_of builds = slice_get builds (length builds - 1)
 
 -- The last build is dropped and its price paid back, up to `MAX_CASH`.
-abbrev pub cancelled : Setup → World → (client : ℕ) → Actor → Option Build → World
-cancelled setup w client a None = w
-cancelled setup w client a (Some build) =
-    record w {
-      actors = changed_at w.actors a.id (with_builds (but_last a.body.builds));
-      cash = paid_to w.cash client (cost_of (kind_of setup.rules build.kind));
+abbrev pub cancelled : List Kind → Goods → (client : ℕ) → Actor → Option Build → Goods
+cancelled rules goods client a None = goods
+cancelled rules goods client a (Some build) =
+    record {
+      actors = changed_at goods.actors a.id (with_builds (but_last a.body.builds));
+      cash = paid_to goods.cash client (cost_of (kind_of rules build.kind));
     }
 
 -- A Cancel fits where the kind has Production and there is a build.
+abbrev pub with_cancel : List Kind → Goods → (client : ℕ) → Option Actor → Goods
+with_cancel rules goods client None = goods
+with_cancel rules goods client (Some a) =
+    if is_some (kind_of rules a.kind).production
+    then cancelled rules goods client a (last_of a.body.builds)
+    else goods
+
 abbrev pub after_cancel : Setup → World → (client : ℕ) → Option Actor → World
-after_cancel setup w client None = w
-after_cancel setup w client (Some a) =
-    if is_some (kind_of setup.rules a.kind).production
-    then cancelled setup w client a (last_of a.body.builds)
-    else w
+after_cancel setup w client a = with_goods w (with_cancel setup.rules (goods_of w) client a)
 
 -- The receiver is another client of the match that has not departed.
 abbrev pub can_receive : World → ℕ → ℕ → Bool

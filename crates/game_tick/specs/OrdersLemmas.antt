@@ -50,7 +50,7 @@ owned_by :
 owned_by true client b a is found = (grind arith, eqb-true b.body.owner client is)
 owned_by false client b a is found = absurd cc
 
-owned_living :
+pub owned_living :
     (client : ℕ) (found : Option Actor) (a : Actor) → if_owned client found ≡ Some a →
     (found ≡ Some a) × (a.body.owner ≡ client)
 owned_living client None a is = absurd cc
@@ -232,7 +232,7 @@ unit_there None unit = absurd cc
 unit_there (Some kind) unit = record { unit = unit; rest = omega arith }
 
 -- The price leaves a client no more than it had.
-price_keeps :
+pub price_keeps :
     (cash : List ℕ) (client cost : ℕ) → KeepsCash cash (slice_set cash client (slice_index cash client - cost))
 price_keeps cash client cost =
     record {

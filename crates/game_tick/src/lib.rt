@@ -8,7 +8,12 @@
 mod law;
 mod limits;
 mod moving;
+mod step_law;
 
-pub use law::{orders_valid, ticks_valid};
+pub use law::{
+    dead_make_no_step, orders_change_only_own, orders_keep, orders_valid, steps_keep, ticks_keep,
+    ticks_valid, turns_make_no_ore,
+};
 pub use limits::LAST_ID;
 pub use moving::Moving;
+pub use step_law::{draws_are_shots, idle_actors_stay, moves_keep_apart};

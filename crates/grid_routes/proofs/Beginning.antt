@@ -5,14 +5,13 @@ use Rattle.std.proofs.lemmas.List.{get_or-replicate, length-replicate}
 use Rattle.std.proofs.Math.ListN.{get_or-eq_default}
 use Rattle.std.proofs.lemmas.Bool.{cases_lt}
 use Rattle.world_units.specs.declared.cell.CPos.{CPos}
-use Rattle.game_model.specs.Grid.{Grid, IsOn, is_on, place_of}
+use Rattle.game_model.specs.Grid.{Grid, HasSize, IsOn, is_on, place_of}
 use Rattle.grid_routes.specs.declared.field.TheConstants.{NONE}
 use Rattle.grid_routes.specs.Values.{value_in}
-use Rattle.grid_routes.specs.Tolls.{AreTolls, toll_in}
 use Rattle.grid_routes.specs.Labels.{Distances, IsFull, begun, label_of, open_count}
 use Rattle.grid_routes.specs.Held.{Shelves}
-use Rattle.grid_routes.specs.Steps.{IsSearch, FitsTogether}
-use Rattle.grid_routes.proofs.Best.{fair-of}
+use Rattle.game_model.specs.Walks.{Land}
+use Rattle.grid_routes.specs.Steps.{IsFair, IsGoing, IsSearch}
 use Rattle.grid_routes.proofs.Cells.{set-here, set-other}
 use Rattle.grid_routes.proofs.Lowering.{one-or-not}
 use Rattle.grid_routes.proofs.Advancing.{no-both}
@@ -36,48 +35,68 @@ all-open : (g : Grid ℕ) → open_count 0 g ≤ length g.cells
 unfolding open_count
 all-open g = count_by-le-length _ g.cells
 
-module _ (tolls : Grid ℕ) (f : Distances) (s : Shelves) (w h : ℕ) (goal : CPos) (full : IsFull f.labels) (fair : AreTolls tolls) (fits : FitsTogether w h tolls f s) (on : IsOn w h goal) where
-  here : IsOn f.labels.width f.labels.height goal
-  here = record { column = rw fits.of_labels.width on.column; row = rw fits.of_labels.height on.row }
+module _ (land : Land) (f : Distances) (s : Shelves) (w h : ℕ) (full : IsFull f.labels) (fair : IsFair land.toll w h) (size : HasSize w h f.labels) (room : s.room ≡ w * h) (on : IsOn w h land.goal) where
+  here : IsOn f.labels.width f.labels.height land.goal
+  here = record { column = rw size.width on.column; row = rw size.height on.row }
 
   none : Grid ℕ
   none = record f.labels { cells = replicate (length f.labels.cells) NONE }
 
-  at-goal : label_of (begun f goal).labels goal ≡ 0
-  at-goal = set-here NONE (record f.labels { cells = replicate (length f.labels.cells) NONE }) goal 0 (length-replicate (length f.labels.cells) NONE ∙ full.size) here
+  at-goal : label_of (begun f land.goal).labels land.goal ≡ 0
+  at-goal = set-here NONE (record f.labels { cells = replicate (length f.labels.cells) NONE }) land.goal 0 (length-replicate (length f.labels.cells) NONE ∙ full.size) here
 
-  only-goal : (p : CPos) → label_of (begun f goal).labels p < NONE → p ≡ goal
+  only-goal : (p : CPos) → label_of (begun f land.goal).labels p < NONE → p ≡ land.goal
   only-goal p less =
-      elim (one-or-not p goal) [
+      elim (one-or-not p land.goal) [
         | inl same ↦ same
         | inr other ↦
-            let stays = set-other NONE (record f.labels { cells = replicate (length f.labels.cells) NONE }) goal 0 p here.column other in
+            let stays = set-other NONE (record f.labels { cells = replicate (length f.labels.cells) NONE }) land.goal 0 p here.column other in
             let outside = unlabelled f.labels p in
             absurd (omega (arith, stays, outside))
       ]
 
-  zero-there : (p : CPos) → label_of (begun f goal).labels p < NONE → label_of (begun f goal).labels p ≡ 0
-  zero-there p less = ap (λ c. label_of (begun f goal).labels c) (only-goal p less) ∙ at-goal
+  zero-there : (p : CPos) → label_of (begun f land.goal).labels p < NONE → label_of (begun f land.goal).labels p ≡ 0
+  zero-there p less = ap (λ c. label_of (begun f land.goal).labels c) (only-goal p less) ∙ at-goal
 
-  cells-same : length (begun f goal).labels.cells ≡ length f.labels.cells
+  cells-same : length (begun f land.goal).labels.cells ≡ length f.labels.cells
   cells-same =
-      length-set (replicate (length f.labels.cells) NONE) (place_of f.labels.width goal) 0 ∙ length-replicate (length f.labels.cells) NONE
+      length-set (replicate (length f.labels.cells) NONE) (place_of f.labels.width land.goal) 0 ∙ length-replicate (length f.labels.cells) NONE
 
   pub begins :
-      IsSearch (record { toll = toll_in tolls; goal = goal }) (begun f goal) (record s { lost = true })
+      IsSearch land (begun f land.goal) (record s { lost = true })
   begins = record {
     goal = here;
     full = record { size = cells-same ∙ full.size; wide = full.wide; high = full.high };
-    room = fits.room ∙ ap (λ n. n * h) (sym fits.of_labels.width) ∙ ap (λ n. f.labels.width * n) (sym fits.of_labels.height) ∙ sym full.size ∙ sym cells-same;
-    fair = fair-of tolls f.labels.width f.labels.height fair
-        (record { width = fits.of_tolls.width ∙ sym fits.of_labels.width; height = fits.of_tolls.height ∙ sym fits.of_labels.height });
+    room = room ∙ ap (λ n. n * h) (sym size.width) ∙ ap (λ n. f.labels.width * n) (sym size.height) ∙ sym full.size ∙ sym cells-same;
+    fair = record {
+      inside = λ q some.
+          let there = fair.inside q some in
+          record { column = rw size.width there.column; row = rw size.height there.row };
+      cheap = fair.cheap;
+    };
     right = record {
       goal = at-goal;
       walks = λ p less. ([], (only-goal p less, zero-there p less));
       closed = λ p q d k on_map step below. absurd (omega arith);
       near = λ p less. omega (arith, zero-there p less);
       small = λ p less. omega (arith, zero-there p less);
-      rises = λ less. omega (arith, all-open (begun f goal).labels);
+      rises = λ less. omega (arith, all-open (begun f land.goal).labels);
     };
     queued = λ still. absurd (no-both true still refl);
   }
+
+-- A search that may go on later is one that goes on, once its buckets are to be filled again.
+pub going-on :
+    (land : Land) (f : Distances) (s : Shelves) (w h : ℕ) → HasSize w h f.labels → s.room ≡ w * h →
+    IsGoing land f → IsSearch land f (record s { lost = true })
+going-on land f s w h size room going = record {
+  goal = going.goal;
+  full = going.full;
+  room = room ∙ ap (λ n. n * h) (sym size.width) ∙ ap (λ n. f.labels.width * n) (sym size.height) ∙ sym going.full.size;
+  fair = going.fair;
+  right = going.right;
+  queued = λ still. absurd (no-both true still refl);
+}
+
+pub may-go-on : (land : Land) (f : Distances) (s : Shelves) → IsSearch land f s → IsGoing land f
+may-go-on land f s search = record { goal = search.goal; full = search.full; fair = search.fair; right = search.right }

@@ -1,69 +1,15 @@
 -- What final labels say: the distance, and the direction to take.
-use Rattle.std.proofs.Common.{◌≡◌, ℕ, ◌+◌, ◌*◌, ◌<◌, ◌≤◌, ◌⊎◌, inl, inr, Bool, true, false, cond, length, List, [], ◌∷◌, Option, Some, None, MatchOption, refl, ap, ◌∙◌, arith, subst}
-use Rattle.std.proofs.lemmas.Bool.{cases_eq, cases_lt}
+use Rattle.std.proofs.Common.{◌≡◌, ℕ, ◌+◌, ◌<◌, ◌≤◌, ◌⊎◌, inl, inr, length, List, [], ◌∷◌, Option, Some, None, MatchOption, ap, ◌∙◌, arith, subst}
+use Rattle.std.proofs.lemmas.Bool.{cases_lt}
 use Rattle.std.proofs.lemmas.Nat.{mul-lt}
 use Rattle.world_units.specs.declared.cell.CPos.{CPos}
-use Rattle.game_model.specs.Grid.{Grid, HasSize, IsOn, is_on, place_of}
-use Rattle.grid_routes.specs.Values.{value_in}
-use Rattle.grid_routes.specs.Tolls.{AreTolls, toll_in}
-use Rattle.grid_routes.proofs.Cells.{is_on-on}
+use Rattle.game_model.specs.Grid.{IsOn}
 use Rattle.grid_routes.specs.declared.field.TheConstants.{NONE}
-use Rattle.game_model.specs.Walks.{Land, IsStep, IsWalk, IsDistance, HasNoWalk, LeadsOn, IsBest, IsBestDirection, fare_of}
+use Rattle.game_model.specs.Walks.{Land, IsWalk, IsDistance, HasNoWalk, LeadsOn, IsBest, IsBestDirection}
 use Rattle.grid_routes.specs.Labels.{Distances, label_of}
 use Rattle.grid_routes.specs.Held.{Shelves}
-use Rattle.grid_routes.specs.Steps.{IsFair, IsSearch, IsLead, IsLeastLead}
-use Rattle.game_model.specs.declared.map.Map.{Map}
-use Rattle.game_model.specs.BestDirection.{best_dir_of}
-use Rattle.grid_routes.proofs.Distances.{IsNear, best-dir-is}
-
-zero-either : (b c : Bool) → ◌≡◌ {A = ℕ} (cond b (5 * 0) (cond c (7 * 0) 0)) 0
-zero-either true c = refl
-zero-either false true = refl
-zero-either false false = refl
-
-low-either : (b c : Bool) (t : ℕ) → t ≤ 10 → cond b (5 * t) (cond c (7 * t) 0) ≤ 70
-low-either true c t low = omega arith
-low-either false true t low = omega arith
-low-either false false t low = omega arith
-
-fare-low : (toll : CPos → ℕ) (p : CPos) (d : ℕ) (q : CPos) → toll q ≤ 10 → fare_of toll p d q ≤ 70
-unfolding fare_of
-fare-low toll p d q low = low-either _ _ (toll q) low
-
-toll-on : (b : Bool) (x : ℕ) → 0 < cond b x 0 → b ≡ true
-toll-on true x some = refl
-toll-on false x some = absurd (omega arith)
-
-toll-low : (b : Bool) (x : ℕ) → x ≤ 10 → cond b x 0 ≤ 10
-toll-low true x low = low
-toll-low false x low = omega arith
-
--- Tolls of cells are fair.
-pub fair-of : (g : Grid ℕ) (w h : ℕ) → AreTolls g → HasSize w h g → IsFair (toll_in g) w h
-unfolding value_in
-fair-of g w h tolls size = record {
-  inside = λ q some.
-      let on = is_on-on g.width g.height q (toll-on (is_on g.width g.height q) _ some) in
-      record { column = rw size.width at on.column; row = rw size.height at on.row };
-  cheap = λ p q d k step.
-      let low : toll_in g q ≤ 10 = toll-low (is_on g.width g.height q) _ (tolls.cheap (place_of g.width q)) in
-      let most = fare-low (toll_in g) p d q low in
-      omega (arith, most, step.cost);
-}
-
-fare-zero : (toll : CPos → ℕ) (p : CPos) (d : ℕ) (q : CPos) → toll q ≡ 0 → fare_of toll p d q ≡ 0
-unfolding fare_of
-fare-zero toll p d q free = rw free (zero-either _ _)
-
--- A step enters a cell of the map.
-pub step-on : (toll : CPos → ℕ) (w h : ℕ) → IsFair toll w h → (p q : CPos) (d k : ℕ) → IsStep toll p d q k → IsOn w h q
-step-on toll w h fair p q d k step =
-    elim (cases_eq (toll q) 0) [
-      | inl none ↦
-          let zero_fare = fare-zero toll p d q none in
-          absurd (omega (arith, zero_fare, step.cost, step.allowed))
-      | inr some ↦ fair.inside q (omega arith)
-    ]
+use Rattle.grid_routes.specs.Steps.{IsSearch, IsLead, IsLeastLead}
+use Rattle.grid_routes.proofs.Fares.{step-on}
 
 module _ (land : Land) (f : Distances) (s : Shelves) (search : IsSearch land f s) where
   -- No walk costs less than the label or the level.
@@ -207,24 +153,3 @@ pub no-direction :
     IsOn f.labels.width f.labels.height p → label_of f.labels p ≤ f.level → n ≡ NONE → n ≡ label_of f.labels p →
     (p ≡ land.goal) ⊎ HasNoWalk land p
 no-direction land f s search p n on final end is = inr (no-walk land f s search p on final (omega arith))
-
--- A final label says how far the cell is, or that it has no walk.
-near-or-none :
-    (map : Map) (land : Land) (f : Distances) (s : Shelves) → IsSearch land f s → (p : CPos) →
-    IsOn map.width map.height p → HasSize map.width map.height f.labels → label_of f.labels p ≤ f.level →
-    IsNear map land p ⊎ HasNoWalk land p
-near-or-none map land f s search p on size final =
-    let here : IsOn f.labels.width f.labels.height p = record { column = rw size.width on.column; row = rw size.height on.row } in
-    let cells : length f.labels.cells ≡ map.width * map.height = search.full.size ∙ ap (λ n. n * f.labels.height) size.width ∙ ap (λ n. map.width * n) size.height in
-    elim (cases_lt (label_of f.labels p) NONE) [
-      | inl less ↦ inl (label_of f.labels p, omega (arith, search.right.small p less, cells), distance land f s search p here final less)
-      | inr end ↦ inr (no-walk land f s search p here final end)
-    ]
-
--- The answer of a search is the best direction as a function.
-pub best-value :
-    (map : Map) (land : Land) (f : Distances) (s : Shelves) → IsSearch land f s → (p : CPos) →
-    IsOn map.width map.height p → HasSize map.width map.height f.labels → label_of f.labels p ≤ f.level →
-    (answer : Option ℕ) → IsBestDirection land p answer → answer ≡ best_dir_of map land p
-best-value map land f s search p on size final answer best =
-    best-dir-is map land p answer best (near-or-none map land f s search p on size final)

@@ -10,7 +10,14 @@ use Rattle.world_units.specs.Cells.{same_cell}
 use Rattle.world_units.specs.CellLemmas.{cell_decides}
 use Rattle.world_units.specs.Directions.{step_of}
 use Rattle.game_model.specs.declared.map.Map.{Map}
-use Rattle.game_model.specs.Walks.{Land, IsStep, IsWalk, IsDistance, HasNoWalk, LeadsOn, IsBest, IsBestDirection, fare_of}
+use Rattle.rule_traits.specs.declared.trait_fields.Costs.{Costs}
+use Rattle.game_model.specs.Grid.{Grid, HasSize}
+use Rattle.grid_routes.specs.Least.{AreLeast}
+use Rattle.grid_routes.specs.Steps.{IsFair}
+use Rattle.grid_routes.specs.Tolls.{IsCheap}
+use Rattle.grid_routes.proofs.Fares.{fair-map}
+use Rattle.grid_routes.proofs.Shortest.{distance-most, rest-least}
+use Rattle.game_model.specs.Walks.{land_of, Land, IsStep, IsWalk, IsDistance, HasNoWalk, LeadsOn, IsBest, IsBestDirection, fare_of}
 use Rattle.game_model.specs.BestDirection.{directions, lesser, by_fare, by_step, by_direction, least_within, enough_steps, distance_of, is_cost, leads_on, best_dir_of}
 
 true-or-false : (b : Bool) → (b ≡ true) ⊎ (b ≡ false)
@@ -271,14 +278,6 @@ find-least t n (x ∷ xs) e d from found among met =
           ]
     ]
 
-find-nothing : (t : ℕ → Bool) (ds : List ℕ) → ((d : ℕ) → t d ≡ false) → find t ds ≡ None
-find-nothing t [] fails = refl
-find-nothing t (x ∷ xs) fails = rw (fails x) (find-nothing t xs fails)
-
-cost-none : (a b : Option ℕ) → b ≡ None → is_cost a b ≡ false
-cost-none None b is = refl
-cost-none (Some x) b is = rw is refl
-
 -- A walk has at most as many steps as it costs.
 pub walk-short : (land : Land) (cells : List CPos) (p : CPos) (m : ℕ) → IsWalk land p cells m → length cells ≤ m
 walk-short land [] p m walk = omega arith
@@ -288,108 +287,176 @@ walk-short land (q ∷ cells) p m walk =
     let sum : m ≡ walk.1 + walk.2 = walk.4 in
     omega arith
 
-module _ (map : Map) (land : Land) where
-  -- A distance that is not beyond the bound is the one of the function.
-  pub distance-is :
-      (p : CPos) (n : ℕ) → n ≤ enough_steps map → IsDistance land p n → distance_of map land p ≡ Some n
-  unfolding distance_of
-  distance-is p n most is =
-      let short = walk-short land is.walk.0 p n is.walk.1 in
-      let found = walk-within land is.walk.0 (enough_steps map) p n (omega (arith, short)) is.walk.1 in
-      let walk = within-walk land (enough_steps map) p found.cost found.is in
-      let least = is.least walk.0 found.cost walk.1 in
-      found.is ∙ ap Some (omega (arith, least, found.most))
+-- A cell with a walk has a distance.
+walk-distance :
+    (land : Land) (cells : List CPos) (p : CPos) (m : ℕ) → IsWalk land p cells m → (n : ℕ) × IsDistance land p n
+walk-distance land cells p m walk =
+    let found = walk-within land cells m p m (walk-short land cells p m walk) walk in (
+      found.cost,
+      record {
+        walk = within-walk land m p found.cost found.is;
+        least = λ others k other.
+            elim (cases_lt k found.cost) [
+              | inl less ↦
+                  let few = walk-short land others p k other in
+                  let up = walk-within land others m p k (omega (arith, few, found.most)) other in
+                  let same : Some up.cost ≡ Some found.cost = sym up.is ∙ found.is in
+                  let one : up.cost ≡ found.cost = (cc) in
+                  omega (arith, up.most)
+              | inr more ↦ more
+            ];
+      },
+    )
 
+-- Where a cell that isn't the goal has a distance some direction leads on.
+some-leads :
+    (land : Land) (cells : List CPos) (p : CPos) (n : ℕ) → IsDistance land p n → IsWalk land p cells n →
+    (p ≡ land.goal → ⊥) → (d : ℕ) × LeadsOn land p d
+some-leads land [] p n is walk other = absurd (other walk.0)
+some-leads land (q ∷ cells) p n is walk other = (
+  walk.0,
+  record {
+    entered = q;
+    cost = walk.1;
+    left = walk.2;
+    step = walk.3;
+    here = subst (λ (m : ℕ). IsDistance land p m) walk.4 is;
+    there = rest-least land p q cells n is walk;
+  },
+)
+
+none-best : (land : Land) (p : CPos) (d : ℕ) → IsBest land p d → (p ≡ land.goal) ⊎ HasNoWalk land p → ⊥
+none-best land p d best (inl there) =
+    let none = best.leads.here.least [] 0 (there, refl) in
+    let allowed = best.leads.step.allowed in
+    omega (arith, none, allowed)
+none-best land p d best (inr without) =
+    let walk = best.leads.here.walk in without.none walk.0 (best.leads.cost + best.leads.left) walk.1
+
+-- There is one best direction.
+one-best :
+    (land : Land) (p : CPos) (a b : Option ℕ) → IsBestDirection land p a → IsBestDirection land p b → a ≡ b
+one-best land p (Some d) (Some e) first second =
+    let here = first.least e second.leads in
+    let there = second.least d first.leads in
+    ap Some (omega (arith, here, there))
+one-best land p None None first second = refl
+one-best land p (Some d) None first second = absurd (none-best land p d first second)
+one-best land p None (Some e) first second = absurd (none-best land p e second first)
+
+module _ (map : Map) (land : Land) (fair : IsFair land.toll map.width map.height) where
   distance-walk :
       (p : CPos) (n : ℕ) → distance_of map land p ≡ Some n → (cells : List CPos) × IsWalk land p cells n
   unfolding distance_of
   distance-walk p n is = within-walk land (enough_steps map) p n is
 
+  -- The distance is that of the function,
+  distance-same : (p : CPos) (n : ℕ) → IsDistance land p n → distance_of map land p ≡ Some n
+  unfolding distance_of
+  distance-same p n is =
+      let most = distance-most land map.width map.height fair p n is in
+      let short = walk-short land is.walk.0 p n is.walk.1 in
+      let found = walk-within land is.walk.0 (enough_steps map) p n (omega (arith, short, most)) is.walk.1 in
+      let walk = within-walk land (enough_steps map) p found.cost found.is in
+      let least = is.least walk.0 found.cost walk.1 in
+      found.is ∙ ap Some (omega (arith, least, found.most))
+
+  -- and that of the function is the distance.
+  distance-least : (p : CPos) (n : ℕ) → distance_of map land p ≡ Some n → IsDistance land p n
+  distance-least p n found =
+      let walk = distance-walk p n found in
+      let some = walk-distance land walk.0 p n walk.1 in
+      let same : Some some.0 ≡ Some n = sym (distance-same p some.0 some.1) ∙ found in
+      let one : some.0 ≡ n = (cc) in
+      subst (λ (m : ℕ). IsDistance land p m) one some.1
+
   none-of : (o : Option ℕ) (p : CPos) → HasNoWalk land p → distance_of map land p ≡ o → o ≡ None
   none-of None p without is = refl
-  none-of (Some n) p without is = let walk = distance-walk p n is in absurd (without.none walk.0 n walk.1)
+  none-of (Some n) p without is =
+      let walk = distance-walk p n is in absurd (without.none walk.0 n walk.1)
 
-  pub no-distance : (p : CPos) → HasNoWalk land p → distance_of map land p ≡ None
-  no-distance p without = none-of (distance_of map land p) p without refl
+  none-walk : (p : CPos) → distance_of map land p ≡ None → HasNoWalk land p
+  none-walk p found = record {
+    none = λ cells m walk.
+        let some = walk-distance land cells p m walk in
+        let both : Some some.0 ≡ None = sym (distance-same p some.0 some.1) ∙ found in
+        absurd (cc);
+  }
 
-  -- The step in direction d begins a walk of least cost exactly where the test says so.
-  leads-test :
-      (p : CPos) (d : ℕ) → (LeadsOn land p d) → (n : ℕ) → n ≤ enough_steps map → IsDistance land p n →
-      leads_on map land p d ≡ true
-  leads-test p d leads n most is =
-      let mine = is.walk in
-      let a = is.least leads.here.walk.0 (leads.cost + leads.left) leads.here.walk.1 in
-      let here : distance_of map land p ≡ Some (leads.cost + leads.left) = distance-is p (leads.cost + leads.left) (omega (arith, leads.here.least mine.0 n mine.1)) leads.here in
-      let there : distance_of map land leads.entered ≡ Some leads.left = distance-is leads.entered leads.left (omega (arith, leads.here.least mine.0 n mine.1)) leads.there in
+  -- A direction leads on exactly where the test says so.
+  leads-test : (p : CPos) (d : ℕ) → LeadsOn land p d → leads_on map land p d ≡ true
+  leads-test p d leads =
+      let there = distance-same leads.entered leads.left leads.there in
       let first = direction-is land (distance_of map land) p d leads.entered leads.cost leads.left leads.step there in
-      cost-is _ _ (leads.cost + leads.left) first here
+      cost-is _ _ (leads.cost + leads.left) first (distance-same p (leads.cost + leads.left) leads.here)
 
-  test-leads :
-      (p : CPos) (d n : ℕ) → n ≤ enough_steps map → IsDistance land p n → d < 8 → leads_on map land p d ≡ true →
-      LeadsOn land p d
-  test-leads p d n most is low test =
+  test-leads : (p : CPos) (d : ℕ) → d < 8 → leads_on map land p d ≡ true → LeadsOn land p d
+  test-leads p d low test =
       let both = cost-back (by_direction land (distance_of map land) p d) (distance_of map land p) test in
-      let c = both.0 in
-      let same : Some c ≡ Some n = sym both.2 ∙ distance-is p n most is in
-      let one : c ≡ n = (cc) in
-      let b = direction-back land (distance_of map land) p d c both.1 in
-      let step = begun-step land (distance_of map land) p d c low b in
-      let walk = distance-walk b.entered b.left b.there in
-      let sum : c ≡ fare_of land.toll p d b.entered + b.left = b.sum in
+      let b = direction-back land (distance_of map land) p d both.0 both.1 in
       record {
         entered = b.entered;
         cost = fare_of land.toll p d b.entered;
         left = b.left;
-        step = step;
-        here = subst (λ (m : ℕ). IsDistance land p m) (sym one ∙ sum) is;
-        there = record {
-          walk = walk;
-          least = λ cells m other.
-              let more = is.least (b.entered ∷ cells) (fare_of land.toll p d b.entered + m) (d, fare_of land.toll p d b.entered, m, step, refl, other) in
-              omega (arith, more);
-        };
+        step = begun-step land (distance_of map land) p d both.0 low b;
+        here = subst (λ (m : ℕ). IsDistance land p m) b.sum (distance-least p both.0 both.2);
+        there = distance-least b.entered b.left b.there;
       }
 
-  -- The distance of a cell that has one is not beyond the bound.
-  abbrev pub IsNear : CPos → Type 0
-  IsNear p = (n : ℕ) × (n ≤ enough_steps map) × IsDistance land p n
+  best-of :
+      (p : CPos) (o : Option ℕ) → find (leads_on map land p) directions ≡ o → (p ≡ land.goal → ⊥) →
+      IsBestDirection land p o
+  best-of p None found other = inr (record {
+    none = λ cells m walk.
+        let some = walk-distance land cells p m walk in
+        let least = some.1 in
+        let one = some-leads land least.walk.0 p some.0 least least.walk.1 other in
+        let low = one.1.step.direction in
+        find-none (leads_on map land p) directions one.0 found (direction-among one.0 low) (leads-test p one.0 one.1);
+  })
+  best-of p (Some d) found other =
+      let one = find-is (leads_on map land p) directions d found in
+      record {
+        leads = test-leads p d (among-low d one.1) one.0;
+        least = λ e leads.
+            find-least (leads_on map land p) 0 directions d e directions-rise found
+            (direction-among e leads.step.direction) (leads-test p e leads);
+      }
 
-  away : (p : CPos) (d : ℕ) → IsBest land p d → same_cell p land.goal ≡ false
-  away p d best =
+  best-is-best : (p : CPos) → IsBestDirection land p (best_dir_of map land p)
+  unfolding best_dir_of
+  best-is-best p =
       elim (true-or-false (same_cell p land.goal)) [
-        | inl same ↦
-            let none = best.leads.here.least [] 0 ((cell_decides p land.goal).0 same, refl) in
-            let allowed = best.leads.step.allowed in
-            absurd (omega (arith, none, allowed))
-        | inr other ↦ other
+        | inl same ↦ rw same (inl ((cell_decides p land.goal).0 same))
+        | inr other ↦
+            rw other
+            (best-of p (find (leads_on map land p) directions) refl
+            (λ (there : p ≡ land.goal). not-both _ ((cell_decides p land.goal).1 there) other))
       ]
-
-  best-found :
-      (p : CPos) (d : ℕ) → IsBest land p d → IsNear p → (o : Option ℕ) →
-      find (leads_on map land p) directions ≡ o → Some d ≡ o
-  best-found p d best near None found =
-      absurd (find-none (leads_on map land p) directions d found (direction-among d best.leads.step.direction)
-      (leads-test p d best.leads near.0 near.1 near.2))
-  best-found p d best near (Some e) found =
-      let one = find-is (leads_on map land p) directions e found in
-      let least = find-least (leads_on map land p) 0 directions e d directions-rise found (direction-among d best.leads.step.direction)
-      (leads-test p d best.leads near.0 near.1 near.2) in
-      let other = best.least e (test-leads p e near.0 near.1 near.2 (among-low e one.1) one.0) in
-      ap Some (omega (arith, least, other))
 
   -- The best direction is that of the function.
-  pub best-dir-is :
-      (p : CPos) (answer : Option ℕ) → IsBestDirection land p answer → IsNear p ⊎ HasNoWalk land p →
-      answer ≡ best_dir_of map land p
-  unfolding best_dir_of
-  best-dir-is p (Some d) best (inl near) =
-      rw (away p d best) (best-found p d best near (find (leads_on map land p) directions) refl)
-  best-dir-is p (Some d) best (inr without) =
-      let walk = best.leads.here.walk in absurd (without.none walk.0 (best.leads.cost + best.leads.left) walk.1)
-  best-dir-is p None (inl there) near = rw ((cell_decides p land.goal).1 there) refl
-  best-dir-is p None (inr without) near =
-      elim (true-or-false (same_cell p land.goal)) [
-        | inl same ↦ rw same refl
-        | inr other ↦
-            rw other (sym (find-nothing (leads_on map land p) directions (λ d. cost-none (by_direction land (distance_of map land) p d) (distance_of map land p) (no-distance p without))))
-      ]
+  pub best-same :
+      (p : CPos) (answer : Option ℕ) → IsBestDirection land p answer → answer ≡ best_dir_of map land p
+  best-same p answer best = one-best land p answer (best_dir_of map land p) best (best-is-best p)
+
+  pub all-least : AreLeast map land
+  all-least = record {
+    distance = λ p n. (distance-same p n, distance-least p n);
+    none = λ p. (λ without. none-of (distance_of map land p) p without refl, none-walk p);
+    best = λ p answer.
+        (best-same p answer, λ is. subst (λ (o : Option ℕ). IsBestDirection land p o) (sym is) (best-is-best p));
+  }
+
+-- On a map the functions are right.
+pub are_least :
+    (map : Map) (built : Grid Bool) (costs : Costs) (goal : CPos) → HasSize map.width map.height map.terrain →
+    IsCheap costs → AreLeast map (land_of map built costs goal)
+are_least map built costs goal size cheap =
+    all-least map (land_of map built costs goal) (fair-map map.terrain built costs goal map.width map.height size cheap)
+
+pub best-value :
+    (map : Map) (built : Grid Bool) (costs : Costs) (goal : CPos) → HasSize map.width map.height map.terrain →
+    IsCheap costs → (p : CPos) (answer : Option ℕ) → IsBestDirection (land_of map built costs goal) p answer →
+    answer ≡ best_dir_of map (land_of map built costs goal) p
+best-value map built costs goal size cheap =
+    best-same map (land_of map built costs goal) (fair-map map.terrain built costs goal map.width map.height size cheap)

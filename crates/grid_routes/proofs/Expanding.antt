@@ -5,7 +5,7 @@ use Rattle.world_units.specs.declared.cell.CPos.{CPos}
 use Rattle.world_units.specs.Directions.{opposite_of, step_of}
 use Rattle.game_model.specs.Grid.{Grid, IsOn}
 use Rattle.game_model.specs.Walks.{IsStep}
-use Rattle.grid_routes.specs.Tolls.{toll_in}
+use Rattle.grid_routes.specs.Tolls.{Ground, toll_in}
 use Rattle.grid_routes.specs.Labels.{Distances, IsFull, label_of}
 use Rattle.grid_routes.specs.Held.{Shelves, IsAt, IsWhole}
 use Rattle.grid_routes.specs.Steps.{Lowers, IsExpanded}
@@ -27,7 +27,7 @@ full-stays toll level old before new after low full =
     }
 
 -- The neighbours in directions below d were offered their walk over q.
-pub record Offered (tolls : Grid ℕ) (field : Distances) (shelves : Shelves) (tolls' : Grid ℕ) (field' : Distances) (shelves' : Shelves) (q : CPos) (level d : ℕ) : Type 0 where
+pub record Offered (tolls : Ground) (field : Distances) (shelves : Shelves) (tolls' : Ground) (field' : Distances) (shelves' : Shelves) (q : CPos) (level d : ℕ) : Type 0 where
   pub same_tolls : tolls' ≡ tolls
   pub same_level : field'.level ≡ field.level
   pub lowers : Lowers (toll_in tolls) level field.labels shelves field'.labels shelves'
@@ -36,7 +36,7 @@ pub record Offered (tolls : Grid ℕ) (field : Distances) (shelves : Shelves) (t
       IsStep (toll_in tolls) p (opposite_of e) q k → label_of field'.labels p ≤ level + k
 
 pub offered-none :
-    (tolls : Grid ℕ) (field : Distances) (shelves : Shelves) (q : CPos) (level : ℕ) →
+    (tolls : Ground) (field : Distances) (shelves : Shelves) (q : CPos) (level : ℕ) →
     Offered tolls field shelves tolls field shelves q level 0
 offered-none tolls field shelves q level = record {
   same_tolls = refl;
@@ -46,8 +46,8 @@ offered-none tolls field shelves q level = record {
 }
 
 pub offered-step :
-    (tolls : Grid ℕ) (field : Distances) (shelves : Shelves) (tolls' : Grid ℕ) (field' : Distances) (shelves' : Shelves)
-    (q : CPos) (level d : ℕ) (tolls'' : Grid ℕ) (field'' : Distances) (shelves'' : Shelves) →
+    (tolls : Ground) (field : Distances) (shelves : Shelves) (tolls' : Ground) (field' : Distances) (shelves' : Shelves)
+    (q : CPos) (level d : ℕ) (tolls'' : Ground) (field'' : Distances) (shelves'' : Shelves) →
     Offered tolls field shelves tolls' field' shelves' q level d →
     tolls'' ≡ tolls' → field''.level ≡ field'.level →
     Lowers (toll_in tolls') level field'.labels shelves' field''.labels shelves'' →
@@ -80,7 +80,7 @@ offered-step tolls field shelves tolls' field' shelves' q level d tolls'' field'
 
 -- All neighbours were offered their walk.
 pub offered-all :
-    (tolls : Grid ℕ) (field : Distances) (shelves : Shelves) (tolls' : Grid ℕ) (field' : Distances) (shelves' : Shelves)
+    (tolls : Ground) (field : Distances) (shelves : Shelves) (tolls' : Ground) (field' : Distances) (shelves' : Shelves)
     (q : CPos) (level d : ℕ) → IsFull field.labels → 8 ≤ d →
     Offered tolls field shelves tolls' field' shelves' q level d →
     IsExpanded (toll_in tolls) field'.labels level q
@@ -97,7 +97,7 @@ offered-all tolls field shelves tolls' field' shelves' q level d full end so_far
     (subst (λ (j : ℕ). IsStep (toll_in tolls) p j q k) (sym (opposite-back e step.direction)) step)
 
 -- The cells in the first places of the level's bucket are expanded.
-pub record Ringed (tolls : Grid ℕ) (field : Distances) (shelves : Shelves) (tolls' : Grid ℕ) (field' : Distances) (shelves' : Shelves) (level i : ℕ) : Type 0 where
+pub record Ringed (tolls : Ground) (field : Distances) (shelves : Shelves) (tolls' : Ground) (field' : Distances) (shelves' : Shelves) (level i : ℕ) : Type 0 where
   pub same_tolls : tolls' ≡ tolls
   pub same_level : field'.level ≡ field.level
   pub lowers : Lowers (toll_in tolls) level field.labels shelves field'.labels shelves'
@@ -106,7 +106,7 @@ pub record Ringed (tolls : Grid ℕ) (field : Distances) (shelves : Shelves) (to
       IsExpanded (toll_in tolls) field'.labels level q
 
 pub ringed-none :
-    (tolls : Grid ℕ) (field : Distances) (shelves : Shelves) (level : ℕ) →
+    (tolls : Ground) (field : Distances) (shelves : Shelves) (level : ℕ) →
     Ringed tolls field shelves tolls field shelves level 0
 ringed-none tolls field shelves level = record {
   same_tolls = refl;
@@ -115,7 +115,7 @@ ringed-none tolls field shelves level = record {
   done = λ j q below at label. absurd (omega arith);
 }
 
-module _ (tolls : Grid ℕ) (field : Distances) (shelves : Shelves) (tolls' : Grid ℕ) (field' : Distances) (shelves' : Shelves) (level i : ℕ) (c : CPos) (so_far : Ringed tolls field shelves tolls' field' shelves' level i) (whole : IsWhole shelves') (at : IsAt shelves' (level % 71) i c) where
+module _ (tolls : Ground) (field : Distances) (shelves : Shelves) (tolls' : Ground) (field' : Distances) (shelves' : Shelves) (level i : ℕ) (c : CPos) (so_far : Ringed tolls field shelves tolls' field' shelves' level i) (whole : IsWhole shelves') (at : IsAt shelves' (level % 71) i c) where
   there : (q : CPos) → IsAt shelves (level % 71) i q → q ≡ c
   there q here =
       let low : level % 71 < 71 = omega arith in
@@ -137,7 +137,7 @@ module _ (tolls : Grid ℕ) (field : Distances) (shelves : Shelves) (tolls' : Gr
   }
 
   pub ringed-step :
-      (tolls'' : Grid ℕ) (field'' : Distances) (shelves'' : Shelves) →
+      (tolls'' : Ground) (field'' : Distances) (shelves'' : Shelves) →
       tolls'' ≡ tolls' → field''.level ≡ field'.level →
       Lowers (toll_in tolls') level field'.labels shelves' field''.labels shelves'' →
       IsExpanded (toll_in tolls') field''.labels level c →

@@ -5,8 +5,10 @@ pub mod Cells
 pub mod Directions
 pub mod Distances
 pub mod Expanding
+pub mod Fares
 pub mod Filling
+pub mod Keeping
 pub mod Lowering
-pub mod Rows
 pub mod Shelves
+pub mod Shortest
 pub mod Walking

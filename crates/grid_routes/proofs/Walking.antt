@@ -1,5 +1,5 @@
 -- A route that follows the best directions, cell by cell.
-use Rattle.std.proofs.Common.{◌≡◌, ℕ, ◌+◌, ◌<◌, ◌≤◌, List, [], ◌∷◌, ◌++◌, Some, refl, ap, sym, ◌∙◌, arith, subst, append_assoc, append-nil}
+use Rattle.std.proofs.Common.{◌≡◌, ◌≢◌, ℕ, ◌+◌, ◌<◌, ◌≤◌, List, [], ◌∷◌, ◌++◌, Some, refl, ap, sym, ◌∙◌, arith, subst, append_assoc, append-nil}
 use Rattle.world_units.specs.declared.cell.CPos.{CPos}
 use Rattle.world_units.specs.Directions.{step_of}
 use Rattle.game_model.specs.Grid.{IsOn}
@@ -8,7 +8,8 @@ use Rattle.game_model.specs.Walks.{Land, IsStep, IsWalk, IsRouteOver, FollowsBes
 use Rattle.grid_routes.specs.Labels.{Distances, label_of}
 use Rattle.grid_routes.specs.Held.{Shelves}
 use Rattle.grid_routes.specs.Steps.{IsSearch, IsLead, IsLeastLead, IsOnward}
-use Rattle.grid_routes.proofs.Best.{best-is, distance, no-lead-goal, step-on}
+use Rattle.grid_routes.proofs.Best.{best-is, distance, no-lead-goal}
+use Rattle.grid_routes.proofs.Fares.{step-on}
 
 no-cost : (land : Land) (cells : List CPos) (p : CPos) (n : ℕ) → n ≡ 0 → IsWalk land p cells n → p ≡ land.goal
 no-cost land [] p n none walk = walk.0
@@ -19,6 +20,13 @@ pub zero-goal : (land : Land) (f : Distances) (s : Shelves) → IsSearch land f 
 zero-goal land f s search p none =
     let some = search.right.walks p (omega arith) in
     no-cost land some.0 p (label_of f.labels p) none some.1
+
+-- A cell with a distance above 0 isn't the goal.
+pub away :
+    (land : Land) (f : Distances) (s : Shelves) → IsSearch land f s → (p : CPos) (cost : ℕ) →
+    cost ≡ label_of f.labels p → (cost ≡ 0 → ⊥) → p ≢ land.goal
+away land f s search p cost is some = λ (there : p ≡ land.goal).
+    some (is ∙ ap (λ c. label_of f.labels c) there ∙ search.right.goal)
 
 pub onward :
     (land : Land) (f : Distances) (s : Shelves) → IsSearch land f s → (p q : CPos) (d n : ℕ) →

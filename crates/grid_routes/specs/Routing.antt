@@ -1,5 +1,5 @@
 -- What is seen of a router.
-use Rattle.std.specs.Prelude.{◌≡◌, ℕ, Bool}
+use Rattle.std.specs.Prelude.{◌≡◌, ◌⊎◌, ℕ, ◌+◌, ◌-◌, ◌^◌, min, Bool}
 use Rattle.game_model.specs.declared.map.Map.{Map}
 use Rattle.game_model.specs.Grid.{Grid, HasSize}
 
@@ -26,3 +26,7 @@ pub record AreSized (router : Routing) (map : Map) (built : Grid Bool) : Type 0 
 pub record IsSameSize (old new : Routing) : Type 0 where
   pub wide : new.width ≡ old.width
   pub high : new.height ≡ old.height
+
+-- At most one field more was begun. The count stays at the greatest number of 64 bits.
+abbrev pub CountsOn : ℕ → ℕ → Type 0
+CountsOn old new = (new ≡ old) ⊎ (new ≡ min (old + 1) (2 ^ 64 - 1))

@@ -1,5 +1,5 @@
 -- What the steps of a search change.
-use Rattle.std.specs.Prelude.{◌≡◌, ℕ, ◌+◌, ◌*◌, ◌%◌, ◌<◌, ◌≤◌, ◌⊎◌, true, false, length, nat_lt, suc, Option, Some, None}
+use Rattle.std.specs.Prelude.{◌≡◌, ◌≢◌, ℕ, ◌+◌, ◌*◌, ◌%◌, ◌<◌, ◌≤◌, ◌⊎◌, true, false, length, nat_lt, suc, Option, Some, None}
 use Rattle.std.specs.Prelude.{if◌then◌else◌}
 use Rattle.world_units.specs.declared.cell.CPos.{CPos}
 use Rattle.game_model.specs.Grid.{Grid, IsOn, HasSize}
@@ -7,6 +7,7 @@ use Rattle.grid_routes.specs.declared.field.TheConstants.{NONE}
 use Rattle.grid_routes.specs.declared.route.Route.{Route}
 use Rattle.game_model.specs.Walks.{Land, HasNoWalk, IsBest, IsRouteOver, IsStep}
 use Rattle.grid_routes.specs.Labels.{Distances, IsFull, IsRight, label_of, open_count}
+use Rattle.grid_routes.specs.Tolls.{Ground}
 use Rattle.grid_routes.specs.Held.{Shelves, IsAt, IsHeld, len_of}
 
 -- A cell got a lower label by a step into a cell of this level, and went into its bucket.
@@ -49,6 +50,13 @@ pub record AreQueued (field : Distances) (shelves : Shelves) : Type 0 where
 pub record IsFair (toll : CPos → ℕ) (width height : ℕ) : Type 0 where
   pub inside : (q : CPos) → 0 < toll q → IsOn width height q
   pub cheap : (p q : CPos) (d k : ℕ) → IsStep toll p d q k → k ≤ 70
+
+-- A field that a search made and may take up again: its labels are right for the goal.
+pub record IsGoing (land : Land) (field : Distances) : Type 0 where
+  pub goal : IsOn field.labels.width field.labels.height land.goal
+  pub full : IsFull field.labels
+  pub fair : IsFair land.toll field.labels.width field.labels.height
+  pub right : IsRight land field
 
 -- A search on its way: its labels are right, its sizes agree, and its buckets have what they must
 -- unless they say that a cell may be missing.
@@ -107,8 +115,8 @@ pub record IsLeastLead (toll : CPos → ℕ) (labels : Grid ℕ) (p : CPos) (dis
   pub least : (e : ℕ) → IsLead toll labels p distance e → d ≤ e
 
 -- All that a search keeps has the size of the map.
-pub record FitsTogether (width height : ℕ) (tolls : Grid ℕ) (field : Distances) (shelves : Shelves) : Type 0 where
-  pub of_tolls : HasSize width height tolls
+pub record FitsTogether (width height : ℕ) (ground : Ground) (field : Distances) (shelves : Shelves) : Type 0 where
+  pub of_terrain : HasSize width height ground.terrain
   pub of_labels : HasSize width height field.labels
   pub room : shelves.room ≡ width * height
 
@@ -122,5 +130,5 @@ pub record IsOnward (land : Land) (labels : Grid ℕ) (p q : CPos) : Type 0 wher
 
 -- What is told of a route: it is none exactly where there is no walk or the cell is the goal.
 abbrev pub IsRoute : Land → CPos → Option Route → Type 0
-IsRoute land from (Some route) = IsRouteOver land from route.cost route.cells
+IsRoute land from (Some route) = (from ≢ land.goal) × IsRouteOver land from route.cost route.cells
 IsRoute land from None = (from ≡ land.goal) ⊎ HasNoWalk land from

@@ -1,13 +1,26 @@
--- The tolls of all cells, row by row.
-use Rattle.std.specs.Prelude.{◌≡◌, ℕ, ◌*◌, ◌≤◌, length, slice_index_or}
+-- What it costs to enter the cells of a map on the way to a goal.
+use Rattle.std.specs.Prelude.{ℕ, ◌≤◌, Bool}
 use Rattle.world_units.specs.declared.cell.CPos.{CPos}
 use Rattle.rule_traits.specs.declared.trait_fields.Costs.{Costs}
-use Rattle.game_model.specs.Grid.{Grid}
-use Rattle.grid_routes.specs.Values.{value_in}
+use Rattle.game_model.specs.declared.terrain.Terrain.{Terrain}
+use Rattle.game_model.specs.Grid.{Grid, HasSize}
+use Rattle.game_model.specs.Walks.{Land, toll_of}
 
--- The toll of a cell. A cell off the map can't be entered.
-abbrev pub toll_in : Grid ℕ → CPos → ℕ
-toll_in tolls p = value_in 0 tolls p
+-- The ground of a map with its buildings, and a question over it: where to, and at which costs.
+pub record Ground : Type 0 where
+  pub terrain : Grid Terrain
+  pub built : Grid Bool
+  pub costs : Costs
+  pub goal : CPos
+
+-- The toll of a cell.
+abbrev pub toll_in : Ground → CPos → ℕ
+toll_in ground = toll_of ground.terrain ground.built ground.costs ground.goal
+
+-- The walks over a ground to a goal, at these costs.
+abbrev pub land_over : Grid Terrain → Grid Bool → Costs → CPos → Land
+land_over terrain built costs goal =
+    record { toll = toll_of terrain built costs goal; goal = goal }
 
 -- Each cost is at most 10.
 pub record IsCheap (costs : Costs) : Type 0 where
@@ -16,7 +29,7 @@ pub record IsCheap (costs : Costs) : Type 0 where
   pub rough : costs.rough ≤ 10
   pub water : costs.water ≤ 10
 
--- There is a toll for each cell, at most 10.
-pub record AreTolls (grid : Grid ℕ) : Type 0 where
-  pub size : length grid.cells ≡ grid.width * grid.height
-  pub cheap : (i : ℕ) → slice_index_or grid.cells i 0 ≤ 10
+-- The buildings are those of the map, and the costs are cheap.
+pub record IsGround (ground : Ground) : Type 0 where
+  pub size : HasSize ground.terrain.width ground.terrain.height ground.built
+  pub cheap : IsCheap ground.costs

@@ -10,13 +10,18 @@
 //! Shortest-path forest with topological ordering", Communications of the ACM 12, 1969).
 #![tactic(auto)]
 
+mod ask;
 mod buckets;
 mod field;
+mod fields;
+mod index;
+mod law;
 mod route;
 mod router;
 mod search;
 mod tolls;
 
+pub use law::distances_are_least;
 pub use route::Route;
 pub use router::Router;
 

@@ -2,18 +2,17 @@ ghost use Rattle.std.specs.Prelude.{◌≡◌, ◌≢◌, ℕ, ◌+◌, ◌*◌,
 ghost use Rattle.world_units.specs.declared.cell.CPos.{CPos};
 ghost use Rattle.world_units.specs.Directions.{opposite_of, step_of};
 ghost use Rattle.game_model.specs.Grid.{IsOn, HasSize};
-ghost use Rattle.game_model.specs.Walks.{IsBestDirection, IsStep, toll_of};
-ghost use Rattle.grid_routes.specs.Tolls.{IsCheap, toll_in};
+ghost use Rattle.game_model.specs.Walks.{IsBestDirection, IsStep};
+ghost use Rattle.grid_routes.specs.Tolls.{IsCheap, land_over, toll_in};
 ghost use Rattle.grid_routes.specs.Labels.{IsFull, label_of};
 ghost use Rattle.grid_routes.specs.Held.{IsAt};
-ghost use Rattle.grid_routes.specs.Steps.{AreQueued, FitsTogether, HasLabel, IsClear, IsExpanded, IsFilled, IsLead, IsLeastLead, IsNext, IsOnward, IsRoute, IsSearch, Lowers, rings_left};
+ghost use Rattle.grid_routes.specs.Steps.{AreQueued, FitsTogether, HasLabel, IsClear, IsExpanded, IsFilled, IsGoing, IsLead, IsLeastLead, IsNext, IsOnward, IsRoute, IsSearch, Lowers, rings_left};
 
 use crate::buckets::{BUCKETS, Buckets};
 use crate::field::{Field, NONE};
 use crate::route::Route;
 use crate::tolls::Tolls;
 use base::{List, NoMemory};
-use game_model::{Blocks, Map};
 use rule_traits::Costs;
 use std::alloc::Global;
 use world_units::{CPos, DIRECTIONS, opposite, step};
@@ -41,20 +40,55 @@ impl Search {
         })
     }
 
-    /// Begins a search to another goal.
-    pub(crate) fn begin(&mut self, map: &Map, blocks: &Blocks, costs: &Costs, goal: CPos)
-        requires fits { FitsTogether map.now.width map.now.height self.old.tolls self.old.field self.old.buckets }
-        requires terrain { HasSize map.now.width map.now.height map.now.terrain }
-        requires blocks { HasSize map.now.width map.now.height blocks.now }
+    /// Begins a search to another goal, over the same ground.
+    fn begin(&mut self, costs: &Costs, goal: CPos)
+        requires room { self.old.buckets.room ≡ self.old.tolls.terrain.width * self.old.tolls.terrain.height }
+        requires size { HasSize self.old.tolls.terrain.width self.old.tolls.terrain.height self.old.field.labels }
         requires costs { IsCheap costs.now }
-        requires goal { IsOn map.now.width map.now.height goal }
-        ensures fits { FitsTogether map.now.width map.now.height self.new.tolls self.new.field self.new.buckets }
-        ensures tolls { (p : CPos) → toll_in self.new.tolls p ≡ toll_of map.now.terrain blocks.now costs.now goal p }
+        requires goal { IsOn self.old.tolls.terrain.width self.old.tolls.terrain.height goal }
+        ensures tolls { self.new.tolls ≡ record self.old.tolls { costs = costs.now; goal = goal } }
+        ensures room { self.new.buckets.room ≡ self.old.buckets.room }
+        ensures size { HasSize self.old.tolls.terrain.width self.old.tolls.terrain.height self.new.field.labels }
         ensures search { IsSearch (record { toll = toll_in self.new.tolls; goal = goal }) self.new.field self.new.buckets }
     {
-        self.tolls.lay(map, blocks, costs, goal);
+        self.tolls.turn_to(costs, goal);
+        self.tolls.ground();
         self.field.begin(goal);
         self.buckets.lose();
+    }
+
+    /// Takes up a search where it stopped, over the same ground.
+    fn resume(&mut self, costs: &Costs, goal: CPos)
+        requires room { self.old.buckets.room ≡ self.old.tolls.terrain.width * self.old.tolls.terrain.height }
+        requires size { HasSize self.old.tolls.terrain.width self.old.tolls.terrain.height self.old.field.labels }
+        requires costs { IsCheap costs.now }
+        requires going { IsGoing (land_over self.old.tolls.terrain self.old.tolls.built costs.now goal) self.old.field }
+        ensures tolls { self.new.tolls ≡ record self.old.tolls { costs = costs.now; goal = goal } }
+        ensures room { self.new.buckets.room ≡ self.old.buckets.room }
+        ensures size { HasSize self.old.tolls.terrain.width self.old.tolls.terrain.height self.new.field.labels }
+        ensures search { IsSearch (record { toll = toll_in self.new.tolls; goal = goal }) self.new.field self.new.buckets }
+    {
+        self.tolls.turn_to(costs, goal);
+        self.buckets.lose();
+    }
+
+    /// Takes up the search for a goal, or begins it.
+    pub(crate) fn set_out(&mut self, going: bool, costs: &Costs, goal: CPos)
+        requires room { self.old.buckets.room ≡ self.old.tolls.terrain.width * self.old.tolls.terrain.height }
+        requires size { HasSize self.old.tolls.terrain.width self.old.tolls.terrain.height self.old.field.labels }
+        requires costs { IsCheap costs.now }
+        requires goal { IsOn self.old.tolls.terrain.width self.old.tolls.terrain.height goal }
+        requires going { IsTrue going → IsGoing (land_over self.old.tolls.terrain self.old.tolls.built costs.now goal) self.old.field }
+        ensures tolls { self.new.tolls ≡ record self.old.tolls { costs = costs.now; goal = goal } }
+        ensures room { self.new.buckets.room ≡ self.old.buckets.room }
+        ensures size { HasSize self.old.tolls.terrain.width self.old.tolls.terrain.height self.new.field.labels }
+        ensures search { IsSearch (record { toll = toll_in self.new.tolls; goal = goal }) self.new.field self.new.buckets }
+    {
+        if going {
+            self.resume(costs, goal);
+        } else {
+            self.begin(costs, goal);
+        }
     }
 
     /// Offers a cell the walk by its step in direction `d`, which enters a cell of this level.
@@ -311,9 +345,9 @@ impl Search {
     /// walk or the cell is the goal. Out of memory is its only error.
     pub(crate) fn route(
         &self,
+        alloc: Global,
         from: CPos,
         goal: CPos,
-        alloc: Global,
     ) -> Result<Option<Route>, NoMemory>
         requires search { IsSearch (record { toll = toll_in self.now.tolls; goal = goal }) self.now.field self.now.buckets }
         requires on { IsOn self.now.field.labels.width self.now.field.labels.height from }

@@ -117,7 +117,7 @@ fn answer(alloc: Global, row: &Row) -> Result<String, AllocError> {
     let mut out = String::new(alloc);
     if from.x < w && from.y < h && to.x < w && to.y < h {
         let mut router = Router::create(alloc, w, h)?;
-        let route = router.walk(&map, &blocks, &costs, from, to, alloc)?;
+        let route = router.walk(alloc, &map, &blocks, &costs, from, to)?;
         out = written(alloc, &route)?;
     }
     Ok(out)

@@ -1,12 +1,11 @@
-ghost use Rattle.std.specs.Prelude.{◌≡◌, ℕ, ◌+◌, ◌*◌, ◌%◌, ◌<◌, ◌≤◌, ◌≢◌, IfOk};
-ghost use Rattle.world_units.specs.declared.cell.CPos.{CPos};
+ghost use Rattle.std.specs.Prelude.{◌≡◌, ◌↔◌, ◌<◌, ◌≤◌, IfOk, IsTrue};
 ghost use Rattle.world_units.specs.Directions.{step_of};
-ghost use Rattle.game_model.specs.Grid.{IsOn, HasSize, with_cell};
-ghost use Rattle.game_model.specs.Walks.{fare_of, is_free, toll_of};
-ghost use Rattle.grid_routes.specs.Tolls.{AreTolls, toll_in, IsCheap};
+ghost use Rattle.game_model.specs.Grid.{HasSize};
+ghost use Rattle.game_model.specs.Walks.{fare_of, is_free};
+ghost use Rattle.grid_routes.specs.Tolls.{IsCheap, IsGround, toll_in};
 
 use base::NoMemory;
-use game_model::{Blocks, Map, cost_on};
+use game_model::{Blocks, Map, Tiles, cost_on};
 use rule_traits::Costs;
 use std::alloc::Global;
 use std::marker::Model;
@@ -18,89 +17,92 @@ const STRAIGHT: u32 = 5;
 /// What a step across a corner costs on ground of cost 1.
 const ACROSS: u32 = 7;
 
-/// What it costs to enter each cell of a map, 0 to 10 and row by row: 0 where it can't be entered.
+/// What it costs to enter each cell of a map on the way to a goal, 0 to 10: 0 where it can't be
+/// entered.
 #[derive(Drop)]
 pub(crate) struct Tolls {
-    width: u8,
-    height: u8,
-    cells: Vec<u8>,
+    /// The terrain of the map, which is kept from one question to the next.
+    terrain: Tiles,
+    /// Its buildings, likewise.
+    blocks: Blocks,
+    /// What entering each kind of ground costs.
+    costs: Costs,
+    /// The cell to go to.
+    goal: CPos,
 }
 
 impl Model for Tolls {
-    ghost use Rattle.std.specs.Prelude.{ℕ};
-    ghost use Rattle.game_model.specs.Grid.{Grid};
-    ghost use Rattle.grid_routes.specs.Tolls.{AreTolls};
+    ghost use Rattle.grid_routes.specs.Tolls.{Ground, IsGround};
 
-    ghost Value = { Grid ℕ };
+    ghost Value = { Ground };
 
-    ghost view = { λ t. record { width = t.width; height = t.height; cells = t.cells.items } };
+    ghost view = { λ t. record { terrain = t.terrain; built = t.blocks; costs = t.costs; goal = t.goal } };
 
-    ghost invariant = { λ t. AreTolls (record { width = t.width; height = t.height; cells = t.cells.items }) };
+    ghost invariant = { λ t. IsGround (record { terrain = t.terrain; built = t.blocks; costs = t.costs; goal = t.goal }) };
 }
 
 impl Tolls {
-    /// Tolls of 0 everywhere. Out of memory is its only error.
+    /// The tolls of clear ground that can't be entered. Out of memory is its only error.
     pub(crate) fn create(alloc: Global, w: u8, h: u8) -> Result<Tolls, NoMemory>
-        ensures { IfOk result (λ tolls. HasSize w h tolls) }
+        ensures { IfOk result (λ tolls. HasSize w h tolls.terrain) }
     {
-        let mut cells = Vec::new(alloc);
-        cells.resize(usize::from(w) * usize::from(h), 0)?;
         Ok(Tolls {
-            width: w,
-            height: h,
-            cells,
+            terrain: Tiles::create(alloc, w, h)?,
+            blocks: Blocks::create(alloc, w, h)?,
+            costs: Costs {
+                clear: 0,
+                road: 0,
+                rough: 0,
+                water: 0,
+            },
+            goal: CPos { x: 0, y: 0 },
         })
     }
 
-    /// Takes in the tolls of a map on the way to a goal.
-    pub(crate) fn lay(&mut self, map: &Map, blocks: &Blocks, costs: &Costs, goal: CPos)
-        requires terrain { HasSize self.old.width self.old.height map.now.terrain }
-        requires blocks { HasSize self.old.width self.old.height blocks.now }
-        requires costs { IsCheap costs.now }
-        ensures size { HasSize self.old.width self.old.height self.new }
-        ensures tolls { (p : CPos) → toll_in self.new p ≡ toll_of map.now.terrain blocks.now costs.now goal p }
-        ensures cheap { AreTolls self.new }
+    /// Whether they are over this terrain and these buildings.
+    pub(crate) fn is_over(&self, map: &Map, blocks: &Blocks) -> bool
+        ensures { IsTrue result ↔ ((self.now.terrain ≡ map.now.terrain) × (self.now.built ≡ blocks.now)) }
     {
-        for y in 0..self.height {
-            self.lay_row(map, blocks, costs, goal, y);
-        }
-        let _cells = &self.cells;
+        self.terrain.is_same(&map.terrain) && self.blocks.is_same(blocks)
     }
 
-    /// Takes in the tolls of a row.
-    fn lay_row(&mut self, map: &Map, blocks: &Blocks, costs: &Costs, goal: CPos, y: u8)
-        requires terrain { HasSize self.old.width self.old.height map.now.terrain }
-        requires blocks { HasSize self.old.width self.old.height blocks.now }
-        requires costs { IsCheap costs.now }
-        requires row { y < self.old.height }
-        ensures size { HasSize self.old.width self.old.height self.new }
-        ensures here { (x : ℕ) → x < self.old.width → let p : CPos = record { x = x; y = y } in toll_in self.new p ≡ toll_of map.now.terrain blocks.now costs.now goal p }
-        ensures elsewhere { (p : CPos) → p.y ≢ y → toll_in self.new p ≡ toll_in self.old p }
+    /// Takes in terrain and buildings. It takes no memory.
+    pub(crate) fn take_ground(&mut self, map: &Map, blocks: &Blocks)
+        requires terrain { HasSize self.old.terrain.width self.old.terrain.height map.now.terrain }
+        requires blocks { HasSize self.old.terrain.width self.old.terrain.height blocks.now }
+        ensures { self.new ≡ record self.old { terrain = map.now.terrain; built = blocks.now } }
     {
-        for x in 0..self.width {
-            let p = CPos { x, y };
-            self.set(p, toll_of(map, blocks, costs, goal, p));
-        }
+        self.terrain.copy_from(&map.terrain);
+        self.blocks.copy_from(blocks);
     }
 
-    /// Sets the toll of a cell.
-    fn set(&mut self, p: CPos, toll: u8)
-        requires on { IsOn self.old.width self.old.height p }
-        requires cheap { toll ≤ 10 }
-        ensures value { self.new ≡ with_cell self.old p toll }
-        ensures tolls { AreTolls self.old }
+    /// Turns to a goal and to costs.
+    pub(crate) fn turn_to(&mut self, costs: &Costs, goal: CPos)
+        requires { IsCheap costs.now }
+        ensures { self.new ≡ record self.old { costs = costs.now; goal = goal } }
     {
-        self.cells[usize::from(p.y) * usize::from(self.width) + usize::from(p.x)] = toll;
+        self.costs = *costs;
+        self.goal = goal;
+    }
+
+    /// The sizes of terrain and buildings agree, and the costs are cheap.
+    pub(crate) fn ground(&self)
+        ensures { IsGround self.now }
+    {
+        let _goal = self.goal;
     }
 
     /// What it costs to enter a cell, 0 where it can't be entered or isn't on the map.
-    #[tactic(auto, unfolding(crate::specs::Values::value_in))]
+    #[tactic(auto, unfolding(game_model::specs::Walks::toll_of))]
     pub(crate) fn toll(&self, p: CPos) -> u8
         ensures value { result ≡ toll_in self.now p }
         ensures cheap { result ≤ 10 }
     {
-        if p.x < self.width && p.y < self.height {
-            self.cells[usize::from(p.y) * usize::from(self.width) + usize::from(p.x)]
+        if p.x < self.terrain.width()
+            && p.y < self.terrain.height()
+            && (p == self.goal || !self.blocks.has(p))
+        {
+            cost_on(&self.costs, self.terrain.get(p))
         } else {
             0
         }
@@ -131,21 +133,5 @@ impl Tolls {
         } else {
             0
         }
-    }
-}
-
-/// What it costs to enter a cell on the way to a goal, 0 where it can't be entered.
-#[tactic(auto, unfolding(game_model::specs::Walks::toll_of))]
-fn toll_of(map: &Map, blocks: &Blocks, costs: &Costs, goal: CPos, p: CPos) -> u8
-    requires terrain { IsOn map.now.terrain.width map.now.terrain.height p }
-    requires blocks { IsOn blocks.now.width blocks.now.height p }
-    requires costs { IsCheap costs.now }
-    ensures value { result ≡ toll_of map.now.terrain blocks.now costs.now goal p }
-    ensures cheap { result ≤ 10 }
-{
-    if p == goal || !blocks.has(p) {
-        cost_on(costs, map.terrain.get(p))
-    } else {
-        0
     }
 }

@@ -1,3 +1,5 @@
 pub mod Changes
 pub mod Exits
 pub mod Steps
+pub mod Living
+pub mod OrderLemmas

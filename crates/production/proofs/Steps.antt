@@ -52,7 +52,7 @@ first_out setup actors next_id a (other ∷ rest) build d p first out beside =
     cases false fails = absurd (let none : None ≡ Some d = rw fails at out in cc)
 
 -- the actor of an id has it
-found_id : (actors : List Actor) (id : ℕ) (a : Actor) → actor_of actors id ≡ Some a → a.id ≡ id
+pub found_id : (actors : List Actor) (id : ℕ) (a : Actor) → actor_of actors id ≡ Some a → a.id ≡ id
 found_id [] id a found = absurd (cc)
 found_id (b ∷ actors) id a found = elim (eqb_tells b.id id) [
   | inl hit ↦ (let some : Some b ≡ Some a = rw hit.0 at found in let is : b ≡ a = cc in sym (ap (λ (x : Actor). x.id) is) ∙ hit.1)

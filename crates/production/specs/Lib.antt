@@ -1,3 +1,4 @@
 pub mod Grounds
 pub mod Exits
 pub mod Steps
+pub mod Orders

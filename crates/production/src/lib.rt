@@ -8,5 +8,11 @@
 mod building;
 mod exit;
 mod give;
+mod needs;
+mod orders;
 
 pub use building::build_step;
+pub use orders::{cancel, pay, produce};
+
+#[cfg(test)]
+mod tests;

@@ -27,15 +27,23 @@ client_bytes (cash, gone) = field_bytes 4 cash ++ flag_byte gone ∷ []
 abbrev pub clients_bytes : Head → List ℕ
 clients_bytes head = flat_map client_bytes (zip head.cash head.gone)
 
--- The bytes of a world's header: tick, seed, random words drawn, next id, pace, the clients and the
--- number of actors.
-abbrev pub header_bytes : Head → ℕ → List ℕ
-header_bytes head actors =
+-- The bytes of a world's header: tick, seed, random words drawn, next id, these bytes for the pace,
+-- the clients and the number of actors.
+abbrev pub header_with : List ℕ → Head → ℕ → List ℕ
+header_with pace head actors =
     field_bytes 4 head.tick ++ field_bytes 4 head.seed ++ field_bytes 8 head.drawn
     ++ field_bytes 4 head.next_id
-    ++ (head.pace ∷ length head.cash ∷ [])
+    ++ pace
+    ++ (length head.cash ∷ [])
     ++ clients_bytes head
     ++ field_bytes 4 actors
+
+-- The header has the pace in one byte. In the first version of the hash it has no pace.
+abbrev pub header_bytes : Head → ℕ → List ℕ
+header_bytes head actors = header_with (head.pace ∷ []) head actors
+
+abbrev pub header_bytes_1 : Head → ℕ → List ℕ
+header_bytes_1 head actors = header_with [] head actors
 
 -- The bytes of a cell: its column and its row.
 abbrev pub cell_bytes : CPos → List ℕ
@@ -95,7 +103,14 @@ ore_parts width place (ore ∷ rest) =
     if ore == 0 then ore_parts width (place + 1) rest
     else (ore_bytes (cell_at width place) ore ∷ ore_parts width (place + 1) rest)
 
+-- The byte lists of a world after its header.
+abbrev pub parts_after_header : World → List (List ℕ)
+parts_after_header w = map actor_bytes w.actors ++ ore_parts w.ore.width 0 w.ore.cells
+
 -- The byte lists of a world.
 abbrev pub parts_of : World → List (List ℕ)
-parts_of w =
-    header_bytes (head_of w) (length w.actors) ∷ (map actor_bytes w.actors ++ ore_parts w.ore.width 0 w.ore.cells)
+parts_of w = header_bytes (head_of w) (length w.actors) ∷ parts_after_header w
+
+-- The same with the header of the first version.
+abbrev pub parts_of_1 : World → List (List ℕ)
+parts_of_1 w = header_bytes_1 (head_of w) (length w.actors) ∷ parts_after_header w

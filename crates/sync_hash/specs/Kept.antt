@@ -72,6 +72,11 @@ abbrev pub ore_cells : List ℕ → ℕ
 ore_cells [] = 0
 ore_cells (ore ∷ rest) = if ore == 0 then ore_cells rest else (1 + ore_cells rest)
 
+-- The sum of the numbers of a world's actors and cells.
+abbrev pub parts_number : World → ℕ
+parts_number w =
+    sum_by actor_number w.actors + sum_by (λ n. n) (cell_numbers w.ore.width 0 w.ore.cells)
+
 -- What is kept of a world on a map of this size.
 abbrev pub kept_of : (width height : ℕ) → World → Kept
 kept_of width height w =

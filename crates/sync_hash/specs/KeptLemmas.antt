@@ -19,6 +19,7 @@ use Rattle.world_units.specs.declared.cell.CPos.{CPos}
 use Rattle.sync_hash.specs.declared.actor_number.ActorNumber.{ActorNumber}
 use Rattle.sync_hash.specs.Fnv.{fnv_of}
 use Rattle.sync_hash.specs.HashedBytes.{actor_bytes, cell_at, header_bytes, ore_bytes, ore_parts, parts_of}
+use Rattle.sync_hash.specs.HashedBytes.{parts_after_header}
 use Rattle.sync_hash.specs.WorldHash.{hash_of}
 use Rattle.sync_hash.specs.Kept.{Kept, IsKeptOf, actor_number, cell_number, cell_numbers, hash_with, kept_of}
 use Rattle.sync_hash.specs.Kept.{numbered, numbers_of, numbers_sum, sum_of, with_number, with_numbers}
@@ -97,16 +98,22 @@ ore_sum width place (ore ∷ cells) = by_ore (ore == 0) refl (ore_sum width (pla
       let p = cell_at width place in
       rw is (omega (arith, rest, sum_by-cons fnv_of (ore_bytes p ore) (ore_parts width (place + 1) cells), sum_by-cons (λ n. n) (fnv_of (ore_bytes p ore)) (cell_numbers width (place + 1) cells)))
 
+pub parts_sum :
+    (header : List ℕ) (w : World) →
+    sum_by fnv_of (header ∷ parts_after_header w)
+    ≡ fnv_of header
+    + (sum_by actor_number w.actors + sum_by (λ n. n) (cell_numbers w.ore.width 0 w.ore.cells))
+parts_sum header w =
+    let actors = map actor_bytes w.actors in
+    let cells = ore_parts w.ore.width 0 w.ore.cells in
+    omega (arith, sum_by-cons fnv_of header (actors ++ cells), sum_by-append fnv_of actors cells, actors_sum w.actors, ore_sum w.ore.width 0 w.ore.cells)
+
 pub world_sum :
     (w : World) →
     sum_by fnv_of (parts_of w)
     ≡ fnv_of (header_bytes (head_of w) (length w.actors))
     + (sum_by actor_number w.actors + sum_by (λ n. n) (cell_numbers w.ore.width 0 w.ore.cells))
-world_sum w =
-    let header = header_bytes (head_of w) (length w.actors) in
-    let actors = map actor_bytes w.actors in
-    let cells = ore_parts w.ore.width 0 w.ore.cells in
-    omega (arith, sum_by-cons fnv_of header (actors ++ cells), sum_by-append fnv_of actors cells, actors_sum w.actors, ore_sum w.ore.width 0 w.ore.cells)
+world_sum w = parts_sum (header_bytes (head_of w) (length w.actors)) w
 
 -- A hasher that keeps the numbers of a world gives its hash.
 pub kept_hash : (kept : Kept) (w : World) → IsKeptOf kept w.actors w.ore → hash_with kept (head_of w) ≡ hash_of w

@@ -2,6 +2,7 @@ ghost use Rattle.std.specs.Prelude.{◌≡◌, ◌<◌, length};
 ghost use Rattle.game_model.specs.World.{AreClients};
 ghost use Rattle.sync_hash.specs.Fnv.{fnv_from, fnv_of};
 ghost use Rattle.sync_hash.specs.HashedBytes.{clients_bytes, flag_byte, header_bytes};
+ghost use Rattle.sync_hash.specs.HashedBytes.{header_bytes_1, header_with};
 
 use crate::fnv_state::FnvState;
 use game_model::Head;
@@ -11,12 +12,29 @@ pub(crate) fn header_number(head: &Head, actors: u32) -> u64
     requires { AreClients head.now.cash head.now.gone }
     ensures { result ≡ fnv_of (header_bytes head.now actors) }
 {
+    number_with(&[head.pace], head, actors)
+}
+
+/// The number of the bytes of a head and a number of actors in the first version, without the pace.
+pub(crate) fn header_number_1(head: &Head, actors: u32) -> u64
+    requires { AreClients head.now.cash head.now.gone }
+    ensures { result ≡ fnv_of (header_bytes_1 head.now actors) }
+{
+    number_with(&[], head, actors)
+}
+
+/// The number of the bytes of a head, with these bytes for the pace, and a number of actors.
+fn number_with(pace: &[u8], head: &Head, actors: u32) -> u64
+    requires { AreClients head.now.cash head.now.gone }
+    ensures { result ≡ fnv_of (header_with pace.now head.now actors) }
+{
     let mut state = FnvState::new();
     state.write_u32(head.tick);
     state.write_u32(head.seed);
     state.write_u64(head.drawn);
     state.write_u32(head.next_id);
-    state.write(&[head.pace, head.cash.clients()]);
+    state.write(pace);
+    state.write_u8(head.cash.clients());
     write_clients(&mut state, head);
     state.write_u32(actors);
     state.finish()

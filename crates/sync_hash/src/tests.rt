@@ -2,7 +2,7 @@ ghost use Rattle.std.specs.Prelude.{◌≡◌, ◌≤◌, length, IfOk};
 ghost use Rattle.game_model.specs.Grid.{HasSize};
 ghost use Rattle.game_model.specs.World.{AreClients, HasClients};
 
-use crate::{Hasher, fnv, world_hash};
+use crate::{Hasher, fnv, world_hash, world_hash_1};
 use activities::{Activity, Queue};
 use base::{List, NoMemory};
 use game_model::{Actor, ActorList, Body, Build, Builds, Gone, Head, Leg, Ore, Purse, World};
@@ -118,6 +118,26 @@ fn assert_hash(
     let hasher = Hasher::create(alloc, w, h, &world)?;
     assert_eq!(rt; hasher.hash(head), want);
     Ok(hasher)
+}
+
+/// Hashes of the first version, without the pace, of worlds without actors that two programs written
+/// apart agree on.
+#[test]
+fn first_version(rt: HostRuntime) -> Result<(), Fail> {
+    let alloc = rt.alloc();
+    let cases: [(u32, u32, u64); 5] = [
+        (0, 0x8849_1bf7, 0x843d_36e2_715a_f23d),
+        (0, 0x3b15_7d49, 0x8009_a77c_16ff_42f0),
+        (1, 0x0000_0001, 0x8128_3232_0b2b_6e66),
+        (1, 0x0ade_159d, 0x27a0_fda6_14e1_e859),
+        (1, 0x65c0_9c76, 0x24c9_6175_2091_22ae),
+    ];
+    for (tick, seed, want) in cases {
+        let head = head_of(tick, seed, 0, 1, Purse::create(1, 1_000));
+        let world = head.world_with(List::new(alloc), ore_of(alloc, 1, 1, &[])?);
+        assert_eq!(rt; world_hash_1(&world), want);
+    }
+    Ok(())
 }
 
 /// Hashes of worlds without actors that two programs written apart agree on.

@@ -1,11 +1,11 @@
-ghost use Rattle.std.specs.Prelude.{◌≡◌, ◌≤◌, ◌%◌, ◌^◌, length};
+ghost use Rattle.std.specs.Prelude.{◌≡◌, ◌+◌, ◌≤◌, ◌%◌, ◌^◌, length};
 ghost use Rattle.std.specs.List.{sum_by};
 ghost use Rattle.game_model.specs.World.{HasClients, head_of};
-ghost use Rattle.sync_hash.specs.Kept.{actor_number};
-ghost use Rattle.sync_hash.specs.WorldHash.{hash_of};
+ghost use Rattle.sync_hash.specs.Kept.{actor_number, parts_number};
+ghost use Rattle.sync_hash.specs.WorldHash.{hash_of, hash_of_1};
 
 use crate::actor_bytes::actor_number;
-use crate::header::header_number;
+use crate::header::{header_number, header_number_1};
 use crate::ore_bytes::ore_sum;
 use game_model::{Actor, Head, MAX_ACTORS, World};
 
@@ -17,7 +17,23 @@ pub fn world_hash(w: &World) -> u64
     requires actors { length w.now.actors ≤ MAX_ACTORS }
     ensures { result ≡ hash_of w.now }
 {
-    let header = header_number(&head_of(w), w.actors.len() as u32);
+    with_parts(header_number(&head_of(w), w.actors.len() as u32), w)
+}
+
+/// The hash of a world in the first version, as [`world_hash`] but without the pace in its header:
+/// that of the marks in replays of version 1. It takes no memory.
+pub fn world_hash_1(w: &World) -> u64
+    requires clients { HasClients w.now }
+    requires actors { length w.now.actors ≤ MAX_ACTORS }
+    ensures { result ≡ hash_of_1 w.now }
+{
+    with_parts(header_number_1(&head_of(w), w.actors.len() as u32), w)
+}
+
+/// A header's number with those of a world's actors and cells, modulo 2^64.
+fn with_parts(header: u64, w: &World) -> u64
+    ensures { result ≡ (header + parts_number w.now) % 2 ^ 64 }
+{
     let actors = actors_sum(w.actors.as_slice());
     header.wrapping_add(actors).wrapping_add(ore_sum(&w.ore))
 }

@@ -15,7 +15,7 @@ use Rattle.yaml_merge.specs.declared.stop.Stop.{Stop}
 use Rattle.yaml_merge.specs.declared.stop.Stop.TheVariants.{Fault, Parent}
 use Rattle.yaml_merge.specs.declared.TheConstants.{MAX_PATH}
 use Rattle.yaml_merge.specs.Kept.{key_from, slot, IsClear, Gives, IsNext, resolved_at, Stops}
-use Rattle.yaml_merge.specs.Levels.{width, children_from}
+use Rattle.yaml_merge.specs.Places.{width, children_from}
 use Rattle.yaml_merge.specs.Resolving.{in_path, resolved_list}
 use Rattle.yaml_merge.specs.Settled.{IsOnce}
 use Rattle.yaml_merge.proofs.KeptSteps.{clear_less, clear_longer, filled}

@@ -17,7 +17,7 @@ use Rattle.yaml_merge.specs.declared.TheConstants.{MAX_PATH, MAX_FOREST_NODES}
 use Rattle.yaml_merge.specs.Kept.{key_from, slot, resolved_at, AreKept, AreKeptBefore, StayKept}
 use Rattle.yaml_merge.specs.declared.resolved.Resolved.{Resolved}
 use Rattle.std.specs.Prelude.{is_some, IsSome, MatchOption, ⊤}
-use Rattle.yaml_merge.specs.Levels.{children_from}
+use Rattle.yaml_merge.specs.Places.{children_from}
 use Rattle.yaml_merge.specs.Merging.{merged_into, merged_files, count}
 use Rattle.yaml_merge.specs.Resolving.{Outcome, within, removes, resolved_list, added}
 use Rattle.yaml_merge.specs.Resolving.{resolved_tops}

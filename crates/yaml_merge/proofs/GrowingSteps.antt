@@ -9,14 +9,14 @@ use Rattle.yaml_lines.specs.declared.place.Place.{Place}
 use Rattle.yaml_lines.specs.Trees.{Trees, none, more}
 use Rattle.yaml_merge.specs.declared.growing_list.Slot.{Slot}
 use Rattle.yaml_merge.specs.declared.index.Index.{Index}
-use Rattle.yaml_merge.specs.declared.keyed.Keyed.{Keyed}
-use Rattle.yaml_merge.specs.Levels.{children_from, emptied}
+use Rattle.yaml_merge.specs.declared.hashers.Hashers.{Hashers}
+use Rattle.yaml_merge.specs.Places.{children_from, emptied}
 use Rattle.yaml_merge.specs.Merging.{Lacks, count, children_at, joined, newer_value, without}
 use Rattle.yaml_merge.specs.Resolving.{added}
 use Rattle.yaml_merge.specs.Slots.{standing, holds, LacksKey, StandsAt, IsFound, IsWhole, Finds, Forgets}
 use Rattle.yaml_merge.specs.Slots.{NoneLeft}
-use Rattle.yaml_merge.proofs.LevelLaws.{stands_children, emptied_stands, put_joined, added_joined}
-use Rattle.yaml_merge.proofs.LevelLaws.{without_at, lacks_children, joined_below}
+use Rattle.yaml_merge.proofs.PlaceLaws.{stands_children, emptied_stands, put_joined, added_joined}
+use Rattle.yaml_merge.proofs.PlaceLaws.{without_at, lacks_children, joined_below}
 use Rattle.yaml_merge.proofs.SlotSteps.{rank, refilled, is_live, stands_within, stands_holds}
 use Rattle.yaml_merge.proofs.SlotSteps.{stands_standing, lacks_standing, children_standing, put_standing}
 use Rattle.yaml_merge.proofs.SlotSteps.{emptied_standing, removed_standing, added_standing}
@@ -48,7 +48,7 @@ below_less key at slots slot total i t =
       count_removed (rank at slots) (standing slots) (width_standing at slots slot i.within i.is i.live),
     )
 
-finds_by : (places : Option (Box (HashMap (List ℕ) ℕ Keyed) Global)) (slots others : List Slot) → ((key : List ℕ) (found : Option ℕ) → IsFound key slots found → IsFound key others found) →
+finds_by : (places : Option (Box (HashMap (List ℕ) ℕ Hashers) Global)) (slots others : List Slot) → ((key : List ℕ) (found : Option ℕ) → IsFound key slots found → IsFound key others found) →
     MatchOption places (Unit {0}) (λ held. (key : List ℕ) → IsFound key slots (get bytes_eq held.value key)) →
     MatchOption places (Unit {0}) (λ held. (key : List ℕ) → IsFound key others (get bytes_eq held.value key))
 finds_by None slots others f h = tt
@@ -164,9 +164,9 @@ added_list key value slots more_slots slot list m y l k v s =
     ∙ ap (joined key value slot.place (λ _. slot.children)) s
 
 -- A slot dies.
-forgets_by : (key : List ℕ) (at : ℕ) (slots : List Slot) (slot dead : Slot) (old new : Option (Box (HashMap (List ℕ) ℕ Keyed) Global)) → IsAt key at slots slot → dead.live ≡ false → IsWhole slots →
+forgets_by : (key : List ℕ) (at : ℕ) (slots : List Slot) (slot dead : Slot) (old new : Option (Box (HashMap (List ℕ) ℕ Hashers) Global)) → IsAt key at slots slot → dead.live ≡ false → IsWhole slots →
     MatchOption old (new ≡ None)
-    (λ held. (after : Box (HashMap (List ℕ) ℕ Keyed) Global) × (new ≡ Some after)
+    (λ held. (after : Box (HashMap (List ℕ) ℕ Hashers) Global) × (new ≡ Some after)
     × ((other : List ℕ) → get bytes_eq after.value other ≡ (cond (bytes_eq key other) None (get bytes_eq held.value other)))) →
     MatchOption old (Unit {0}) (λ held. (other : List ℕ) → IsFound other slots (get bytes_eq held.value other)) →
     MatchOption new (Unit {0}) (λ held. (other : List ℕ) → IsFound other (set slots at dead) (get bytes_eq held.value other))

@@ -6,9 +6,9 @@ use Rattle.yaml_lines.specs.declared.forest.Forest.TheViews.{out-Node}
 use Rattle.yaml_lines.specs.declared.place.Place.{Place}
 use Rattle.yaml_lines.specs.Trees.{Trees, none, trees_of, before, trees_of_nodes}
 use Rattle.yaml_lines.proofs.TreeSteps.{before_out}
-use Rattle.yaml_merge.specs.Levels.{emptied}
+use Rattle.yaml_merge.specs.Places.{emptied}
 use Rattle.yaml_merge.specs.Merging.{joined, children_at, merged_into}
-use Rattle.yaml_merge.proofs.LevelLaws.{joined_below, joined_emptied}
+use Rattle.yaml_merge.proofs.PlaceLaws.{joined_below, joined_emptied}
 
 -- A node whose children were taken out, changed and put back.
 pub joined_back : (key value : List ℕ) (place : Place) (old left taken children next : Trees) (below : Trees → Trees) →

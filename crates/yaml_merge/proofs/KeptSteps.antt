@@ -19,13 +19,13 @@ use Rattle.yaml_merge.specs.declared.stop.Stop.TheVariants.{Fault, Parent}
 use Rattle.yaml_merge.specs.declared.TheConstants.{MAX_PATH}
 use Rattle.yaml_merge.specs.Kept.{key_from, slot, IsClear, Gives, resolved_at, AreKept, StayKept}
 use Rattle.yaml_merge.specs.Kept.{Stops, IsNext, weight}
-use Rattle.yaml_merge.specs.Levels.{width, children_from, Stands}
+use Rattle.yaml_merge.specs.Places.{width, children_from, Stands}
 use Rattle.yaml_merge.specs.Merging.{Lacks, without}
 use Rattle.yaml_merge.specs.Resolving.{Outcome, in_path, inherits, removes, parent_of, inherited}
 use Rattle.yaml_merge.specs.Resolving.{removed, inherit_step, join_step, node_step, taken_in}
 use Rattle.yaml_merge.specs.Resolving.{parents, resolved_list}
 use Rattle.yaml_merge.specs.Settled.{IsOnce}
-use Rattle.yaml_merge.proofs.LevelSteps.{bytes_flip}
+use Rattle.yaml_merge.proofs.KeySteps.{bytes_flip}
 
 -- Places and keys.
 pub stands_key : (key : List ℕ) (at : ℕ) (list : Trees) → Stands key at list → key_from at list ≡ key

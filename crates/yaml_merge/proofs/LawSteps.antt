@@ -14,7 +14,7 @@ use Rattle.yaml_lines.specs.Trees.{Trees, none, more}
 use Rattle.yaml_merge.specs.declared.fault.MergeFault.TheVariants.{Cycle, TooDeep}
 use Rattle.yaml_merge.specs.declared.TheConstants.{MAX_LIST_NODES}
 use Rattle.yaml_merge.specs.Merging.{Lacks, newer_value, joined, children_at, merged_into}
-use Rattle.yaml_merge.specs.Merging.{merged_files, behind, without, levels}
+use Rattle.yaml_merge.specs.Merging.{merged_files, with_first, without, levels}
 use Rattle.yaml_merge.specs.Resolving.{inherits, removes, parent_of, in_path, Outcome, within}
 use Rattle.yaml_merge.specs.Resolving.{inherited, removed, inherit_step, join_step, node_step}
 use Rattle.yaml_merge.specs.Resolving.{taken_in, parents, resolved_list, resolved_tops}
@@ -109,17 +109,17 @@ same_key key = (bytes_eq-Decides key key).1 refl
 lacks_same : (one other : List ℕ) (list : Trees) → bytes_eq one other ≡ true → Lacks one list → Lacks other list
 lacks_same one other list e h = subst (λ k. Lacks k list) ((bytes_eq-Decides one other).0 e) h
 
-gone_behind : (name key value : List ℕ) (place : Place) (children : Trees) (left : Option Trees) → bytes_eq key name ≡ false → IfSome left (Lacks name) →
-    IfSome (behind key value place children left) (Lacks name)
-gone_behind name key value place children None n h = tt
-gone_behind name key value place children (Some rest) n h = (n, h)
+gone_with_first : (name key value : List ℕ) (place : Place) (children : Trees) (left : Option Trees) → bytes_eq key name ≡ false → IfSome left (Lacks name) →
+    IfSome (with_first key value place children left) (Lacks name)
+gone_with_first name key value place children None n h = tt
+gone_with_first name key value place children (Some rest) n h = (n, h)
 
 gone : (name : List ℕ) (list : Trees) → IsOnce list → IfSome (without name list) (Lacks name)
 gone name none h = tt
 gone name (more key value place children rest) h =
-    chosen (λ (left : Option Trees). IfSome left (Lacks name)) (bytes_eq key name) (Some rest) (behind key value place children (without name rest))
+    chosen (λ (left : Option Trees). IfSome left (Lacks name)) (bytes_eq key name) (Some rest) (with_first key value place children (without name rest))
     (λ y. lacks_same key name rest y h.0)
-    (λ n. gone_behind name key value place children (without name rest) n (gone name rest h.1))
+    (λ n. gone_with_first name key value place children (without name rest) n (gone name rest h.1))
 
 settled_once : (list : Trees) → IsSettled list → IsOnce list
 settled_once none h = tt
@@ -151,16 +151,16 @@ still_gone name (more key value place children rest) made h =
     (removed_kept (Lacks name) place (without (drop 1 key) made) (lacks_without name (drop 1 key) made h)) (λ next n. still_gone name rest next n))
     (still_gone name rest made h)
 
-once_behind : (key value : List ℕ) (place : Place) (children : Trees) (left : Option Trees) → IfSome left (Lacks key) → IfSome left IsOnce →
-    IfSome (behind key value place children left) IsOnce
-once_behind key value place children None l s = tt
-once_behind key value place children (Some rest) l s = (l, s)
+once_with_first : (key value : List ℕ) (place : Place) (children : Trees) (left : Option Trees) → IfSome left (Lacks key) → IfSome left IsOnce →
+    IfSome (with_first key value place children left) IsOnce
+once_with_first key value place children None l s = tt
+once_with_first key value place children (Some rest) l s = (l, s)
 
 once_without : (key : List ℕ) (list : Trees) → IsOnce list → IfSome (without key list) IsOnce
 once_without key none h = tt
 once_without key (more first value place children rest) h =
-    either (λ (left : Option Trees). IfSome left IsOnce) (bytes_eq first key) (Some rest) (behind first value place children (without key rest)) h.1
-    (once_behind first value place children (without key rest) (lacks_without first key rest h.0) (once_without key rest h.1))
+    either (λ (left : Option Trees). IfSome left IsOnce) (bytes_eq first key) (Some rest) (with_first first value place children (without key rest)) h.1
+    (once_with_first first value place children (without key rest) (lacks_without first key rest h.0) (once_without key rest h.1))
 
 removal_key : (key name : List ℕ) → bytes_eq key (45 ∷ name) ≡ true → key ≡ 45 ∷ name
 removal_key key name e = (bytes_eq-Decides key (45 ∷ name)).0 e
@@ -262,19 +262,19 @@ merged_value key value (more first newest place children rest) old o h g = elim 
 ]
 
 -- Nodes that leave a key alone.
-value_behind : (key first value : List ℕ) (place : Place) (children rest : Trees) (left : Option Trees) →
+value_with_first : (key first value : List ℕ) (place : Place) (children rest : Trees) (left : Option Trees) →
     IfSome left (λ list. value_at key list ≡ value_at key rest) →
-    IfSome (behind first value place children left) (λ list. value_at key list ≡ value_at key (more first value place children rest))
-value_behind key first value place children rest None h = tt
-value_behind key first value place children rest (Some list) h = ap (λ v. cond (bytes_eq first key) (Some value) v) h
+    IfSome (with_first first value place children left) (λ list. value_at key list ≡ value_at key (more first value place children rest))
+value_with_first key first value place children rest None h = tt
+value_with_first key first value place children rest (Some list) h = ap (λ v. cond (bytes_eq first key) (Some value) v) h
 
 value_without : (key other : List ℕ) (list : Trees) → bytes_eq other key ≡ false → IfSome (without other list) (λ left. value_at key left ≡ value_at key list)
 value_without key other none n = tt
 value_without key other (more first value place children rest) n =
     let Goal : Option Trees → Type 0 = λ found. IfSome found (λ left. value_at key left ≡ value_at key (more first value place children rest)) in
-    chosen Goal (bytes_eq first other) (Some rest) (behind first value place children (without other rest))
+    chosen Goal (bytes_eq first other) (Some rest) (with_first first value place children (without other rest))
     (λ y. sym (cond-false _ _ _ (ap (λ k. bytes_eq k key) ((bytes_eq-Decides first other).0 y) ∙ n)))
-    (λ _. value_behind key first value place children rest (without other rest) (value_without key other rest n))
+    (λ _. value_with_first key first value place children rest (without other rest) (value_without key other rest n))
 
 and_false : (one other : Bool) → one ≡ true → (one && other) ≡ false → other ≡ false
 and_false true other t h = h

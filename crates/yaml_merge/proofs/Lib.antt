@@ -1,5 +1,5 @@
-pub mod LevelLaws
-pub mod LevelSteps
+pub mod PlaceLaws
+pub mod KeySteps
 pub mod SlotSteps
 pub mod IndexSteps
 pub mod GrowingSteps
@@ -20,3 +20,5 @@ pub mod SettledSteps
 pub mod LawSteps
 pub mod StaysSteps
 pub mod LimitSteps
+pub mod PlainSteps
+pub mod DistinctSteps

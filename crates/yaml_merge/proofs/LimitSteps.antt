@@ -20,7 +20,7 @@ use Rattle.yaml_merge.specs.declared.fault.MergeFault.{MergeFault}
 use Rattle.yaml_merge.specs.declared.fault.MergeFault.TheVariants.{Cycle, TooDeep}
 use Rattle.yaml_merge.specs.declared.TheConstants.{MAX_PATH, MAX_FOREST_NODES}
 use Rattle.yaml_merge.specs.Merging.{newer_value, joined, children_at, merged_into, merged_files}
-use Rattle.yaml_merge.specs.Merging.{behind, without, count, levels}
+use Rattle.yaml_merge.specs.Merging.{with_first, without, count, levels}
 use Rattle.yaml_merge.specs.Resolving.{inherits, removes, parent_of, in_path, Outcome}
 use Rattle.yaml_merge.specs.Resolving.{inherited, removed, inherit_step, taken_in}
 use Rattle.yaml_merge.specs.Resolving.{parents, resolved_list, added, resolved_tops, removed_tops}
@@ -58,16 +58,16 @@ merged_fits (more key value place children rest) old room n h =
     merged_fits rest (joined key value place (merged_into children) old) room (omega (arith, n))
     (joined_fits room key value place (merged_into children) old (omega (arith, n)) (λ trees t. merged_fits children trees (room - 1) (omega (arith, n)) t) h)
 
-behind_fits : (room : ℕ) (key value : List ℕ) (place : Place) (children : Trees) (left : Option Trees) → suc (levels children) ≤ room → IfSome left (Fits room) →
-    IfSome (behind key value place children left) (Fits room)
-behind_fits room key value place children None c h = tt
-behind_fits room key value place children (Some rest) c h = omega (arith, c, h)
+with_first_fits : (room : ℕ) (key value : List ℕ) (place : Place) (children : Trees) (left : Option Trees) → suc (levels children) ≤ room → IfSome left (Fits room) →
+    IfSome (with_first key value place children left) (Fits room)
+with_first_fits room key value place children None c h = tt
+with_first_fits room key value place children (Some rest) c h = omega (arith, c, h)
 
 without_fits : (room : ℕ) (key : List ℕ) (list : Trees) → Fits room list → IfSome (without key list) (Fits room)
 without_fits room key none h = tt
 without_fits room key (more first value place children rest) h =
-    either (λ (left : Option Trees). IfSome left (Fits room)) (bytes_eq first key) (Some rest) (behind first value place children (without key rest)) (omega (arith, h))
-    (behind_fits room first value place children (without key rest) (omega (arith, h)) (without_fits room key rest (omega (arith, h))))
+    either (λ (left : Option Trees). IfSome left (Fits room)) (bytes_eq first key) (Some rest) (with_first first value place children (without key rest)) (omega (arith, h))
+    (with_first_fits room first value place children (without key rest) (omega (arith, h)) (without_fits room key rest (omega (arith, h))))
 
 inherited_fits : (room : ℕ) (place : Place) (list parent : Trees) → Fits room list → IfOk (inherited room place list parent) (Fits room)
 unfolding inherited

@@ -14,7 +14,7 @@ use Rattle.yaml_merge.specs.declared.fault.MergeFault.TheVariants.{NoMemory}
 use Rattle.yaml_merge.specs.declared.TheConstants.{MAX_LIST_NODES}
 use Rattle.yaml_merge.specs.Merging.{joined, children_at}
 use Rattle.yaml_merge.specs.Resolving.{Outcome, within, taken_in, resolved_list}
-use Rattle.yaml_merge.proofs.LevelLaws.{joined_below}
+use Rattle.yaml_merge.proofs.PlaceLaws.{joined_below}
 
 -- The measure falls where a parent is looked into.
 pub falls : (free s c n : ℕ) → 0 < free → c < s → 4 * ((free - 1) * (s + 1) + c) + 3 < 4 * (free * (s + 1) + n) + 1

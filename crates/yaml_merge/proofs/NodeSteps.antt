@@ -1,9 +1,9 @@
 -- A complete list of nodes, and the search for their names.
 use Rattle.std.proofs.Common.{◌≡◌, ℕ, zero, suc, ◌+◌, ◌<◌, Bool, true, false, cond, List, [], ◌∷◌}
-use Rattle.std.proofs.Common.{◌++◌, length, get_or, take, refl, sym, ap, ◌∙◌, arith, subst}
+use Rattle.std.proofs.Common.{◌++◌, length, get_or, take, drop, refl, sym, ap, ◌∙◌, arith, subst}
 use Rattle.std.proofs.Common.{Option, Some, None, inl, inr}
 use Rattle.std.proofs.lemmas.Bool.{cases_Bool, cond-true, cond-false}
-use Rattle.std.proofs.lemmas.List.{take_more}
+use Rattle.std.proofs.lemmas.List.{take_more, drop_more}
 use Rattle.std.proofs.lemmas.Slice.Eq.{bytes_eq-Decides}
 use Rattle.std.specs.Prelude.{is_some, option_map, MatchOption}
 use Rattle.std.specs.Str.{bytes_eq}
@@ -13,7 +13,7 @@ use Rattle.yaml_lines.specs.declared.forest.Node.{Node}
 use Rattle.yaml_lines.specs.declared.forest.Forest.TheViews.{roll-Node, out-Node, out-Forest}
 use Rattle.yaml_lines.specs.Trees.{Trees, none, more, trees_of, before, trees_of_nodes}
 use Rattle.yaml_lines.proofs.TreeSteps.{before_out, before_roll, trees_out}
-use Rattle.yaml_merge.specs.Levels.{Stands, place_in, width}
+use Rattle.yaml_merge.specs.Places.{Stands, place_in, width}
 use Rattle.yaml_merge.specs.Merging.{Lacks}
 use Rattle.yaml_merge.specs.Resolving.{added}
 
@@ -72,13 +72,23 @@ place_added name key value place children (more first old last others rest) = el
 ]
 
 -- The list up to one more node.
-more_nodes : (nodes : List Node) (at : ℕ) (node : Node) → at < length nodes → node ≡ get_or nodes at node →
+pub more_nodes : (nodes : List Node) (at : ℕ) (node : Node) → at < length nodes → node ≡ get_or nodes at node →
     trees_of_nodes (take (at + 1) nodes) ≡ added (out-Node node).key (out-Node node).value (out-Node node).place (trees_of (out-Node node).children) (trees_of_nodes (take at nodes))
 more_nodes nodes at node h n =
     let o = out-Node node in
     ap trees_of_nodes (take_more nodes at node h)
     ∙ ap (λ x. trees_of_nodes (take at nodes ++ x ∷ [])) (sym n)
     ∙ added_last (take at nodes) o.key o.value o.place (trees_of o.children) node (before_out node)
+
+-- The list from a node on.
+pub nodes_from : (nodes : List Node) (at : ℕ) (node : Node) → at < length nodes → node ≡ get_or nodes at node →
+    trees_of_nodes (drop at nodes)
+    ≡ more (out-Node node).key (out-Node node).value (out-Node node).place (trees_of (out-Node node).children) (trees_of_nodes (drop (at + 1) nodes))
+nodes_from nodes at node h n =
+    let rest = trees_of_nodes (drop (at + 1) nodes) in
+    ap trees_of_nodes (drop_more nodes at node h)
+    ∙ sym (ap (λ x. before x rest) n)
+    ∙ ap (λ g. g rest) (before_out node)
 
 width_taken : (nodes : List Node) (at : ℕ) → at < length nodes → width (trees_of_nodes (take at nodes)) ≡ at
 width_taken [] at h = absurd (omega arith)

@@ -18,7 +18,7 @@ use Rattle.yaml_merge.specs.declared.fault.MergeFault.{MergeFault}
 use Rattle.yaml_merge.specs.declared.fault.MergeFault.TheVariants.{Cycle, TooLarge, TooDeep}
 use Rattle.yaml_merge.specs.declared.TheConstants.{MAX_PATH, MAX_LIST_NODES, MAX_FOREST_NODES}
 use Rattle.yaml_merge.specs.Merging.{newer_value, joined, children_at, merged_into, merged_files}
-use Rattle.yaml_merge.specs.Merging.{behind, without, count, levels}
+use Rattle.yaml_merge.specs.Merging.{with_first, without, count, levels}
 use Rattle.yaml_merge.specs.Resolving.{inherits, removes, parent_of, in_path, Outcome, within}
 use Rattle.yaml_merge.specs.Resolving.{inherited, removed, inherit_step, node_step, resolved_list}
 use Rattle.yaml_merge.specs.Resolving.{added, resolved_tops, removed_tops, resolved_files}
@@ -123,16 +123,16 @@ merged_files_readable : (files : List Trees) (list : Trees) → AllFiles files �
 merged_files_readable [] list f h = h
 merged_files_readable (file ∷ files) list f h = merged_files_readable files (merged_into file list) f.1 (merged_into_readable file list f.0 h)
 
-behind_readable : (key value : List ℕ) (place : Place) (children : Trees) (left : Option Trees) → ReadableNode key value → Readable children →
-    IfLeft left → IfLeft (behind key value place children left)
-behind_readable key value place children None n c h = tt
-behind_readable key value place children (Some rest) n c h = (n, c, h)
+with_first_readable : (key value : List ℕ) (place : Place) (children : Trees) (left : Option Trees) → ReadableNode key value → Readable children →
+    IfLeft left → IfLeft (with_first key value place children left)
+with_first_readable key value place children None n c h = tt
+with_first_readable key value place children (Some rest) n c h = (n, c, h)
 
 without_readable : (key : List ℕ) (list : Trees) → Readable list → IfLeft (without key list)
 without_readable key none h = tt
 without_readable key (more first value place children rest) h =
-    either_left (bytes_eq first key) (Some rest) (behind first value place children (without key rest))
-    h.2 (behind_readable first value place children (without key rest) h.0 h.1 (without_readable key rest h.2))
+    either_left (bytes_eq first key) (Some rest) (with_first first value place children (without key rest))
+    h.2 (with_first_readable first value place children (without key rest) h.0 h.1 (without_readable key rest h.2))
 
 -- Resolving.
 parent_of_readable : (name : List ℕ) (tops : Trees) → Readable tops → IfLeft (parent_of name tops)

@@ -1,81 +1,166 @@
--- A node that is removed from a list of nodes.
-use Rattle.std.proofs.Common.{◌≡◌, ℕ, suc, ◌+◌, ◌<◌, true, false, List, [], ◌∷◌, ◌++◌, length, take}
-use Rattle.std.proofs.Common.{drop, get_or, inl, inr, refl, sym, ap, ◌∙◌, arith, Some, None, Ok}
-use Rattle.std.proofs.Common.{Err}
-use Rattle.std.proofs.lemmas.Bool.{cases_Bool, cond-true, cond-false}
-use Rattle.std.proofs.lemmas.List.{take-append-drop, drop_more, take_more, take_all}
-use Rattle.std.specs.List.{remove}
-use Rattle.yaml_lines.specs.declared.place.Place.{Place}
+-- Removals at the top level, by flags.
+use Rattle.std.proofs.Common.{◌≡◌, ℕ, zero, suc, ◌+◌, ◌<◌, Bool, true, false, cond, List, [], ◌∷◌}
+use Rattle.std.proofs.Common.{◌++◌, length, drop, get_or, set, replicate, refl, sym, ap, ◌∙◌, subst}
+use Rattle.std.proofs.Common.{Some, None, Ok, Err, arith, length-append}
+use Rattle.std.proofs.lemmas.Bool.{cond-true, cond-false}
+use Rattle.std.proofs.lemmas.Slice.Eq.{bytes_eq-Decides}
+use Rattle.std.specs.Str.{bytes_eq}
+use Rattle.base.specs.Steps.{◌>>=◌}
 use Rattle.yaml_lines.specs.declared.forest.Node.{Node}
-use Rattle.yaml_lines.specs.declared.forest.Forest.{Forest}
-use Rattle.yaml_lines.specs.declared.forest.Forest.TheViews.{out-Node, out-Forest}
-use Rattle.yaml_lines.specs.Trees.{Trees, trees_of, before, trees_of_nodes}
-use Rattle.yaml_lines.proofs.TreeSteps.{trees_out, before_out}
+use Rattle.yaml_lines.specs.declared.forest.Forest.TheViews.{out-Node}
+use Rattle.yaml_lines.specs.declared.place.Place.{Place}
+use Rattle.yaml_lines.specs.Trees.{Trees, none, more, trees_of, trees_of_nodes}
+use Rattle.yaml_lines.proofs.TreeSteps.{before_out}
 use Rattle.yaml_merge.specs.declared.fault.MergeFault.TheVariants.{NothingToRemove}
-use Rattle.yaml_merge.specs.Merging.{without, behind}
-use Rattle.yaml_merge.specs.Nodes.{has_key, lacks_key}
-use Rattle.yaml_merge.specs.Resolving.{removed}
+use Rattle.yaml_merge.specs.Places.{Stands, width}
+use Rattle.yaml_merge.specs.Merging.{Lacks, without, with_first}
+use Rattle.yaml_merge.specs.Removing.{TakesFlag, left_by}
+use Rattle.yaml_merge.specs.Resolving.{Outcome, removes, removed, added, removed_tops}
+use Rattle.yaml_merge.specs.Settled.{IsOnce}
+use Rattle.yaml_merge.proofs.NodeSteps.{added_last, nodes_from}
+use Rattle.yaml_merge.proofs.SettledSteps.{either}
+use Rattle.yaml_merge.proofs.TopSteps.{width_nodes}
 
--- A first node that has not the key.
-pub lacks_parts : (key : List ℕ) (node : Node) (rest : List Node) → lacks_key key (node ∷ rest) ≡ true → (has_key key node ≡ false) × (lacks_key key rest ≡ true)
-lacks_parts key node rest h = elim (cases_Bool (has_key key node)) [
-  | inl k ↦ let e : false ≡ true = sym (cond-true _ _ _ k) ∙ h in cc
-  | inr k ↦ (k, sym (cond-false _ _ _ k) ∙ h)
-]
+lacks_left : (q : List ℕ) (flags : List Bool) (list : Trees) → Lacks q list → Lacks q (left_by flags list)
+lacks_left q flags none h = tt
+lacks_left q [] (more key value place children rest) h = tt
+lacks_left q (flag ∷ flags) (more key value place children rest) h =
+    either (Lacks q) flag (more key value place children (left_by flags rest)) (left_by flags rest)
+    (h.0, lacks_left q flags rest h.1) (lacks_left q flags rest h.1)
 
--- One more node without the key.
-pub lacks-push : (key : List ℕ) (nodes : List Node) (node : Node) → lacks_key key nodes ≡ true → has_key key node ≡ false → lacks_key key (nodes ++ node ∷ []) ≡ true
-lacks-push key [] node f h = cond-false _ _ _ h
-lacks-push key (first ∷ nodes) node f h =
-    let p = lacks_parts key first nodes f in
-    cond-false _ _ _ p.0 ∙ lacks-push key nodes node p.1 h
+without_lacked : (q : List ℕ) (list : Trees) → Lacks q list → without q list ≡ None
+without_lacked q none h = refl
+without_lacked q (more key value place children rest) h =
+    cond-false _ _ _ h.0 ∙ ap (with_first key value place children) (without_lacked q rest h.1)
 
-pub split_at : (nodes : List Node) (at : ℕ) (d : Node) → at < length nodes → take at nodes ++ get_or nodes at d ∷ drop (at + 1) nodes ≡ nodes
-split_at nodes at d h = ap (λ l. take at nodes ++ l) (sym (drop_more nodes at d h)) ∙ take-append-drop at nodes
+-- A node whose flag isn't set.
+lacks_gone : (name : List ℕ) (at : ℕ) (flags : List Bool) (list : Trees) → Stands name at list → IsOnce list → get_or flags at false ≡ false →
+    Lacks name (left_by flags list)
+lacks_gone name at flags none s o f = absurd s
+lacks_gone name at [] (more key value place children rest) s o f = tt
+lacks_gone name zero (flag ∷ flags) (more key value place children rest) s o f =
+    subst (Lacks name) (sym (cond-false flag (more key value place children (left_by flags rest)) (left_by flags rest) f))
+    (lacks_left name flags rest (subst (λ k. Lacks k rest) ((bytes_eq-Decides key name).0 s) o.0))
+lacks_gone name (suc at) (flag ∷ flags) (more key value place children rest) s o f =
+    either (Lacks name) flag (more key value place children (left_by flags rest)) (left_by flags rest)
+    (s.0, lacks_gone name at flags rest s.1 o.1 f) (lacks_gone name at flags rest s.1 o.1 f)
 
-pub lacks_more : (key : List ℕ) (nodes : List Node) (at : ℕ) (d : Node) → at < length nodes → has_key key (get_or nodes at d) ≡ false →
-    lacks_key key (take at nodes) ≡ true → lacks_key key (take (at + 1) nodes) ≡ true
-lacks_more key nodes at d h n f = ap (lacks_key key) (take_more nodes at d h) ∙ lacks-push key (take at nodes) (get_or nodes at d) f n
+-- A node whose flag is taken back.
+without_taken : (name : List ℕ) (at : ℕ) (flags : List Bool) (list : Trees) → Stands name at list → get_or flags at false ≡ true →
+    without name (left_by flags list) ≡ Some (left_by (set flags at false) list)
+without_taken name at flags none s f = absurd s
+without_taken name at [] (more key value place children rest) s f = let e : false ≡ true = f in cc
+without_taken name zero (flag ∷ flags) (more key value place children rest) s f =
+    ap (without name) (cond-true flag (more key value place children (left_by flags rest)) (left_by flags rest) f)
+    ∙ cond-true _ _ _ s
+without_taken name (suc at) (true ∷ flags) (more key value place children rest) s f =
+    cond-false _ _ _ s.0 ∙ ap (with_first key value place children) (without_taken name at flags rest s.1 f)
+without_taken name (suc at) (false ∷ flags) (more key value place children rest) s f = without_taken name at flags rest s.1 f
 
-pub ruleset find_steps = (lacks_more, take_all)
+pub named_taken : (name : List ℕ) (at : ℕ) (old new : List Bool) (list : Trees) (result : Bool) → Stands name at list → IsOnce list →
+    TakesFlag at old new result →
+    without name (left_by old list) ≡ cond result (Some (left_by new list)) None
+named_taken name at old new list true s o (f, n) = without_taken name at old list s f ∙ ap (λ flags. Some (left_by flags list)) (sym n)
+named_taken name at old new list false s o (f, n) = without_lacked name (left_by old list) (lacks_gone name at old list s o f)
 
-without-past : (key : List ℕ) (node : Node) (rest : Trees) (left : Trees) → has_key key node ≡ false → without key rest ≡ Some left →
-    without key (before node rest) ≡ Some (before node left)
-without-past key node rest left h w =
+pub named_lacked : (name : List ℕ) (flags : List Bool) (list : Trees) → Lacks name list → without name (left_by flags list) ≡ None
+named_lacked name flags list h = without_lacked name (left_by flags list) (lacks_left name flags list h)
+
+-- All flags set.
+pub left_all : (list : Trees) (len : ℕ) → len ≡ width list → left_by (replicate len true) list ≡ list
+left_all none len h = refl
+left_all (more key value place children rest) zero h = let e : zero ≡ suc (width rest) = h in cc
+left_all (more key value place children rest) (suc len) h = ap (more key value place children) (left_all rest len (omega (arith, h)))
+
+-- The removals from a node on.
+pub removed_past : (nodes : List Node) (at : ℕ) (node : Node) (start : Trees) → at < length nodes → node ≡ get_or nodes at node →
+    removes (out-Node node).key ≡ false →
+    removed_tops (trees_of_nodes (drop at nodes)) start ≡ removed_tops (trees_of_nodes (drop (at + 1) nodes)) start
+removed_past nodes at node start h n r = ap (λ t. removed_tops t start) (nodes_from nodes at node h n) ∙ cond-false _ _ _ r
+
+pub removed_next : (nodes : List Node) (at : ℕ) (node : Node) (start next : Trees) → at < length nodes → node ≡ get_or nodes at node →
+    removes (out-Node node).key ≡ true → without (drop 1 (out-Node node).key) start ≡ Some next →
+    removed_tops (trees_of_nodes (drop at nodes)) start ≡ removed_tops (trees_of_nodes (drop (at + 1) nodes)) next
+removed_next nodes at node start next h n r w =
+    let rest = trees_of_nodes (drop (at + 1) nodes) in
+    ap (λ t. removed_tops t start) (nodes_from nodes at node h n)
+    ∙ cond-true _ _ _ r
+    ∙ ap (λ left. removed (out-Node node).place left >>= (λ list. removed_tops rest list)) w
+
+pub removed_lost : (nodes : List Node) (at : ℕ) (node : Node) (start : Trees) → at < length nodes → node ≡ get_or nodes at node →
+    removes (out-Node node).key ≡ true → without (drop 1 (out-Node node).key) start ≡ None →
+    removed_tops (trees_of_nodes (drop at nodes)) start ≡ Err (NothingToRemove (out-Node node).place)
+removed_lost nodes at node start h n r w =
+    let rest = trees_of_nodes (drop (at + 1) nodes) in
+    ap (λ t. removed_tops t start) (nodes_from nodes at node h n)
+    ∙ cond-true _ _ _ r
+    ∙ ap (λ left. removed (out-Node node).place left >>= (λ list. removed_tops rest list)) w
+
+-- The nodes whose flags are set, one after the other.
+past_choice : (first : Trees → Trees) (test : Bool) (one other : Trees) → first (cond test one other) ≡ cond test (first one) (first other)
+past_choice first true one other = refl
+past_choice first false one other = refl
+
+left_added : (flags : List Bool) (list : Trees) (key value : List ℕ) (place : Place) (children : Trees) →
+    left_by flags (added key value place children list)
+    ≡ cond (get_or flags (width list) false) (added key value place children (left_by flags list)) (left_by flags list)
+left_added [] none key value place children = refl
+left_added (flag ∷ flags) none key value place children = refl
+left_added [] (more first old last others rest) key value place children = refl
+left_added (true ∷ flags) (more first old last others rest) key value place children =
+    ap (more first old last others) (left_added flags rest key value place children)
+    ∙ past_choice (more first old last others) (get_or flags (width rest) false) (added key value place children (left_by flags rest)) (left_by flags rest)
+left_added (false ∷ flags) (more first old last others rest) key value place children = left_added flags rest key value place children
+
+left_more : (flags : List Bool) (nodes : List Node) (node : Node) →
+    left_by flags (trees_of_nodes (nodes ++ node ∷ []))
+    ≡ cond (get_or flags (length nodes) false)
+    (added (out-Node node).key (out-Node node).value (out-Node node).place (trees_of (out-Node node).children) (left_by flags (trees_of_nodes nodes)))
+    (left_by flags (trees_of_nodes nodes))
+left_more flags nodes node =
     let o = out-Node node in
-    ap (λ g. without key (g rest)) (before_out node)
-    ∙ cond-false _ _ _ h
-    ∙ ap (behind o.key o.value o.place (trees_of o.children)) w
-    ∙ sym (ap (λ g. Some (g left)) (before_out node))
+    let list = trees_of_nodes nodes in
+    let next = added o.key o.value o.place (trees_of o.children) (left_by flags list) in
+    ap (left_by flags) (added_last nodes o.key o.value o.place (trees_of o.children) node (before_out node))
+    ∙ left_added flags list o.key o.value o.place (trees_of o.children)
+    ∙ ap (λ at. cond (get_or flags at false) next (left_by flags list)) (width_nodes nodes)
 
-without-past_none : (key : List ℕ) (node : Node) (rest : Trees) → has_key key node ≡ false → without key rest ≡ None → without key (before node rest) ≡ None
-without-past_none key node rest h w =
+flag_at : (flags : List Bool) (at : ℕ) → get_or (drop at flags) 0 false ≡ get_or flags at false
+flag_at [] zero = refl
+flag_at [] (suc at) = refl
+flag_at (flag ∷ flags) zero = refl
+flag_at (flag ∷ flags) (suc at) = flag_at flags at
+
+flags_after : (flags : List Bool) (at : ℕ) → drop 1 (drop at flags) ≡ drop (suc at) flags
+flags_after [] zero = refl
+flags_after [] (suc at) = refl
+flags_after (flag ∷ flags) zero = refl
+flags_after (flag ∷ flags) (suc at) = flags_after flags at
+
+length_pushed : (nodes : List Node) (node : Node) → length (nodes ++ node ∷ []) ≡ suc (length nodes)
+length_pushed nodes node = omega (arith, length-append nodes (node ∷ []))
+
+-- The nodes that were gone over: the flags of those that are left, and the nodes whose flags are
+-- set.
+pub record LeftSoFar (flags left : List Bool) (seen kept : List Node) : Type 0 where
+  pub left_are : left ≡ drop (length seen) flags
+  pub kept_are : trees_of_nodes kept ≡ left_by flags (trees_of_nodes seen)
+
+left_pushed : (flags : List Bool) (seen kept : List Node) (node : Node) (keep : Bool) → keep ≡ get_or flags (length seen) false →
+    trees_of_nodes kept ≡ left_by flags (trees_of_nodes seen) →
+    trees_of_nodes (cond keep (kept ++ node ∷ []) kept) ≡ left_by flags (trees_of_nodes (seen ++ node ∷ []))
+left_pushed flags seen kept node true k l =
     let o = out-Node node in
-    ap (λ g. without key (g rest)) (before_out node) ∙ cond-false _ _ _ h ∙ ap (behind o.key o.value o.place (trees_of o.children)) w
+    added_last kept o.key o.value o.place (trees_of o.children) node (before_out node)
+    ∙ ap (added o.key o.value o.place (trees_of o.children)) l
+    ∙ sym (left_more flags seen node ∙ cond-true _ _ _ (sym k))
+left_pushed flags seen kept node false k l = l ∙ sym (left_more flags seen node ∙ cond-false _ _ _ (sym k))
 
-pub without_at : (key : List ℕ) (front : List Node) (node : Node) (back : List Node) → lacks_key key front ≡ true → has_key key node ≡ true →
-    without key (trees_of_nodes (front ++ node ∷ back)) ≡ Some (trees_of_nodes (front ++ back))
-without_at key [] node back f h = ap (λ g. without key (g (trees_of_nodes back))) (before_out node) ∙ cond-true _ _ _ h
-without_at key (first ∷ front) node back f h =
-    let p = lacks_parts key first front f in
-    without-past key first (trees_of_nodes (front ++ node ∷ back)) (trees_of_nodes (front ++ back)) p.0 (without_at key front node back p.1 h)
-
-pub without_none : (key : List ℕ) (nodes : List Node) → lacks_key key nodes ≡ true → without key (trees_of_nodes nodes) ≡ None
-without_none key [] f = refl
-without_none key (first ∷ nodes) f =
-    let p = lacks_parts key first nodes f in
-    without-past_none key first (trees_of_nodes nodes) p.0 (without_none key nodes p.1)
-
-pub removed_at : (key : List ℕ) (place : Place) (list next : Forest) (at : ℕ) (d : Node) →
-    at < length (out-Forest list).nodes.items → lacks_key key (take at (out-Forest list).nodes.items) ≡ true → has_key key (get_or (out-Forest list).nodes.items at d) ≡ true →
-    trees_of next ≡ trees_of_nodes (remove (out-Forest list).nodes.items at) → removed place (without key (trees_of list)) ≡ Ok (trees_of next)
-removed_at key place list next at d h f k n =
-    let nodes = (out-Forest list).nodes.items in
-    let e : suc at ≡ at + 1 = omega arith in
-    ap (λ t. removed place (without key t)) (trees_out list ∙ ap trees_of_nodes (sym (split_at nodes at d h)))
-    ∙ ap (removed place) (without_at key (take at nodes) (get_or nodes at d) (drop (at + 1) nodes) f k)
-    ∙ sym (ap Ok (n ∙ ap (λ i. trees_of_nodes (take at nodes ++ drop i nodes)) e))
-
-pub removed_none : (key : List ℕ) (place : Place) (list : Forest) → lacks_key key (out-Forest list).nodes.items ≡ true →
-    removed place (without key (trees_of list)) ≡ Err (NothingToRemove place)
-removed_none key place list f = ap (λ t. removed place (without key t)) (trees_out list) ∙ ap (removed place) (without_none key (out-Forest list).nodes.items f)
+pub left_next : (flags left rest : List Bool) (seen kept next : List Node) (node : Node) (keep : Bool) →
+    keep ≡ get_or left 0 false → rest ≡ drop 1 left → next ≡ cond keep (kept ++ node ∷ []) kept →
+    LeftSoFar flags left seen kept → LeftSoFar flags rest (seen ++ node ∷ []) next
+left_next flags left rest seen kept next node keep k r n s = record {
+  left_are = r ∙ ap (drop 1) s.left_are ∙ flags_after flags (length seen) ∙ ap (λ at. drop at flags) (sym (length_pushed seen node));
+  kept_are = ap trees_of_nodes n
+      ∙ left_pushed flags seen kept node keep (k ∙ ap (λ l. get_or l 0 false) s.left_are ∙ flag_at flags (length seen)) s.kept_are;
+}

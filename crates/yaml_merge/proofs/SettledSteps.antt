@@ -17,13 +17,14 @@ use Rattle.yaml_merge.specs.declared.fault.MergeFault.{MergeFault}
 use Rattle.yaml_merge.specs.declared.fault.MergeFault.TheVariants.{Cycle, TooLarge, TooDeep}
 use Rattle.yaml_merge.specs.declared.TheConstants.{MAX_PATH, MAX_LIST_NODES, MAX_FOREST_NODES}
 use Rattle.yaml_merge.specs.Merging.{Lacks, newer_value, joined, children_at, merged_into}
-use Rattle.yaml_merge.specs.Merging.{merged_files, behind, without, count, levels}
+use Rattle.yaml_merge.specs.Merging.{merged_files, with_first, without, count, levels}
 use Rattle.yaml_merge.specs.Resolving.{inherits, removes, parent_of, in_path, Outcome, within}
 use Rattle.yaml_merge.specs.Resolving.{inherited, removed, inherit_step, join_step, node_step}
 use Rattle.yaml_merge.specs.Resolving.{resolved_list, added, resolved_tops, removed_tops}
 use Rattle.yaml_merge.specs.Resolving.{resolved_files}
-use Rattle.yaml_merge.specs.Settled.{IsSettled, IsSettledTop, IsSettledForest, IsOnce}
-use Rattle.yaml_merge.proofs.LevelSteps.{bytes_flip}
+use Rattle.yaml_merge.specs.Places.{children_from}
+use Rattle.yaml_merge.specs.Settled.{IsSettled, IsSettledTop, IsSettledForest, IsOnce, IsDistinct}
+use Rattle.yaml_merge.proofs.KeySteps.{bytes_flip}
 
 -- What holds of both sides of a choice.
 pub either : {A : Type 0} (P : A → Type 0) (test : Bool) (x y : A) → P x → P y → P (cond test x y)
@@ -63,16 +64,16 @@ pub lacks_added : (q key value : List ℕ) (place : Place) (children list : Tree
 lacks_added q key value place children none n h = (n, tt)
 lacks_added q key value place children (more first old last others rest) n h = (h.0, lacks_added q key value place children rest n h.1)
 
-lacks_behind : (q key value : List ℕ) (place : Place) (children : Trees) (left : Option Trees) → bytes_eq key q ≡ false → IfSome left (Lacks q) →
-    IfSome (behind key value place children left) (Lacks q)
-lacks_behind q key value place children None n h = tt
-lacks_behind q key value place children (Some rest) n h = (n, h)
+lacks_with_first : (q key value : List ℕ) (place : Place) (children : Trees) (left : Option Trees) → bytes_eq key q ≡ false → IfSome left (Lacks q) →
+    IfSome (with_first key value place children left) (Lacks q)
+lacks_with_first q key value place children None n h = tt
+lacks_with_first q key value place children (Some rest) n h = (n, h)
 
 pub lacks_without : (q key : List ℕ) (list : Trees) → Lacks q list → IfSome (without key list) (Lacks q)
 lacks_without q key none h = tt
 lacks_without q key (more first value place children rest) h =
-    either (λ (left : Option Trees). IfSome left (Lacks q)) (bytes_eq first key) (Some rest) (behind first value place children (without key rest)) h.1
-    (lacks_behind q first value place children (without key rest) h.0 (lacks_without q key rest h.1))
+    either (λ (left : Option Trees). IfSome left (Lacks q)) (bytes_eq first key) (Some rest) (with_first first value place children (without key rest)) h.1
+    (lacks_with_first q first value place children (without key rest) h.0 (lacks_without q key rest h.1))
 
 -- Lists below the top level.
 pub joined_settled : (key value : List ℕ) (place : Place) (below : Trees → Trees) (list : Trees) → inherits key ≡ false → removes key ≡ false →
@@ -94,16 +95,16 @@ merged_into_settled (more key value place children rest) old (l, i, r, c, s) h =
     merged_into_settled rest (joined key value place (merged_into children) old) s
     (joined_settled key value place (merged_into children) old i r (λ trees t. merged_into_settled children trees c t) h)
 
-behind_settled : (key value : List ℕ) (place : Place) (children : Trees) (left : Option Trees) → IfSome left (Lacks key) → inherits key ≡ false → removes key ≡ false →
-    IsSettled children → IfSome left IsSettled → IfSome (behind key value place children left) IsSettled
-behind_settled key value place children None l i r c s = tt
-behind_settled key value place children (Some rest) l i r c s = (l, i, r, c, s)
+with_first_settled : (key value : List ℕ) (place : Place) (children : Trees) (left : Option Trees) → IfSome left (Lacks key) → inherits key ≡ false → removes key ≡ false →
+    IsSettled children → IfSome left IsSettled → IfSome (with_first key value place children left) IsSettled
+with_first_settled key value place children None l i r c s = tt
+with_first_settled key value place children (Some rest) l i r c s = (l, i, r, c, s)
 
 without_settled : (key : List ℕ) (list : Trees) → IsSettled list → IfSome (without key list) IsSettled
 without_settled key none h = tt
 without_settled key (more first value place children rest) (l, i, r, c, s) =
-    either (λ (left : Option Trees). IfSome left IsSettled) (bytes_eq first key) (Some rest) (behind first value place children (without key rest)) s
-    (behind_settled first value place children (without key rest) (lacks_without first key rest l) i r c (without_settled key rest s))
+    either (λ (left : Option Trees). IfSome left IsSettled) (bytes_eq first key) (Some rest) (with_first first value place children (without key rest)) s
+    (with_first_settled first value place children (without key rest) (lacks_without first key rest l) i r c (without_settled key rest s))
 
 abbrev pub IfSettled : Outcome → Type 0
 IfSettled outcome = IfOk outcome IsSettled
@@ -173,6 +174,38 @@ pub merged_files_once : (files : List Trees) (list : Trees) → IsOnce list → 
 merged_files_once [] list h = h
 merged_files_once (file ∷ files) list h = merged_files_once files (merged_into file list) (merged_into_once file list h)
 
+-- The merged files: each key stands once in its list, at all depths.
+joined_distinct : (key value : List ℕ) (place : Place) (below : Trees → Trees) (list : Trees) →
+    ((trees : Trees) → IsDistinct trees → IsDistinct (below trees)) → IsDistinct list → IsDistinct (joined key value place below list)
+joined_distinct key value place below none b h = (tt, b none tt, tt)
+joined_distinct key value place below (more first old last children rest) b (l, c, s) =
+    chosen IsDistinct (bytes_eq first key) (more first (newer_value old value) place (below children) rest)
+    (more first old last children (joined key value place below rest)) (λ same. (l, b children c, s))
+    (λ other. (lacks_joined first key value place below rest (bytes_flip key first ∙ other) l, c, joined_distinct key value place below rest b s))
+
+merged_into_distinct : (new old : Trees) → IsDistinct old → IsDistinct (merged_into new old)
+merged_into_distinct none old h = h
+merged_into_distinct (more key value place children rest) old h =
+    merged_into_distinct rest (joined key value place (merged_into children) old)
+    (joined_distinct key value place (merged_into children) old (λ trees t. merged_into_distinct children trees t) h)
+
+pub merged_files_distinct : (files : List Trees) (list : Trees) → IsDistinct list → IsDistinct (merged_files files list)
+merged_files_distinct [] list h = h
+merged_files_distinct (file ∷ files) list h = merged_files_distinct files (merged_into file list) (merged_into_distinct file list h)
+
+pub distinct_once : (list : Trees) → IsDistinct list → IsOnce list
+distinct_once none h = tt
+distinct_once (more key value place children rest) (l, c, s) = (l, distinct_once rest s)
+
+pub distinct_at : (at : ℕ) (list : Trees) → IsDistinct list → IsDistinct (children_from at list)
+distinct_at at none h = tt
+distinct_at zero (more key value place children rest) (l, c, s) = c
+distinct_at (suc at) (more key value place children rest) (l, c, s) = distinct_at at rest s
+
+pub top_once : (list : Trees) → IsSettledTop list → IsOnce list
+top_once none h = tt
+top_once (more key value place children rest) (l, r, c, s) = (l, top_once rest s)
+
 -- The top level: what is made so far has none of the keys that are left.
 abbrev pub IsApart : (made left : Trees) → Type 0
 IsApart made none = Unit {0}
@@ -206,16 +239,16 @@ resolved_tops_settled (more key value place children rest) tops made o a h =
     (added_top key value place below made a.0 r b h, added_apart key value place below made rest o.0 a.1)))
     (λ next n. resolved_tops_settled rest tops next o.1 n.1 n.0))
 
-behind_top : (key value : List ℕ) (place : Place) (children : Trees) (left : Option Trees) → IfSome left (Lacks key) → removes key ≡ false →
-    IsSettled children → IfSome left IsSettledTop → IfSome (behind key value place children left) IsSettledTop
-behind_top key value place children None l r c s = tt
-behind_top key value place children (Some rest) l r c s = (l, r, c, s)
+with_first_top : (key value : List ℕ) (place : Place) (children : Trees) (left : Option Trees) → IfSome left (Lacks key) → removes key ≡ false →
+    IsSettled children → IfSome left IsSettledTop → IfSome (with_first key value place children left) IsSettledTop
+with_first_top key value place children None l r c s = tt
+with_first_top key value place children (Some rest) l r c s = (l, r, c, s)
 
 without_top : (key : List ℕ) (list : Trees) → IsSettledTop list → IfSome (without key list) IsSettledTop
 without_top key none h = tt
 without_top key (more first value place children rest) (l, r, c, s) =
-    either (λ (left : Option Trees). IfSome left IsSettledTop) (bytes_eq first key) (Some rest) (behind first value place children (without key rest)) s
-    (behind_top first value place children (without key rest) (lacks_without first key rest l) r c (without_top key rest s))
+    either (λ (left : Option Trees). IfSome left IsSettledTop) (bytes_eq first key) (Some rest) (with_first first value place children (without key rest)) s
+    (with_first_top first value place children (without key rest) (lacks_without first key rest l) r c (without_top key rest s))
 
 removed_tops_settled : (left made : Trees) → IsSettledTop made → IfOk (removed_tops left made) IsSettledTop
 removed_tops_settled none made h = h
@@ -239,3 +272,9 @@ pub resolve_settled : (files : List Forest) (answer : Result Forest MergeFault) 
 resolve_settled files answer e =
     IfOk-weaker answer (λ forest. resolved_files (map trees_of files) ≡ Ok (trees_of forest)) IsSettledForest
     (λ forest h. subst (λ (x : Outcome). IfOk x IsSettledTop) h (resolved_files_settled (map trees_of files))) e
+
+-- Each key stands once at the top level of what resolving the top-level nodes gave.
+pub resolved_tops_once : (tops made : Trees) → IsOnce tops → resolved_tops tops tops none ≡ Ok made → IsOnce made
+resolved_tops_once tops made o e =
+    let settled : IfOk (resolved_tops tops tops none) IsSettledTop = resolved_tops_settled tops tops none o (none_apart tops) tt in
+    top_once made (subst (λ (x : Outcome). IfOk x IsSettledTop) e settled)

@@ -9,11 +9,11 @@ use Rattle.std.specs.Str.{bytes_eq}
 use Rattle.yaml_lines.specs.declared.place.Place.{Place}
 use Rattle.yaml_lines.specs.Trees.{Trees, none, more}
 use Rattle.yaml_merge.specs.declared.growing_list.Slot.{Slot}
-use Rattle.yaml_merge.specs.Levels.{children_from, emptied_at, put_at, removed_from, width, Stands}
+use Rattle.yaml_merge.specs.Places.{children_from, emptied_at, put_at, removed_from, width, Stands}
 use Rattle.yaml_merge.specs.Merging.{Lacks, count, newer_value}
 use Rattle.yaml_merge.specs.Resolving.{added}
 use Rattle.yaml_merge.specs.Slots.{standing, holds, LacksKey, StandsAt, IsFound, IsWhole}
-use Rattle.yaml_merge.proofs.LevelSteps.{bytes_flip}
+use Rattle.yaml_merge.proofs.KeySteps.{bytes_flip}
 
 -- A slot before the nodes of the others, and the place of a node after it.
 abbrev pub led : Slot → Trees → Trees

@@ -15,14 +15,14 @@ use Rattle.yaml_lines.specs.Trees.{Trees, none, more}
 use Rattle.yaml_merge.specs.declared.fault.MergeFault.TheVariants.{TooLarge}
 use Rattle.yaml_merge.specs.declared.TheConstants.{MAX_PATH, MAX_LIST_NODES, MAX_FOREST_NODES}
 use Rattle.yaml_merge.specs.Merging.{Lacks, newer_value, joined, children_at, merged_into}
-use Rattle.yaml_merge.specs.Merging.{merged_files, behind, without, count}
+use Rattle.yaml_merge.specs.Merging.{merged_files, with_first, without, count}
 use Rattle.yaml_merge.specs.Resolving.{inherits, removes, Outcome, within, removed}
 use Rattle.yaml_merge.specs.Resolving.{taken_in, resolved_list, added, resolved_tops, removed_tops}
 use Rattle.yaml_merge.specs.Resolving.{resolved_files}
 use Rattle.yaml_merge.specs.Settled.{IsSettled, IsSettledTop}
 use Rattle.yaml_merge.specs.Laws.{followed_by, AreSmall, IsSmall, IsPlain, IsPlainTop}
 use Rattle.yaml_merge.specs.Laws.{SettledStays, ResolvedStays, PlainIsMerged}
-use Rattle.yaml_merge.proofs.LevelSteps.{bytes_flip}
+use Rattle.yaml_merge.proofs.KeySteps.{bytes_flip}
 use Rattle.yaml_merge.proofs.ListSteps.{resolved_cons}
 use Rattle.yaml_merge.proofs.StepSteps.{within_small}
 use Rattle.yaml_merge.proofs.LawSteps.{cons_holds, resolved_none, taken_join}
@@ -72,19 +72,19 @@ tops_small (more key value place children rest) tops made h =
     (λ next n s. (n, s))))
     (λ next n. tops_small rest tops next n))
 
-less_behind : (key value : List ℕ) (place : Place) (children rest : Trees) (left : Option Trees) → count children ≤ MAX_LIST_NODES →
+less_with_first : (key value : List ℕ) (place : Place) (children rest : Trees) (left : Option Trees) → count children ≤ MAX_LIST_NODES →
     IfSome left (λ list. (count list ≤ count rest) × AreSmall list) →
-    IfSome (behind key value place children left) (λ list. (count list ≤ suc (count children + count rest)) × AreSmall list)
-less_behind key value place children rest None c h = tt
-less_behind key value place children rest (Some list) c h = (omega (arith, h.0), (c, h.1))
+    IfSome (with_first key value place children left) (λ list. (count list ≤ suc (count children + count rest)) × AreSmall list)
+less_with_first key value place children rest None c h = tt
+less_with_first key value place children rest (Some list) c h = (omega (arith, h.0), (c, h.1))
 
 less_without : (key : List ℕ) (list : Trees) → AreSmall list → IfSome (without key list) (λ left. (count left ≤ count list) × AreSmall left)
 less_without key none h = tt
 less_without key (more first value place children rest) h =
     either (λ (found : Option Trees). IfSome found (λ left. (count left ≤ suc (count children + count rest)) × AreSmall left)) (bytes_eq first key)
-    (Some rest) (behind first value place children (without key rest))
+    (Some rest) (with_first first value place children (without key rest))
     (omega arith, h.1)
-    (less_behind first value place children rest (without key rest) h.0 (less_without key rest h.1))
+    (less_with_first first value place children rest (without key rest) h.0 (less_without key rest h.1))
 
 smaller : (list : Trees) (left : Option Trees) → IsSmall list → IfSome left (λ found. (count found ≤ count list) × AreSmall found) → IfSome left IsSmall
 smaller list None s h = tt
@@ -107,11 +107,11 @@ resolved_files_small files =
     (tops_small tops tops none (omega arith, tt)) (λ made h. removed_small tops made h)
 
 -- Lists one after another.
-followed_none : (list : Trees) → followed_by list none ≡ list
+pub followed_none : (list : Trees) → followed_by list none ≡ list
 followed_none none = refl
 followed_none (more key value place children rest) = ap (more key value place children) (followed_none rest)
 
-followed_followed : (one two three : Trees) → followed_by (followed_by one two) three ≡ followed_by one (followed_by two three)
+pub followed_followed : (one two three : Trees) → followed_by (followed_by one two) three ≡ followed_by one (followed_by two three)
 followed_followed none two three = refl
 followed_followed (more key value place children rest) two three = ap (more key value place children) (followed_followed rest two three)
 
@@ -124,15 +124,15 @@ lacks_followed q none two h k = k
 lacks_followed q (more key value place children rest) two h k = (h.0, lacks_followed q rest two h.1 k)
 
 -- A list with a node more.
-abbrev with_last : (key value : List ℕ) → Place → Trees → Trees → Trees
+abbrev pub with_last : (key value : List ℕ) → Place → Trees → Trees → Trees
 with_last key value place children list = followed_by list (more key value place children none)
 
-last_apart : (key value : List ℕ) (place : Place) (children made left : Trees) → Lacks key left → IsApart made left → IsApart (with_last key value place children made) left
+pub last_apart : (key value : List ℕ) (place : Place) (children made left : Trees) → Lacks key left → IsApart made left → IsApart (with_last key value place children made) left
 last_apart key value place children made none l a = tt
 last_apart key value place children made (more first old last others rest) l a =
     (lacks_followed first made (more key value place children none) a.0 (bytes_flip key first ∙ l.0, tt), last_apart key value place children made rest l.1 a.1)
 
-joined_last : (key value : List ℕ) (place : Place) (below : Trees → Trees) (list : Trees) → Lacks key list →
+pub joined_last : (key value : List ℕ) (place : Place) (below : Trees → Trees) (list : Trees) → Lacks key list →
     joined key value place below list ≡ with_last key value place (below none) list
 joined_last key value place below none h = refl
 joined_last key value place below (more first old last children rest) h =
@@ -162,7 +162,7 @@ taken_new free room tops path key value place children start i r l =
     (λ below. ap (λ t. Ok t) (joined_last key value place (λ _. below) start l))
 
 -- A settled list that isn't too large stays as it is.
-list_stays : (free room : ℕ) (tops : Trees) (path : List (List ℕ)) (list start : Trees) → IsSettled list → IsApart start list →
+pub list_stays : (free room : ℕ) (tops : Trees) (path : List (List ℕ)) (list start : Trees) → IsSettled list → IsApart start list →
     count (followed_by start list) ≤ MAX_LIST_NODES → resolved_list free list room tops path start ≡ Ok (followed_by start list)
 list_stays free room tops path none start s a n = resolved_none free room tops path start ∙ ap (λ t. Ok t) (sym (followed_none start))
 list_stays free room tops path (more key value place children rest) start (l, i, r, c, s) a n =

@@ -13,7 +13,7 @@ use Rattle.yaml_merge.proofs.KeptSteps.{filled}
 use Rattle.yaml_merge.specs.declared.resolved.Resolved.{Resolved}
 use Rattle.yaml_merge.specs.declared.TheConstants.{MAX_PATH, MAX_FOREST_NODES}
 use Rattle.yaml_merge.specs.Kept.{key_from, slot, resolved_at, AreKept}
-use Rattle.yaml_merge.specs.Levels.{width, Stands, children_from}
+use Rattle.yaml_merge.specs.Places.{width, Stands, children_from}
 use Rattle.yaml_merge.specs.Merging.{Lacks, count}
 use Rattle.yaml_merge.specs.Resolving.{removes, parent_of, resolved_tops}
 

@@ -8,7 +8,7 @@ use Rattle.yaml_lines.specs.declared.place.Place.{Place}
 use Rattle.yaml_lines.specs.Trees.{Trees, none, more}
 use Rattle.yaml_merge.specs.Merging.{Lacks, newer_value, joined, merged_into}
 use Rattle.yaml_merge.specs.Settled.{IsSettled}
-use Rattle.yaml_merge.proofs.LevelSteps.{bytes_flip}
+use Rattle.yaml_merge.proofs.KeySteps.{bytes_flip}
 
 same_key : (key : List ℕ) → bytes_eq key key ≡ true
 same_key key = (bytes_eq-Decides key key).1 refl

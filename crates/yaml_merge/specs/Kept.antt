@@ -14,7 +14,7 @@ use Rattle.yaml_merge.specs.declared.resolved.Resolved.{Resolved}
 use Rattle.yaml_merge.specs.declared.stop.Stop.{Stop}
 use Rattle.yaml_merge.specs.declared.stop.Stop.TheVariants.{Fault, Parent}
 use Rattle.yaml_merge.specs.declared.TheConstants.{MAX_PATH}
-use Rattle.yaml_merge.specs.Levels.{width, children_from}
+use Rattle.yaml_merge.specs.Places.{width, children_from}
 use Rattle.yaml_merge.specs.Resolving.{Outcome, in_path, inherits, removes, resolved_list}
 
 -- The key of the node at a place.

@@ -3,9 +3,9 @@ pub mod Merging
 pub mod Resolving
 pub mod Settled
 pub mod Laws
-pub mod Nodes
+pub mod Removing
 pub mod Codes
-pub mod Levels
+pub mod Places
 pub mod Slots
 pub mod SlotFalls
 pub mod Kept

@@ -39,14 +39,14 @@ merged_files [] list = list
 merged_files (file ∷ files) list = merged_files files (merged_into file list)
 
 -- The list without the node of a key; nothing where no node has the key.
-abbrev pub behind : (key value : List ℕ) → Place → Trees → Option Trees → Option Trees
-behind key value place children None = None
-behind key value place children (Some rest) = Some (more key value place children rest)
+abbrev pub with_first : (key value : List ℕ) → Place → Trees → Option Trees → Option Trees
+with_first key value place children None = None
+with_first key value place children (Some rest) = Some (more key value place children rest)
 
 abbrev pub without : List ℕ → Trees → Option Trees
 without key none = None
 without key (more first value place children rest) =
-    if bytes_eq first key then Some rest else behind first value place children (without key rest)
+    if bytes_eq first key then Some rest else with_first first value place children (without key rest)
 
 -- How many nodes a list has at all depths, and how many levels.
 abbrev pub count : Trees → ℕ

@@ -24,5 +24,11 @@ abbrev pub IsOnce : Trees → Type 0
 IsOnce none = Unit {0}
 IsOnce (more key value place children rest) = Lacks key rest × IsOnce rest
 
+-- Each key stands once in the list, and in each list below it.
+abbrev pub IsDistinct : Trees → Type 0
+IsDistinct none = Unit {0}
+IsDistinct (more key value place children rest) =
+    Lacks key rest × IsDistinct children × IsDistinct rest
+
 abbrev pub IsSettledForest : Forest → Type 0
 IsSettledForest forest = IsSettledTop (trees_of forest)

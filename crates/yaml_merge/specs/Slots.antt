@@ -9,7 +9,7 @@ use Rattle.std.proofs.Common.{Global}
 use Rattle.yaml_lines.specs.Trees.{Trees, none, more}
 use Rattle.yaml_merge.specs.declared.growing_list.Slot.{Slot}
 use Rattle.yaml_merge.specs.declared.index.Index.{Index}
-use Rattle.yaml_merge.specs.declared.keyed.Keyed.{Keyed}
+use Rattle.yaml_merge.specs.declared.hashers.Hashers.{Hashers}
 
 -- The nodes that are there.
 abbrev pub standing : List Slot → Trees
@@ -55,5 +55,5 @@ Finds index slots =
 abbrev pub Forgets : List ℕ → (old new : Index) → Type 0
 Forgets key old new =
     MatchOption old.places (new.places ≡ None)
-    (λ held. (after : Box (HashMap (List ℕ) ℕ Keyed) Global) × (new.places ≡ Some after)
+    (λ held. (after : Box (HashMap (List ℕ) ℕ Hashers) Global) × (new.places ≡ Some after)
     × ((other : List ℕ) → get bytes_eq after.value other ≡ (if bytes_eq key other then None else get bytes_eq held.value other)))

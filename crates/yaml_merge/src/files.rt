@@ -3,52 +3,40 @@ ghost use Rattle.std.specs.Prelude.{None, Some, Ok};
 ghost use Rattle.base.specs.Steps.{IsFault};
 ghost use Rattle.yaml_lines.specs.Limits.{nodes_in, IsLowForest};
 ghost use Rattle.yaml_lines.specs.Readable.{IsReadableForest};
-ghost use Rattle.yaml_lines.specs.Trees.{none, more, trees_of, before};
-ghost use Rattle.yaml_lines.specs.declared.forest.Forest.TheViews.{out-Node};
+ghost use Rattle.yaml_lines.specs.Trees.{none, trees_of};
 ghost use Rattle.yaml_merge.specs.declared.fault.MergeFault.TheVariants.{NoMemory};
 ghost use Rattle.yaml_merge.specs.Merging.{merged_files};
-ghost use Rattle.yaml_merge.specs.Resolving.{resolved_tops, removed_tops, resolved_files};
+ghost use Rattle.yaml_merge.specs.Resolving.{resolved_tops, resolved_files};
 ghost use Rattle.yaml_merge.specs.Kept.{AreKept, AreKeptBefore, slot};
-ghost use Rattle.yaml_merge.specs.Levels.{width};
-ghost use Rattle.yaml_merge.specs.Settled.{IsOnce, IsSettledForest};
+ghost use Rattle.yaml_merge.specs.Places.{width};
+ghost use Rattle.yaml_merge.specs.Settled.{IsDistinct, IsSettledForest};
 ghost use Rattle.yaml_merge.specs.declared.TheConstants.{MAX_FOREST_NODES};
 
-use crate::MAX_FOREST_NODES;
 use crate::fault::MergeFault;
 use crate::growing_list::GrowingList;
+use crate::hashers::Hashers;
 use crate::keeping::{keep, keep_parents, node_at, total_at};
-use crate::keyed::Keyed;
+use crate::keyed_list::{KeyedList, complete};
 use crate::merging::merge;
-use crate::removing::remove_node;
+use crate::plain::node_over;
+use crate::removing::remove_tops;
 use crate::resolved::Resolved;
 use crate::steps::removes;
-use crate::tops::Tops;
 use crate::walked::Walked;
+use crate::{MAX_FOREST_NODES, MAX_KEPT_NODES};
 use base::NoMemory;
 use std::alloc::Global;
 use std::mem;
-use yaml_lines::{Forest, Node};
-
-/// A top-level node with its resolved children.
-fn top_node(node: &Node, children: Forest) -> Result<Node, NoMemory>
-    ensures { IfOk result (λ made. before made ≡ (λ rest. more (out-Node node.now).key (out-Node node.now).value (out-Node node.now).place (trees_of children) rest)) }
-{
-    Ok(Node {
-        key: node.key.copy()?,
-        value: node.value.copy()?,
-        place: node.place,
-        children,
-    })
-}
+use yaml_lines::Forest;
 
 /// Keeps all top-level nodes that are no removals, or finds the first fault of their resolving.
 fn keep_tops(
     alloc: Global,
-    keyed: &Keyed,
-    tops: &Tops,
+    hashers: &Hashers,
+    tops: &KeyedList,
     kept: &mut Vec<Option<Resolved>>,
 ) -> Result<(), MergeFault>
-    requires once { IsOnce (trees_of tops.now.forest) }
+    requires distinct { IsDistinct (trees_of tops.now.forest) }
     requires are_kept { AreKept (trees_of tops.now.forest) kept.old.items }
     requires long { length kept.old.items ≡ width (trees_of tops.now.forest) }
     ensures are_kept { AreKept (trees_of tops.now.forest) kept.new.items }
@@ -58,14 +46,15 @@ fn keep_tops(
 {
     let mut walked = Walked::none(alloc, tops.forest.nodes.len())?;
     let mut total = 0usize;
+    let mut room = MAX_KEPT_NODES;
     for at in 0..tops.forest.nodes.len() {
         let node = node_at(&tops.forest, at);
         if removes(node.key.as_str().as_bytes()) {
             continue;
         }
         let order = walked.parents_first(alloc, tops, at)?;
-        keep_parents(alloc, keyed, tops, kept, order);
-        keep(alloc, keyed, tops, kept, at)?;
+        keep_parents(alloc, hashers, tops, kept, &mut room, order);
+        keep(alloc, hashers, tops, kept, &mut room, at)?;
         total = total
             .saturating_add(total_at(kept.as_slice(), at))
             .saturating_add(1);
@@ -79,7 +68,7 @@ fn keep_tops(
 /// The top-level nodes that are no removals, each with what is kept of it, in order.
 fn take_tops(
     alloc: Global,
-    tops: &Tops,
+    tops: &KeyedList,
     kept: &mut Vec<Option<Resolved>>,
 ) -> Result<Forest, MergeFault>
     requires are_kept { AreKept (trees_of tops.now.forest) kept.old.items }
@@ -100,7 +89,7 @@ fn take_tops(
         if total > MAX_FOREST_NODES {
             return Err(MergeFault::TooLarge { place: node.place });
         }
-        nodes.push(top_node(node, held.children)?)?;
+        nodes.push(node_over(node, held.children)?)?;
     }
     Ok(Forest { nodes })
 }
@@ -116,18 +105,18 @@ fn take_at(kept: &mut Vec<Option<Resolved>>, at: usize) -> Resolved
 }
 
 /// Resolves the top-level nodes that are no removals, in order.
-fn resolve_tops(alloc: Global, keyed: &Keyed, tops: &Tops) -> Result<Forest, MergeFault>
-    requires once { IsOnce (trees_of tops.now.forest) }
+fn resolve_tops(alloc: Global, hashers: &Hashers, tops: &KeyedList) -> Result<Forest, MergeFault>
+    requires distinct { IsDistinct (trees_of tops.now.forest) }
     ensures done { IfOk result (λ forest. resolved_tops (trees_of tops.now.forest) (trees_of tops.now.forest) none ≡ Ok (trees_of forest)) }
     ensures fault { IfErr result (λ fault. IsFault NoMemory fault (resolved_tops (trees_of tops.now.forest) (trees_of tops.now.forest) none)) }
 {
     let mut kept = vacant(alloc, tops)?;
-    keep_tops(alloc, keyed, tops, &mut kept)?;
+    keep_tops(alloc, hashers, tops, &mut kept)?;
     take_tops(alloc, tops, &mut kept)
 }
 
 /// Nothing kept of any node.
-fn vacant(alloc: Global, tops: &Tops) -> Result<Vec<Option<Resolved>>, NoMemory>
+fn vacant(alloc: Global, tops: &KeyedList) -> Result<Vec<Option<Resolved>>, NoMemory>
     ensures are_kept { IfOk result (λ kept. AreKept (trees_of tops.now.forest) kept.items) }
     ensures long { IfOk result (λ kept. length kept.items ≡ width (trees_of tops.now.forest)) }
 {
@@ -138,32 +127,30 @@ fn vacant(alloc: Global, tops: &Tops) -> Result<Vec<Option<Resolved>>, NoMemory>
     Ok(kept)
 }
 
-/// Removes what the top-level removals name, in order.
-fn remove_tops(tops: &Forest, list: Forest) -> Result<Forest, MergeFault>
-    ensures done { IfOk result (λ forest. removed_tops (trees_of tops.now) (trees_of list) ≡ Ok (trees_of forest)) }
-    ensures fault { IfErr result (λ fault. IsFault NoMemory fault (removed_tops (trees_of tops.now) (trees_of list))) }
-{
-    let mut done = list;
-    for node in &tops.nodes {
-        if let [b'-', key @ ..] = node.key.as_str().as_bytes() {
-            match remove_node(key, node.place, done) {
-                Ok(left) => done = left,
-                Err(fault) => return Err(fault),
-            }
-        }
-    }
-    Ok(done)
-}
-
 /// All files as one list.
-fn merge_files(alloc: Global, keyed: &Keyed, files: &[Forest]) -> Result<GrowingList, NoMemory>
+fn merge_files(alloc: Global, hashers: &Hashers, files: &[Forest]) -> Result<GrowingList, NoMemory>
     ensures { IfOk result (λ level. merged_files (map trees_of files.now) none ≡ level) }
 {
     let mut list = GrowingList::new(alloc);
     for file in files {
-        list = merge(alloc, keyed, file, list)?;
+        list = merge(alloc, hashers, file, list)?;
     }
     Ok(list)
+}
+
+/// The nodes of all files as one list that grows no more.
+fn merged_list(alloc: Global, hashers: &Hashers, files: &[Forest]) -> Result<KeyedList, NoMemory>
+    ensures { IfOk result (λ made.
+        trees_of made.forest ≡ merged_files (map trees_of files.now) none) }
+{
+    if let [file] = files {
+        if let Some(made) = KeyedList::of_file(alloc, hashers, file)? {
+            return Ok(made);
+        }
+    }
+    let list = merge_files(alloc, hashers, files)?;
+    let forest = complete(alloc, list)?;
+    KeyedList::of_forest(alloc, hashers, forest)
 }
 
 /// Merges the files in order, and resolves what their nodes inherit and remove.
@@ -190,9 +177,8 @@ pub fn resolve(alloc: Global, files: &[Forest]) -> Result<Forest, MergeFault>
     ensures low { All IsLowForest files.now → IfOk result IsLowForest }
     ensures fault { IfErr result (λ fault. IsFault NoMemory fault (resolved_files (map trees_of files.now))) }
 {
-    let keyed = Keyed::of(files);
-    let list = merge_files(alloc, &keyed, files)?;
-    let tops = Tops::of(alloc, &keyed, list)?;
-    let done = resolve_tops(alloc, &keyed, &tops)?;
-    remove_tops(&tops.forest, done)
+    let hashers = Hashers::of(files);
+    let tops = merged_list(alloc, &hashers, files)?;
+    let done = resolve_tops(alloc, &hashers, &tops)?;
+    remove_tops(alloc, &hashers, &tops.forest, done)
 }

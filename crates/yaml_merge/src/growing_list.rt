@@ -1,11 +1,11 @@
 ghost use Rattle.std.specs.Prelude.{◌≡◌, ◌<◌, [], OnOk, if◌then◌else◌, Some, None};
 ghost use Rattle.yaml_lines.specs.Trees.{none};
-ghost use Rattle.yaml_merge.specs.Levels.{emptied};
+ghost use Rattle.yaml_merge.specs.Places.{emptied};
 ghost use Rattle.yaml_merge.specs.Merging.{count, children_at, joined, newer_value, without};
 ghost use Rattle.yaml_merge.specs.Slots.{Finds};
 
+use crate::hashers::Hashers;
 use crate::index::Index;
-use crate::keyed::Keyed;
 use base::NoMemory;
 use std::alloc::{AllocError, Global};
 use std::marker::Model;
@@ -102,7 +102,7 @@ impl GrowingList {
     pub fn join(
         &mut self,
         alloc: Global,
-        keyed: &Keyed,
+        hashers: &Hashers,
         key: &Text,
         value: &Text,
         place: Place,
@@ -133,7 +133,7 @@ impl GrowingList {
                 };
                 let key = key.copy()?;
                 self.slots.reserve(1)?;
-                self.index.add(alloc, keyed, self.slots.as_slice(), &key)?;
+                self.index.add(alloc, hashers, self.slots.as_slice(), &key)?;
                 self.slots.push_reserved(Slot {
                     key,
                     value,
@@ -152,7 +152,7 @@ impl GrowingList {
     pub fn join_leaf(
         &mut self,
         alloc: Global,
-        keyed: &Keyed,
+        hashers: &Hashers,
         key: &Text,
         value: &Text,
         place: Place,
@@ -173,7 +173,7 @@ impl GrowingList {
                 };
                 let key = key.copy()?;
                 self.slots.reserve(1)?;
-                self.index.add(alloc, keyed, self.slots.as_slice(), &key)?;
+                self.index.add(alloc, hashers, self.slots.as_slice(), &key)?;
                 let children = GrowingList::new(alloc);
                 self.slots.push_reserved(Slot {
                     key,

@@ -6,7 +6,7 @@ ghost use Rattle.yaml_merge.specs.Slots.{Finds, Forgets, IsFound, IsWhole, Lacks
 ghost use Rattle.yaml_merge.specs.declared.growing_list.Slot.{Slot};
 
 use crate::growing_list::Slot;
-use crate::keyed::Keyed;
+use crate::hashers::Hashers;
 use base::NoMemory;
 use std::alloc::Global;
 use std::boxed::Box;
@@ -19,7 +19,7 @@ const MOST_SEARCHED: usize = 8;
 /// Where the keys of a long list stand. A short list has none.
 #[derive(Drop)]
 pub struct Index {
-    pub(crate) places: Option<Box<HashMap<Text, usize, Keyed>>>,
+    pub(crate) places: Option<Box<HashMap<Text, usize, Hashers>>>,
 }
 
 /// Whether a slot holds a key.
@@ -65,7 +65,7 @@ impl Index {
     pub fn add(
         &mut self,
         alloc: Global,
-        keyed: &Keyed,
+        hashers: &Hashers,
         slots: &[Slot],
         key: &Text,
     ) -> Result<(), NoMemory>
@@ -83,7 +83,7 @@ impl Index {
                 if slots.len() < MOST_SEARCHED {
                     return Ok(());
                 }
-                let mut places = places_of(alloc, keyed, slots)?;
+                let mut places = places_of(alloc, hashers, slots)?;
                 places.insert(key.copy()?, slots.len())?;
                 self.places = Some(Box::new(alloc, places)?);
             }
@@ -104,13 +104,13 @@ impl Index {
 /// The places of all keys.
 fn places_of(
     alloc: Global,
-    keyed: &Keyed,
+    hashers: &Hashers,
     slots: &[Slot],
-) -> Result<HashMap<Text, usize, Keyed>, NoMemory>
+) -> Result<HashMap<Text, usize, Hashers>, NoMemory>
     requires { IsWhole slots.now }
     ensures { IfOk result (λ places. (key : List ℕ) → IsFound key slots.now (get bytes_eq places key)) }
 {
-    let mut places = HashMap::with_hasher(alloc, *keyed);
+    let mut places = HashMap::with_hasher(alloc, *hashers);
     for (at, slot) in slots.iter().enumerate() {
         if slot.live {
             places.insert(slot.key.copy()?, at)?;

@@ -1,4 +1,4 @@
-ghost use Rattle.std.specs.Prelude.{IsSome, ◌≡◌, ◌<◌, ◌≤◌, ◌-◌, [], get_or, IfOk, IfErr, MatchBool};
+ghost use Rattle.std.specs.Prelude.{IsSome, IfSome, ◌≡◌, ◌<◌, ◌≤◌, ◌+◌, ◌-◌, [], get_or, IfOk, IfErr, MatchBool};
 ghost use Rattle.std.specs.Prelude.{MatchOption, ⊤, OnOk, length, set, Some, None};
 ghost use Rattle.base.specs.Steps.{IsFault};
 ghost use Rattle.yaml_lines.specs.Trees.{none, trees_of};
@@ -6,32 +6,33 @@ ghost use Rattle.yaml_lines.specs.declared.forest.Forest.TheViews.{out-Forest, o
 ghost use Rattle.yaml_merge.specs.declared.fault.MergeFault.TheVariants.{NoMemory};
 ghost use Rattle.yaml_merge.specs.declared.resolved.Resolved.{Resolved};
 ghost use Rattle.yaml_merge.specs.Kept.{AreKept, Gives, IsNext, StayKept, Stops, slot, resolved_at};
-ghost use Rattle.yaml_merge.specs.Levels.{width};
+ghost use Rattle.yaml_merge.specs.Places.{width};
 ghost use Rattle.yaml_merge.specs.Merging.{count};
 ghost use Rattle.yaml_merge.specs.Resolving.{resolved_list};
-ghost use Rattle.yaml_merge.specs.Settled.{IsOnce};
+ghost use Rattle.yaml_merge.specs.Settled.{IsDistinct};
 
 use crate::MAX_PATH;
 use crate::fault::MergeFault;
 use crate::growing_list::GrowingList;
-use crate::keyed::Keyed;
+use crate::hashers::Hashers;
+use crate::keyed_list::{KeyedList, complete};
+use crate::plain::plain_resolved;
 use crate::resolved::Resolved;
 use crate::resolving::resolve_list;
 use crate::scene::Scene;
 use crate::stop::Stop;
-use crate::tops::{Tops, complete};
 use base::NoMemory;
 use std::alloc::Global;
 use yaml_lines::{Forest, MAX_LEVELS, Node, Text};
 
 /// A complete list as it is kept.
-fn resolved_of(alloc: Global, level: GrowingList, height: usize) -> Result<Resolved, NoMemory>
+fn resolved_of(alloc: Global, list: GrowingList, height: usize) -> Result<Resolved, NoMemory>
     requires { height < MAX_PATH }
-    ensures children { IfOk result (λ made. trees_of made.children ≡ level) }
+    ensures children { IfOk result (λ made. trees_of made.children ≡ list) }
     ensures height { IfOk result (λ made. made.height ≡ height) }
 {
-    let total = level.total();
-    let children = complete(alloc, level)?;
+    let total = list.total();
+    let children = complete(alloc, list)?;
     Ok(Resolved {
         children,
         height,
@@ -41,14 +42,18 @@ fn resolved_of(alloc: Global, level: GrowingList, height: usize) -> Result<Resol
 
 /// Resolves the children of a top-level node, whose name the path has.
 fn resolve_top(alloc: Global, scene: &Scene<'_>, node: &Node) -> Result<Resolved, Stop>
+    requires distinct { IsDistinct (trees_of (out-Node node.now).children) }
     requires are_kept { AreKept (trees_of scene.now.tops.now.forest) scene.now.kept.now }
     ensures done { IfOk result (λ made. Gives (trees_of scene.now.tops.now.forest) scene.now.kept.now made.height (λ free path. resolved_list free (trees_of (out-Node node.now).children) (MAX_LEVELS - 1) (trees_of scene.now.tops.now.forest) path none) (trees_of made.children)) }
     ensures bound { IfOk result (λ made. made.height ≤ scene.now.free) }
     ensures stop { IfErr result (λ stop. Stops (trees_of scene.now.tops.now.forest) scene.now.kept.now scene.now.free scene.now.path.now stop (resolved_list scene.now.free (trees_of (out-Node node.now).children) (MAX_LEVELS - 1) (trees_of scene.now.tops.now.forest) scene.now.path.now none)) }
 {
+    if let Some(made) = plain_resolved(alloc, &node.children)? {
+        return Ok(made);
+    }
     let mut high = 0usize;
     let start = GrowingList::new(alloc);
-    let level = resolve_list(
+    let list = resolve_list(
         alloc,
         scene,
         &node.children,
@@ -56,7 +61,7 @@ fn resolve_top(alloc: Global, scene: &Scene<'_>, node: &Node) -> Result<Resolved
         start,
         &mut high,
     )?;
-    Ok(resolved_of(alloc, level, high)?)
+    Ok(resolved_of(alloc, list, high)?)
 }
 
 /// The node at a place.
@@ -71,13 +76,13 @@ pub fn node_at(forest: &Forest, at: usize) -> &Node
 /// and returns its place with it.
 fn next_made(
     alloc: Global,
-    keyed: &Keyed,
-    tops: &Tops,
+    hashers: &Hashers,
+    tops: &KeyedList,
     kept: &[Option<Resolved>],
     root: usize,
 ) -> Result<(usize, Resolved), MergeFault>
     requires root { root < width (trees_of tops.now.forest) }
-    requires once { IsOnce (trees_of tops.now.forest) }
+    requires distinct { IsDistinct (trees_of tops.now.forest) }
     requires are_kept { AreKept (trees_of tops.now.forest) kept.now }
     requires long { length kept.now ≡ width (trees_of tops.now.forest) }
     requires vacant { slot kept.now root ≡ None }
@@ -94,7 +99,7 @@ fn next_made(
             tops,
             kept,
             path: path.as_slice(),
-            keyed,
+            hashers,
             free,
         };
         match resolve_top(alloc, &scene, node) {
@@ -138,16 +143,35 @@ fn set_at(kept: &mut Vec<Option<Resolved>>, at: usize, made: Resolved)
     kept[at] = Some(made);
 }
 
-/// Keeps a top-level node, and what has to be resolved before it.
+/// How many nodes are kept below a top-level node.
+pub fn total_at(kept: &[Option<Resolved>], at: usize) -> usize
+    ensures { MatchOption (slot kept.now at) ⊤ (λ held. result ≡ count (trees_of held.children)) }
+{
+    match held_at(kept, at) {
+        Some(held) => held.total,
+        None => 0,
+    }
+}
+
+/// How many more nodes may be kept once a list of `new` nodes takes the place of one of `old`.
+fn room_after(room: usize, old: usize, new: usize) -> Option<usize>
+    ensures { IfSome result (λ left. left + new ≡ room + old) }
+{
+    room.checked_add(old)?.checked_sub(new)
+}
+
+/// Keeps a top-level node, and what has to be resolved before it. `room` says how many more nodes
+/// may be kept.
 pub fn keep(
     alloc: Global,
-    keyed: &Keyed,
-    tops: &Tops,
+    hashers: &Hashers,
+    tops: &KeyedList,
     kept: &mut Vec<Option<Resolved>>,
+    room: &mut usize,
     root: usize,
 ) -> Result<(), MergeFault>
     requires root { root < width (trees_of tops.now.forest) }
-    requires once { IsOnce (trees_of tops.now.forest) }
+    requires distinct { IsDistinct (trees_of tops.now.forest) }
     requires are_kept { AreKept (trees_of tops.now.forest) kept.old.items }
     requires long { length kept.old.items ≡ width (trees_of tops.now.forest) }
     ensures are_kept { AreKept (trees_of tops.now.forest) kept.new.items }
@@ -157,21 +181,27 @@ pub fn keep(
     ensures fault { IfErr result (λ fault. IsFault NoMemory fault (resolved_at (trees_of tops.now.forest) root (MAX_PATH - 1) [])) }
 {
     'vacant: while !is_kept(kept.as_slice(), root) {
-        let (at, made) = next_made(alloc, keyed, tops, kept.as_slice(), root)?;
+        let (at, made) = next_made(alloc, hashers, tops, kept.as_slice(), root)?;
+        let old = total_at(kept.as_slice(), at);
+        let Some(left) = room_after(*room, old, made.total) else {
+            return Err(MergeFault::NoMemory);
+        };
+        *room = left;
         set_at(kept, at, made);
     }
     Ok(())
 }
 
-/// Keeps top-level nodes, in order, up to the first that has a fault.
+/// Keeps top-level nodes, in order, up to the first that has a fault or for which no room is left.
 pub fn keep_parents(
     alloc: Global,
-    keyed: &Keyed,
-    tops: &Tops,
+    hashers: &Hashers,
+    tops: &KeyedList,
     kept: &mut Vec<Option<Resolved>>,
+    room: &mut usize,
     order: Vec<usize>,
 )
-    requires once { IsOnce (trees_of tops.now.forest) }
+    requires distinct { IsDistinct (trees_of tops.now.forest) }
     requires are_kept { AreKept (trees_of tops.now.forest) kept.old.items }
     requires long { length kept.old.items ≡ width (trees_of tops.now.forest) }
     ensures are_kept { AreKept (trees_of tops.now.forest) kept.new.items }
@@ -182,18 +212,8 @@ pub fn keep_parents(
         if at >= kept.len() {
             continue;
         }
-        if keep(alloc, keyed, tops, kept, at).is_err() {
+        if keep(alloc, hashers, tops, kept, room, at).is_err() {
             return;
         }
-    }
-}
-
-/// How many nodes are kept below a top-level node.
-pub fn total_at(kept: &[Option<Resolved>], at: usize) -> usize
-    ensures { MatchOption (slot kept.now at) ⊤ (λ held. result ≡ count (trees_of held.children)) }
-{
-    match held_at(kept, at) {
-        Some(held) => held.total,
-        None => 0,
     }
 }

@@ -3,7 +3,8 @@ ghost use Rattle.yaml_merge.specs.Laws.{SettledStays, ResolvedStays, PlainIsMerg
 ghost use Rattle.yaml_merge.specs.Laws.{TopRemovalRemoves, ChildWins, EmptyGivesWay, ParentWins};
 
 /// A law of settled forests, in which each key stands once in its list and nothing is left to
-/// inherit or remove: such a forest resolves to itself, and so does what resolving gave.
+/// inherit or remove: such a forest resolves to itself, if it isn't too large. So does whatever
+/// resolving gave.
 pub fn settled_stays()
     ensures settled { SettledStays }
     ensures resolved { ResolvedStays }
@@ -22,9 +23,11 @@ pub fn removals_remove()
     ensures top { TopRemovalRemoves }
 {}
 
-/// A law of values: one that isn't empty holds against a parent's that came before it, and a
-/// parent's that isn't empty and comes after it holds against it. An empty one leaves what was
-/// there.
+/// A law of values, in a list where nothing is refused and where the nodes after the one at hand
+/// leave its key alone (none inherits, has the key or removes it). A value that isn't empty holds
+/// against whatever stands before it. An empty value leaves the one that the key has before it. A
+/// value that isn't empty and that an inherited parent has, as it is resolved, holds against
+/// whatever stands before the `Inherits`.
 pub fn values_win()
     ensures child { ChildWins }
     ensures empty { EmptyGivesWay }

@@ -6,14 +6,17 @@
 //! is inherited.
 #![tactic(auto)]
 
+mod distinct;
 mod fault;
 mod files;
 mod growing_list;
+mod hashers;
 mod index;
 mod keeping;
-mod keyed;
+mod keyed_list;
 mod laws;
 mod merging;
+mod plain;
 mod removing;
 mod resolved;
 mod resolving;
@@ -21,7 +24,6 @@ mod scene;
 mod sizes;
 mod steps;
 mod stop;
-mod tops;
 mod walked;
 
 pub use fault::MergeFault;
@@ -36,6 +38,11 @@ pub const MAX_LIST_NODES: usize = 262_144;
 
 /// The most nodes, at all depths, of the resolved forest before the removals at its top level.
 pub const MAX_FOREST_NODES: usize = 2_097_152;
+
+/// The most nodes, at all depths, of all resolved top-level nodes that are kept at a time. More of
+/// them than `MAX_FOREST_NODES` are never in a resolved forest, so only what is refused anyway can
+/// come to this limit. It is then refused with `NoMemory`.
+const MAX_KEPT_NODES: usize = 8_388_608;
 
 #[cfg(test)]
 mod tests;

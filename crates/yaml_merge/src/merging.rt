@@ -3,7 +3,7 @@ ghost use Rattle.yaml_lines.specs.Trees.{trees_of};
 ghost use Rattle.yaml_merge.specs.Merging.{merged_into};
 
 use crate::growing_list::GrowingList;
-use crate::keyed::Keyed;
+use crate::hashers::Hashers;
 use crate::sizes::is_leaf;
 use base::NoMemory;
 use std::alloc::Global;
@@ -12,7 +12,7 @@ use yaml_lines::Forest;
 /// Takes the nodes of the first list in order into the second.
 pub fn merge(
     alloc: Global,
-    keyed: &Keyed,
+    hashers: &Hashers,
     new: &Forest,
     old: GrowingList,
 ) -> Result<GrowingList, NoMemory>
@@ -21,12 +21,12 @@ pub fn merge(
     let mut list = old;
     for node in &new.nodes {
         if is_leaf(&node.children) {
-            list.join_leaf(alloc, keyed, &node.key, &node.value, node.place)?;
+            list.join_leaf(alloc, hashers, &node.key, &node.value, node.place)?;
             continue;
         }
         let children = list.take(alloc, &node.key);
-        let children = merge(alloc, keyed, &node.children, children)?;
-        list.join(alloc, keyed, &node.key, &node.value, node.place, children)?;
+        let children = merge(alloc, hashers, &node.children, children)?;
+        list.join(alloc, hashers, &node.key, &node.value, node.place, children)?;
     }
     Ok(list)
 }

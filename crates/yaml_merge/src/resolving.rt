@@ -63,7 +63,7 @@ fn inherit_node(
         return Err(Stop::Fault(MergeFault::TooDeep { place }));
     }
     match served(scene, at) {
-        Some(parent) => match inherit(alloc, scene.keyed, room, place, list, parent) {
+        Some(parent) => match inherit(alloc, scene.hashers, room, place, list, parent) {
             Ok(level) => {
                 *high = (*high).max(parent.height + 1);
                 Ok(level)
@@ -92,7 +92,7 @@ fn join_node(
 {
     let mut list = list;
     if is_leaf(&node.children) {
-        list.join_leaf(alloc, scene.keyed, &node.key, &node.value, node.place)?;
+        list.join_leaf(alloc, scene.hashers, &node.key, &node.value, node.place)?;
         return Ok(list);
     }
     let children = list.take(alloc, &node.key);
@@ -100,7 +100,7 @@ fn join_node(
     let children = resolve_list(alloc, scene, &node.children, room, children, high)?;
     list.join(
         alloc,
-        scene.keyed,
+        scene.hashers,
         &node.key,
         &node.value,
         node.place,

@@ -9,7 +9,7 @@ ghost use Rattle.yaml_merge.specs.Resolving.{removed};
 
 use crate::fault::MergeFault;
 use crate::growing_list::GrowingList;
-use crate::keyed::Keyed;
+use crate::hashers::Hashers;
 use crate::merging::merge;
 use crate::resolved::Resolved;
 use crate::sizes::has_levels;
@@ -96,7 +96,7 @@ pub fn remove(
 #[tactic(auto, using(crate::proofs::StepSteps::within_steps))]
 pub fn inherit(
     alloc: Global,
-    keyed: &Keyed,
+    hashers: &Hashers,
     room: usize,
     place: Place,
     list: GrowingList,
@@ -108,5 +108,5 @@ pub fn inherit(
     if !has_levels(&parent.children, room) {
         return Err(MergeFault::TooDeep { place });
     }
-    Ok(merge(alloc, keyed, &parent.children, list)?)
+    Ok(merge(alloc, hashers, &parent.children, list)?)
 }

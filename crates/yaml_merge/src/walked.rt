@@ -1,5 +1,5 @@
+use crate::keyed_list::KeyedList;
 use crate::steps::{inherits, removes};
-use crate::tops::Tops;
 use base::NoMemory;
 use std::alloc::Global;
 use yaml_lines::Forest;
@@ -14,7 +14,7 @@ enum Walk {
 }
 
 /// Adds the parents that a list names, at all depths, the last first.
-fn push_parents(tops: &Tops, list: &Forest, walk: &mut Vec<Walk>) -> Result<(), NoMemory> {
+fn push_parents(tops: &KeyedList, list: &Forest, walk: &mut Vec<Walk>) -> Result<(), NoMemory> {
     for node in list.nodes.iter().rev() {
         let key = node.key.as_str().as_bytes();
         if inherits(key) {
@@ -48,7 +48,7 @@ impl Walked {
     pub fn parents_first(
         &mut self,
         alloc: Global,
-        tops: &Tops,
+        tops: &KeyedList,
         root: usize,
     ) -> Result<Vec<usize>, NoMemory> {
         let mut order = Vec::new(alloc);

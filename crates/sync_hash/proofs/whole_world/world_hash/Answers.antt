@@ -2,7 +2,8 @@ use Rattle.std.proofs.Common.{◌≡◌}
 use Rattle.sync_hash.proofs.SumLemmas.{world_hash_is}
 use Rattle.sync_hash.proofs.whole_world.world_hash.Goals as goal
 
--- The sum of the three parts.
+-- The number of the header with those of the parts.
 pub returns : goal.returns
 returns c =
-    world_hash_is c.args.w.now c.header_number-header.result c.actors_sum-actors.result c.ore_sum.result (rw (c.head_of.ensures, c.len.ensures) at c.header_number-header.ensures) (rw c.as_slice.ensures at c.actors_sum-actors.ensures) c.ore_sum.ensures
+    world_hash_is c.args.w.now c.header_number.result c.with_parts.result
+    (rw (c.head_of.ensures, c.len.ensures) at c.header_number.ensures) c.with_parts.ensures

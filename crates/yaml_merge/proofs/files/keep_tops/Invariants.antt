@@ -2,7 +2,7 @@ use Rattle.std.proofs.Common.{◌≡◌, length, drop}
 use Rattle.yaml_lines.specs.declared.forest.Forest.TheViews.{out-Forest}
 use Rattle.yaml_lines.specs.Trees.{trees_of, trees_of_nodes}
 use Rattle.yaml_merge.specs.Kept.{AreKept, AreKeptBefore}
-use Rattle.yaml_merge.specs.Levels.{width}
+use Rattle.yaml_merge.specs.Places.{width}
 use Rattle.yaml_merge.proofs.TopSteps.{SoFar}
 use Rattle.yaml_merge.proofs.files.keep_tops.Given as goal
 

@@ -1,10 +1,11 @@
 use Rattle.std.proofs.Common.{rules, map, sym, ◌∙◌, subst}
 use Rattle.yaml_lines.specs.Trees.{none, trees_of}
-use Rattle.yaml_merge.specs.Settled.{IsOnce}
+use Rattle.yaml_merge.specs.Settled.{IsDistinct}
 use Rattle.yaml_merge.specs.Resolving.{resolved_files}
 use Rattle.yaml_merge.proofs.LimitSteps.{resolve_few, resolve_low}
 use Rattle.yaml_merge.proofs.ReadableSteps.{resolve_readable}
-use Rattle.yaml_merge.proofs.SettledSteps.{resolve_settled, merged_files_once}
+use Rattle.yaml_merge.proofs.SettledSteps.{resolve_settled, merged_files_distinct}
+use Rattle.yaml_merge.proofs.SettledSteps.{distinct_once, resolved_tops_once}
 use Rattle.yaml_merge.proofs.files.resolve.Goals as goal
 
 pub returns-clause-done : goal.returns-clause-done
@@ -25,4 +26,10 @@ returns-clause-low c = resolve_low c.args.files.now _ (returns-clause-done c)
 
 pub resolve_tops-requires : goal.resolve_tops-requires
 resolve_tops-requires c =
-    record { once = subst IsOnce (c.in_ok-list.ensures {u = tt} ∙ sym (c.in_ok-tops.ensures {u = tt})) (merged_files_once (map trees_of c.args.files.now) none tt) }
+    record { distinct = subst IsDistinct (sym (c.in_ok-tops.ensures {u = tt})) (merged_files_distinct (map trees_of c.args.files.now) none tt) }
+
+pub remove_tops-requires : goal.remove_tops-requires
+remove_tops-requires c =
+    let distinct : IsDistinct (trees_of c.in_ok-tops.tops.forest) =
+    subst IsDistinct (sym (c.in_ok-tops.ensures {u = tt})) (merged_files_distinct (map trees_of c.args.files.now) none tt) in
+    record { once = resolved_tops_once (trees_of c.in_ok-tops.tops.forest) _ (distinct_once _ distinct) (c.in_ok-done.ensures {u = tt}).done }

@@ -7,7 +7,7 @@ use Rattle.yaml_lines.specs.Trees.{none, trees_of, trees_of_nodes}
 use Rattle.yaml_lines.proofs.TreeSteps.{trees_roll, trees_out}
 use Rattle.yaml_merge.specs.declared.TheConstants.{MAX_FOREST_NODES}
 use Rattle.yaml_merge.specs.Kept.{key_from, slot}
-use Rattle.yaml_merge.specs.Levels.{width}
+use Rattle.yaml_merge.specs.Places.{width}
 use Rattle.yaml_merge.proofs.DescentSteps.{node_key}
 use Rattle.yaml_merge.specs.Merging.{count}
 use Rattle.yaml_merge.specs.Resolving.{within, removes, added, resolved_tops}
@@ -50,7 +50,7 @@ loop-at-preserved c =
     let all = count_added o.key o.value o.place below start in
     let pushed = c.in_ok-push.ensures {u = tt} in
     let joined : trees_of_nodes c.push.new.self.items ≡ next =
-    ap trees_of_nodes pushed.items ∙ added_last c.loop-at.nodes.items o.key o.value o.place below c.in_ok-top_node.field-0 (c.in_ok-top_node.ensures {u = tt}) in
+    ap trees_of_nodes pushed.items ∙ added_last c.loop-at.nodes.items o.key o.value o.place below c.in_ok-node_over.field-0 (c.in_ok-node_over.ensures {u = tt}) in
     let total : c.saturating_add-total.result ≡ count next = omega (arith, all, told.total, told.small, held.counted, c.saturating_add.ensures, c.saturating_add-total.ensures) in
     let small : count next ≤ MAX_FOREST_NODES = omega (arith, total) in
     record {

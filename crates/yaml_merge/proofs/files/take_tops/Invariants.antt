@@ -3,7 +3,7 @@ use Rattle.yaml_lines.specs.declared.forest.Forest.TheViews.{out-Forest}
 use Rattle.yaml_lines.specs.Trees.{none, trees_of, trees_of_nodes}
 use Rattle.yaml_merge.specs.declared.TheConstants.{MAX_FOREST_NODES}
 use Rattle.yaml_merge.specs.Kept.{slot}
-use Rattle.yaml_merge.specs.Levels.{width}
+use Rattle.yaml_merge.specs.Places.{width}
 use Rattle.yaml_merge.specs.Merging.{count}
 use Rattle.yaml_merge.specs.Resolving.{resolved_tops}
 use Rattle.yaml_merge.proofs.files.take_tops.Given as goal

@@ -1,7 +1,7 @@
 use Rattle.std.proofs.Common.{◌≡◌, length}
 use Rattle.yaml_lines.specs.Trees.{trees_of}
 use Rattle.yaml_merge.specs.Kept.{AreKept, StayKept}
-use Rattle.yaml_merge.specs.Levels.{width}
+use Rattle.yaml_merge.specs.Places.{width}
 use Rattle.yaml_merge.proofs.keeping.keep_parents.Given as goal
 
 abbrev pub invariant-loop-at : goal.invariant-loop-at

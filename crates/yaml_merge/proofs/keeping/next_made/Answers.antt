@@ -1,7 +1,9 @@
-use Rattle.std.proofs.Common.{◌≡◌, ◌∙◌, ◌-◌, ◌++◌, ◌∷◌, [], ap, subst, arith}
+use Rattle.std.proofs.Common.{◌≡◌, ◌∙◌, ◌-◌, ◌++◌, ◌∷◌, [], ap, sym, subst, arith}
 use Rattle.yaml_lines.specs.declared.forest.Forest.TheViews.{out-Node}
 use Rattle.yaml_lines.specs.Trees.{trees_of}
 use Rattle.yaml_merge.specs.Kept.{key_from}
+use Rattle.yaml_merge.specs.Settled.{IsDistinct}
+use Rattle.yaml_merge.proofs.SettledSteps.{distinct_once, distinct_at}
 use Rattle.yaml_merge.proofs.TopSteps.{width_forest}
 use Rattle.yaml_merge.proofs.DescentSteps.{Descends, descends_first, descends_clear, descends_next}
 use Rattle.yaml_merge.proofs.DescentSteps.{descends_fault, descends_made, node_children, node_key}
@@ -22,10 +24,15 @@ invariant_of-scene c =
     let key = node_key forest c.parents.at c.node_at-node.result.now told.place c.node_at-node.ensures in
     let longer : c.as_slice.result.now ≡ c.parents.path.items ++ key_from c.parents.at tops ∷ [] =
     c.as_slice.ensures.value ∙ (c.in_ok-push.ensures {u = tt}).items ∙ ap (λ k. c.parents.path.items ++ k ∷ []) (c.in_ok-copy.ensures {u = tt} ∙ key) in
-    record { low = told.low; is_clear = descends_clear tops c.args.kept.now c.args.root c.parents.at c.parents.free c.parents.path.items c.as_slice.result.now c.requires.once c.requires.long told longer }
+    record { low = told.low; is_clear = descends_clear tops c.args.kept.now c.args.root c.parents.at c.parents.free c.parents.path.items c.as_slice.result.now (distinct_once _ c.requires.distinct) c.requires.long told longer }
 
 pub resolve_top-requires : goal.resolve_top-requires
-resolve_top-requires c = record { are_kept = c.requires.are_kept }
+resolve_top-requires c =
+    let forest = c.args.tops.now.forest in
+    record {
+      distinct = subst IsDistinct (sym (node_children forest c.parents.at c.node_at-node.result.now c.parents.invariant.place c.node_at-node.ensures)) (distinct_at c.parents.at (trees_of forest) c.requires.distinct);
+      are_kept = c.requires.are_kept;
+    }
 
 pub returns-in-Ok-clause-next : goal.returns-in-Ok-clause-next
 returns-in-Ok-clause-next c =
@@ -55,5 +62,5 @@ parents-preserved c =
     let longer : c.as_slice.result.now ≡ c.parents.path.items ++ key_from c.parents.at tops ∷ [] =
     c.as_slice.ensures.value ∙ (c.in_ok-push.ensures {u = tt}).items ∙ ap (λ k. c.parents.path.items ++ k ∷ []) (c.in_ok-copy.ensures {u = tt} ∙ key) in
     subst (λ p. Descends tops c.args.kept.now c.args.root c.in-Parent.next (c.parents.free - 1) p) c.as_slice.ensures.value
-    (descends_next tops c.args.kept.now c.args.root c.parents.at c.parents.free c.in-Parent.next c.parents.path.items c.as_slice.result.now (trees_of (out-Node c.node_at-node.result.now).children) c.in-Err.stop c.requires.once c.requires.long told longer
+    (descends_next tops c.args.kept.now c.args.root c.parents.at c.parents.free c.in-Parent.next c.parents.path.items c.as_slice.result.now (trees_of (out-Node c.node_at-node.result.now).children) c.in-Err.stop (distinct_once _ c.requires.distinct) c.requires.long told longer
     (node_children forest c.parents.at c.node_at-node.result.now told.place c.node_at-node.ensures) c.in-Parent.is (c.in-Err.ensures {u = tt}).stop)

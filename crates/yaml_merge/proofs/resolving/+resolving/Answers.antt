@@ -8,7 +8,7 @@ use Rattle.yaml_lines.specs.Trees.{trees_of, trees_of_nodes}
 use Rattle.yaml_merge.specs.Merging.{count, joined, without}
 use Rattle.yaml_merge.specs.declared.TheConstants.{MAX_LIST_NODES}
 use Rattle.yaml_merge.specs.Resolving.{inherits, removes, removed, taken_in, resolved_list}
-use Rattle.yaml_merge.proofs.LevelLaws.{joined_emptied}
+use Rattle.yaml_merge.proofs.PlaceLaws.{joined_emptied}
 use Rattle.yaml_merge.proofs.KeptSteps.{clear_less, stops_on, gives_same, stops_same, took_inherits}
 use Rattle.yaml_merge.proofs.KeptSteps.{took_removes, took_joins}
 use Rattle.yaml_merge.proofs.ListSteps.{join_done, leaf_done, resolved_none, resolved_step, resolved_fault}

@@ -3,9 +3,9 @@ use Rattle.yaml_lines.specs.declared.forest.Forest.TheViews.{out-Node}
 use Rattle.base.specs.Steps.{IsFault}
 use Rattle.yaml_lines.specs.Trees.{trees_of}
 use Rattle.yaml_merge.specs.declared.fault.MergeFault.TheVariants.{NoMemory}
-use Rattle.yaml_merge.specs.Levels.{Stands, children_from}
+use Rattle.yaml_merge.specs.Places.{Stands, children_from}
 use Rattle.yaml_merge.specs.Resolving.{in_path, parent_of}
-use Rattle.yaml_merge.proofs.LevelLaws.{stands_within}
+use Rattle.yaml_merge.proofs.PlaceLaws.{stands_within}
 use Rattle.yaml_merge.proofs.KeptSteps.{stands_key, clear_less, kept_serves, parent_stops}
 use Rattle.yaml_merge.proofs.resolving.inherit_node.Goals as goal
 

@@ -1,7 +1,7 @@
 use Rattle.std.proofs.Common.{inl, sym, ◌∙◌, arith}
 use Rattle.grid_routes.specs.Tolls.{toll_in}
 use Rattle.grid_routes.proofs.Best.{no-direction}
-use Rattle.grid_routes.proofs.Walking.{route-step, route-end, zero-goal}
+use Rattle.grid_routes.proofs.Walking.{away, route-step, route-end, zero-goal}
 use Rattle.grid_routes.proofs.search.Search.route.Goals as goal
 
 pub returns-then-cost : goal.returns-then-cost
@@ -21,7 +21,10 @@ loop-goal-preserved c =
     c.loop-goal.invariant c.next-at.ensures c.in_ok-push-2.ensures.ok
 
 pub returns : goal.returns
-returns c =
-    route-end (record { toll = toll_in c.args.self.now.tolls; goal = c.args.goal }) c.args.self.now.field c.args.self.now.buckets
-    c.requires.search c.args.from c.loop-goal.at c.loop-goal.cells c.label-cost.result c.loop-goal.invariant c.requires.on
-    c.requires.settled (omega arith) c.label-cost.ensures (omega arith)
+returns c = (
+  away (record { toll = toll_in c.args.self.now.tolls; goal = c.args.goal }) c.args.self.now.field c.args.self.now.buckets
+      c.requires.search c.args.from c.label-cost.result c.label-cost.ensures (omega arith),
+  route-end (record { toll = toll_in c.args.self.now.tolls; goal = c.args.goal }) c.args.self.now.field c.args.self.now.buckets
+      c.requires.search c.args.from c.loop-goal.at c.loop-goal.cells c.label-cost.result c.loop-goal.invariant c.requires.on
+      c.requires.settled (omega arith) c.label-cost.ensures (omega arith),
+)

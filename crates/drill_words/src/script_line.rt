@@ -1,0 +1,47 @@
+//! Reads the lines of a script.
+ghost use Rattle.std.specs.Prelude.{◌≡◌, ◌<◌, ◌≤◌, true, IfOk};
+ghost use Rattle.drill_words.specs.ScriptLine.{script_head_of, script_play_of};
+ghost use Rattle.game_orders.specs.declared.limits.TheConstants.{MAX_CLIENTS};
+
+use crate::order_list::take_orders;
+use crate::script_words::{ScriptHead, ScriptPlay};
+use crate::word_cursor::WordCursor;
+use crate::word_fault::WordFault;
+use game_orders::MAX_CLIENTS;
+
+/// The head that the words of a script's first line write. A solo script has one client.
+#[tactic(auto, unfolding(crate::specs::ScriptLine::script_head_of))]
+pub(crate) fn read_script_head(
+    solo: bool,
+    cursor: &mut WordCursor<'_>,
+) -> Result<ScriptHead, WordFault>
+    ensures line { result ≡ script_head_of solo cursor.old }
+    ensures least { IfOk result (λ head. 1 ≤ head.clients) }
+    ensures most { IfOk result (λ head. head.clients ≤ MAX_CLIENTS) }
+    ensures alone { IfOk result (λ head. solo ≡ true → head.clients ≤ 1) }
+{
+    cursor.word(b"script".as_slice())?;
+    let most = if solo { 1 } else { u32::from(MAX_CLIENTS) };
+    let clients = cursor.number(1, most)?;
+    let seed = cursor.number(0, u32::MAX)?;
+    cursor.end()?;
+    Ok(ScriptHead {
+        clients: clients as u8,
+        seed,
+    })
+}
+
+/// The play that the words of a line write, in a match of so many clients.
+#[tactic(auto, unfolding(crate::specs::ScriptLine::script_play_of))]
+pub(crate) fn read_script_play(
+    clients: u8,
+    cursor: &mut WordCursor<'_>,
+) -> Result<ScriptPlay, WordFault>
+    ensures line { result ≡ script_play_of clients cursor.old }
+    ensures below { IfOk result (λ play. play.client < clients) }
+{
+    let client = cursor.client(clients)?;
+    let orders = take_orders(cursor)?;
+    cursor.end()?;
+    Ok(ScriptPlay { client, orders })
+}

@@ -1,0 +1,5 @@
+use Rattle.game_tick.specs.OwnLemmas.{order_keeps}
+use Rattle.game_tick.proofs.law.orders_keep.Goals as goal
+
+pub returns : goal.returns
+returns c = λ setup w client order. order_keeps setup w client order

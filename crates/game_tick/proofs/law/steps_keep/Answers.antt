@@ -1,0 +1,5 @@
+use Rattle.game_tick.specs.KeepsLemmas.{step_keeps}
+use Rattle.game_tick.proofs.law.steps_keep.Goals as goal
+
+pub returns : goal.returns
+returns c = λ setup w id. step_keeps setup w id

@@ -1,0 +1,5 @@
+use Rattle.game_tick.specs.KeepsLemmas.{tick_keeps}
+use Rattle.game_tick.proofs.law.ticks_keep.Goals as goal
+
+pub returns : goal.returns
+returns c = λ setup w frame. tick_keeps setup w frame

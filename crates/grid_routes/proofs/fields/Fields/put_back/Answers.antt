@@ -1,0 +1,26 @@
+use Rattle.std.proofs.Common.{ap, sym, subst, arith, ◌∙◌, length, List, length-set}
+use Rattle.game_model.specs.Grid.{HasSize}
+use Rattle.grid_routes.specs.Labels.{Distances}
+use Rattle.grid_routes.specs.declared.fields.Kept.{Kept}
+use Rattle.grid_routes.proofs.Keeping.{for-going, kept-set}
+use Rattle.grid_routes.proofs.fields.Fields.put_back.Goals as goal
+
+pub returns-clause-fields : goal.returns-clause-fields
+returns-clause-fields c =
+    let f = c.requires.fields in
+    let old = c.args.self.now in
+    let w = old.search.tolls.terrain.width in
+    let h = old.search.tolls.terrain.height in
+    let mine : Kept = record { ask = old.ask; field = old.search.field } in
+    let there = f.kept old.place mine (omega (arith, f.count, f.place)) in
+    record {
+      terrain = f.terrain;
+      size = subst (λ (d : Distances). HasSize w h d.labels) (sym (c.exchange-self.ensures.field mine)) there.size;
+      room = f.room;
+      search = tt;
+      kept = kept-set w h old.search.tolls.terrain old.search.tolls.built old.kept.items c.exchange-self.new.kept.items
+          old.place mine f.kept (record { size = f.size; going = for-going old.search old.ask f.search })
+          c.exchange-self.ensures.kept;
+      count = ap (λ (l : List Kept). length l) c.exchange-self.ensures.kept ∙ length-set old.kept.items old.place mine ∙ f.count;
+      place = f.place;
+    }

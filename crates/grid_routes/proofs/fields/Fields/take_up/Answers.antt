@@ -1,0 +1,51 @@
+use Rattle.std.proofs.Common.{ap, sym, subst, arith, ◌∙◌, length, List, None, length-set}
+use Rattle.std.specs.List.{All}
+use Rattle.game_model.specs.Grid.{HasSize}
+use Rattle.grid_routes.specs.Tolls.{Ground}
+use Rattle.grid_routes.specs.Labels.{Distances}
+use Rattle.grid_routes.specs.Kept.{IsKept}
+use Rattle.grid_routes.specs.declared.fields.Kept.{Kept}
+use Rattle.grid_routes.proofs.Keeping.{found-going, kept-set, turned}
+use Rattle.grid_routes.proofs.fields.Fields.take_up.Goals as goal
+
+pub set_out-requires-clause-size : goal.set_out-requires-clause-size
+set_out-requires-clause-size c =
+    let f = c.requires.fields in
+    let old = c.args.self.now in
+    let mine : Kept = record { ask = old.ask; field = old.search.field } in
+    let there = f.kept c.args.place mine (omega (arith, f.count, c.requires.place)) in
+    subst (λ (d : Distances). HasSize old.search.tolls.terrain.width old.search.tolls.terrain.height d.labels)
+    (sym (c.exchange-found.ensures.field mine)) there.size
+
+pub set_out-requires-clause-going : goal.set_out-requires-clause-going
+set_out-requires-clause-going c = λ known.
+    let f = c.requires.fields in
+    let old = c.args.self.now in
+    let mine : Kept = record { ask = old.ask; field = old.search.field } in
+    let there = f.kept c.args.place mine (omega (arith, f.count, c.requires.place)) in
+    found-going old.search.tolls.terrain.width old.search.tolls.terrain.height old.search.tolls.terrain old.search.tolls.built _
+    c.exchange-found.result c.exchange-found.new.field c.args.ask.now there (c.exchange-found.ensures.found mine)
+    (c.exchange-found.ensures.field mine) (c.is_known-known.ensures known)
+
+pub returns-clause-fields : goal.returns-clause-fields
+returns-clause-fields c =
+    let f = c.requires.fields in
+    let old = c.args.self.now in
+    let w = old.search.tolls.terrain.width in
+    let h = old.search.tolls.terrain.height in
+    let new = c.set_out.new.self in
+    let room : Kept = record { ask = None; field = old.search.field } in
+    record {
+      terrain = subst (λ (g : Ground). HasSize w h g.terrain) (sym c.set_out.ensures.tolls) f.terrain;
+      size = c.set_out.ensures.size;
+      room = c.set_out.ensures.room ∙ f.room;
+      search = record {
+        tolls = turned new.tolls old.search.tolls c.args.ask.now.costs c.args.ask.now.goal c.set_out.ensures.tolls;
+        going = c.set_out.ensures.search;
+      };
+      kept = subst (λ (g : Ground). All (IsKept w h g.terrain g.built) c.exchange-found.new.kept.items) (sym c.set_out.ensures.tolls)
+          (kept-set w h old.search.tolls.terrain old.search.tolls.built old.kept.items c.exchange-found.new.kept.items
+          c.args.place room f.kept (record { size = f.size; going = tt }) c.exchange-found.ensures.kept);
+      count = ap (λ (l : List Kept). length l) c.exchange-found.ensures.kept ∙ length-set old.kept.items c.args.place room ∙ f.count;
+      place = c.requires.place;
+    }

@@ -1,0 +1,53 @@
+-- What is kept from one question to the next: fields of distances over one ground.
+use Rattle.std.specs.Prelude.{◌≡◌, ℕ, ◌*◌, ◌<◌, ◌≤◌, All, IfSome, Bool, List, length, slice_index_or, None}
+use Rattle.world_units.specs.declared.cell.CPos.{CPos}
+use Rattle.rule_traits.specs.declared.trait_fields.Costs.{Costs}
+use Rattle.game_model.specs.declared.terrain.Terrain.{Terrain}
+use Rattle.game_model.specs.Grid.{Grid, HasSize}
+use Rattle.grid_routes.specs.Tolls.{Ground, land_over, toll_in}
+use Rattle.grid_routes.specs.declared.ask.Ask.{Ask}
+use Rattle.grid_routes.specs.declared.fields.Kept.{Kept}
+use Rattle.grid_routes.specs.declared.fields.Fields.{Fields}
+use Rattle.grid_routes.specs.declared.search.Search.{Search}
+use Rattle.grid_routes.specs.Steps.{IsGoing, IsSearch}
+
+-- A kept field has the size of the map. If it belongs to a goal and costs, then a search for these
+-- over this ground made it.
+pub record IsKept (w h : ℕ) (terrain : Grid Terrain) (built : Grid Bool) (kept : Kept) : Type 0 where
+  pub size : HasSize w h kept.field.labels
+  pub going :
+      IfSome kept.ask (λ ask. IsGoing (land_over terrain built ask.costs ask.goal) kept.field)
+
+-- Room for a field of this size.
+pub record IsRoom (w h : ℕ) (kept : Kept) : Type 0 where
+  pub size : HasSize w h kept.field.labels
+  pub none : kept.ask ≡ None
+
+-- The search is on its way for this.
+pub record IsFor (search : Search) (ask : Ask) : Type 0 where
+  pub tolls : search.tolls ≡ record search.tolls { costs = ask.costs; goal = ask.goal }
+  pub going :
+      IsSearch (record { toll = toll_in search.tolls; goal = ask.goal }) search.field search.buckets
+
+-- All fields have the size of the map and are over the ground of the search.
+pub record AreFields (w h : ℕ) (fields : Fields) : Type 0 where
+  pub terrain : HasSize w h fields.search.tolls.terrain
+  pub size : HasSize w h fields.search.field.labels
+  pub room : fields.search.buckets.room ≡ w * h
+  pub search : IfSome fields.ask (IsFor fields.search)
+  pub kept : All (IsKept w h fields.search.tolls.terrain fields.search.tolls.built) fields.kept.items
+  pub count : length fields.kept.items ≡ 33
+  pub place : fields.place ≤ 32
+
+-- The ground stays.
+pub record IsSameGround (old new : Fields) : Type 0 where
+  pub terrain : new.search.tolls.terrain ≡ old.search.tolls.terrain
+  pub built : new.search.tolls.built ≡ old.search.tolls.built
+
+-- The first so many fields belong to nothing now, and all stay what they are.
+pub record AreForgotten (old new : List Kept) (count : ℕ) : Type 0 where
+  pub same : length new ≡ length old
+  pub fields :
+      (i : ℕ) (d : Kept) → i < length old →
+      (slice_index_or new i d).field ≡ (slice_index_or old i d).field
+  pub none : (i : ℕ) (d : Kept) → i < count → (slice_index_or new i d).ask ≡ None

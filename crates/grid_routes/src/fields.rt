@@ -1,0 +1,215 @@
+ghost use Rattle.std.specs.Prelude.{◌≡◌, ◌≤◌, ◌<◌, All, Some, IfOk, IsTrue, length, slice_index_or, slice_set, ◌↔◌};
+ghost use Rattle.game_model.specs.Grid.{IsOn, HasSize};
+ghost use Rattle.grid_routes.specs.declared.fields.Kept.{Kept};
+ghost use Rattle.grid_routes.specs.Tolls.{IsCheap};
+ghost use Rattle.grid_routes.specs.Labels.{label_of};
+ghost use Rattle.grid_routes.specs.Kept.{AreFields, AreForgotten, IsFor, IsRoom, IsSameGround};
+
+use crate::ask::Ask;
+use crate::field::Field;
+use crate::index::{FIELDS, Index};
+use crate::search::Search;
+use base::NoMemory;
+use game_model::{Blocks, Map};
+use rule_traits::Costs;
+use std::alloc::Global;
+use std::mem;
+use world_units::CPos;
+
+/// A field of distances, and what it belongs to. One that belongs to nothing is only room.
+#[derive(Drop)]
+pub(crate) struct Kept {
+    pub(crate) ask: Option<Ask>,
+    pub(crate) field: Field,
+}
+
+/// The search that was asked last, and the fields of earlier ones.
+#[derive(Drop)]
+pub(crate) struct Fields {
+    /// The search, over the ground to which all fields belong.
+    pub(crate) search: Search,
+    /// What its field belongs to.
+    pub(crate) ask: Option<Ask>,
+    /// The other fields. Where the search's own has its place there is only room.
+    pub(crate) kept: Vec<Kept>,
+    /// The place of the search's field; the last one is that of a field which isn't kept.
+    pub(crate) place: usize,
+    /// Where each field has its place.
+    pub(crate) index: Index,
+}
+
+impl Fields {
+    /// Room for fields over maps of this size. Out of memory is its only error.
+    pub(crate) fn create(alloc: Global, w: u8, h: u8) -> Result<Fields, NoMemory>
+        ensures { IfOk result (λ fields. AreFields w h fields) }
+    {
+        let search = Search::create(alloc, w, h)?;
+        let kept = room(alloc, w, h)?;
+        Ok(Fields {
+            search,
+            ask: None,
+            kept,
+            place: FIELDS,
+            index: Index::create(alloc)?,
+        })
+    }
+
+    /// Searches until the distance of a cell is final, from where the last search for this goal and
+    /// these costs over the same ground stopped. Returns whether there was none that is kept.
+    pub(crate) fn settle(
+        &mut self,
+        map: &Map,
+        blocks: &Blocks,
+        costs: &Costs,
+        from: CPos,
+        goal: CPos,
+    ) -> bool
+        requires fields { AreFields map.now.width map.now.height self.old }
+        requires terrain { HasSize map.now.width map.now.height map.now.terrain }
+        requires blocks { HasSize map.now.width map.now.height blocks.now }
+        requires costs { IsCheap costs.now }
+        requires goal { IsOn map.now.width map.now.height goal }
+        ensures fields { AreFields map.now.width map.now.height self.new }
+        ensures tolls { self.new.search.tolls ≡ (record { terrain = map.now.terrain; built = blocks.now; costs = costs.now; goal = goal }) }
+        ensures search { IsFor self.new.search (record { goal = goal; costs = costs.now }) }
+        ensures settled { label_of self.new.search.field.labels from ≤ self.new.search.field.level }
+    {
+        let ask = Ask {
+            goal,
+            costs: *costs,
+        };
+        self.turn_over(map, blocks);
+        let begun = self.turn_to(&ask);
+        self.search.settle(from, goal);
+        begun
+    }
+
+    /// Forgets all fields where they are over another ground than this.
+    fn turn_over(&mut self, map: &Map, blocks: &Blocks)
+        requires fields { AreFields map.now.width map.now.height self.old }
+        requires terrain { HasSize map.now.width map.now.height map.now.terrain }
+        requires blocks { HasSize map.now.width map.now.height blocks.now }
+        ensures fields { AreFields map.now.width map.now.height self.new }
+        ensures terrain { self.new.search.tolls.terrain ≡ map.now.terrain }
+        ensures blocks { self.new.search.tolls.built ≡ blocks.now }
+    {
+        if !self.search.tolls.is_over(map, blocks) {
+            self.forget(map, blocks);
+        }
+    }
+
+    /// Forgets all fields, and takes in another ground.
+    fn forget(&mut self, map: &Map, blocks: &Blocks)
+        requires fields { AreFields map.now.width map.now.height self.old }
+        requires terrain { HasSize map.now.width map.now.height map.now.terrain }
+        requires blocks { HasSize map.now.width map.now.height blocks.now }
+        ensures fields { AreFields map.now.width map.now.height self.new }
+        ensures terrain { self.new.search.tolls.terrain ≡ map.now.terrain }
+        ensures blocks { self.new.search.tolls.built ≡ blocks.now }
+    {
+        self.search.tolls.take_ground(map, blocks);
+        self.ask = None;
+        self.index.clear();
+        forget_all(&mut self.kept);
+    }
+
+    /// Turns to a question: goes on with its field, or begins one.
+    fn turn_to(&mut self, ask: &Ask) -> bool
+        requires fields { AreFields self.old.search.tolls.terrain.width self.old.search.tolls.terrain.height self.old }
+        requires costs { IsCheap ask.now.costs }
+        requires goal { IsOn self.old.search.tolls.terrain.width self.old.search.tolls.terrain.height ask.now.goal }
+        ensures fields { AreFields self.old.search.tolls.terrain.width self.old.search.tolls.terrain.height self.new }
+        ensures ground { IsSameGround self.old self.new }
+        ensures asked { self.new.ask ≡ Some ask.now }
+    {
+        if is_asked(&self.ask, ask) {
+            false
+        } else {
+            self.put_back();
+            let place = self.index.place(ask);
+            self.take_up(place, ask)
+        }
+    }
+
+    /// Puts the field of the search back to its place.
+    fn put_back(&mut self)
+        requires fields { AreFields self.old.search.tolls.terrain.width self.old.search.tolls.terrain.height self.old }
+        ensures fields { AreFields self.old.search.tolls.terrain.width self.old.search.tolls.terrain.height self.new }
+        ensures tolls { self.new.search.tolls ≡ self.old.search.tolls }
+    {
+        exchange(&mut self.kept, self.place, &mut self.search.field, self.ask);
+        self.ask = None;
+    }
+
+    /// Goes on with the field at a place if it belongs to this, and begins it anew if not.
+    fn take_up(&mut self, place: usize, ask: &Ask) -> bool
+        requires fields { AreFields self.old.search.tolls.terrain.width self.old.search.tolls.terrain.height self.old }
+        requires place { place ≤ 32 }
+        requires costs { IsCheap ask.now.costs }
+        requires goal { IsOn self.old.search.tolls.terrain.width self.old.search.tolls.terrain.height ask.now.goal }
+        ensures fields { AreFields self.old.search.tolls.terrain.width self.old.search.tolls.terrain.height self.new }
+        ensures ground { IsSameGround self.old self.new }
+        ensures asked { self.new.ask ≡ Some ask.now }
+    {
+        let found = exchange(&mut self.kept, place, &mut self.search.field, None);
+        let known = is_known(place, &found, ask);
+        self.search.set_out(known, &ask.costs, ask.goal);
+        self.place = place;
+        self.ask = Some(*ask);
+        !known
+    }
+}
+
+/// Whether a field belongs to this.
+fn is_asked(last: &Option<Ask>, ask: &Ask) -> bool
+    ensures { IsTrue result ↔ (last.now ≡ Some ask.now) }
+{
+    match last {
+        Some(last) => last.is_same(ask),
+        None => false,
+    }
+}
+
+/// Whether a field at a place is kept and belongs to this.
+fn is_known(place: usize, found: &Option<Ask>, ask: &Ask) -> bool
+    ensures { IsTrue result → found.now ≡ Some ask.now }
+{
+    place < FIELDS && is_asked(found, ask)
+}
+
+/// Exchanges a field with the one at a place. Returns what that one belonged to.
+fn exchange(kept: &mut Vec<Kept>, place: usize, field: &mut Field, ask: Option<Ask>) -> Option<Ask>
+    requires { place < length kept.old.items }
+    ensures kept { kept.new.items ≡ slice_set kept.old.items place (record { ask = ask; field = field.old }) }
+    ensures found { (d : Kept) → result ≡ (slice_index_or kept.old.items place d).ask }
+    ensures field { (d : Kept) → field.new ≡ (slice_index_or kept.old.items place d).field }
+{
+    let found = kept[place].ask;
+    kept[place].ask = ask;
+    mem::swap(field, &mut kept[place].field);
+    found
+}
+
+/// Room for the fields that are kept, and for one that isn't. Out of memory is its only error.
+fn room(alloc: Global, w: u8, h: u8) -> Result<Vec<Kept>, NoMemory>
+    ensures count { IfOk result (λ kept. length kept.items ≡ 33) }
+    ensures empty { IfOk result (λ kept. All (IsRoom w h) kept.items) }
+{
+    let mut kept = Vec::new(alloc);
+    for place in 0..FIELDS + 1 {
+        kept.push(Kept {
+            ask: None,
+            field: Field::create(alloc, w, h)?,
+        })?;
+    }
+    Ok(kept)
+}
+
+/// Lets no field belong to anything.
+fn forget_all(kept: &mut Vec<Kept>)
+    ensures { AreForgotten kept.old.items kept.new.items (length kept.old.items) }
+{
+    for place in 0..kept.len() {
+        kept[place].ask = None;
+    }
+}

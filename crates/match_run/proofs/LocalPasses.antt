@@ -1,0 +1,384 @@
+-- The passes of a local match: the calls of the table keep what is known of them.
+use Rattle.std.proofs.Common.{◌≡◌, ℕ, zero, suc, ◌+◌, ◌-◌, ◌*◌, ◌/◌, ◌^◌, ◌<◌, ◌≤◌, ◌⊎◌, ◌||◌, max, Bool, true, false, true≢false, List, [], ◌∷◌, ◌++◌, length, map, take, get_or, refl, sym, ap, ◌∙◌, subst, inl, inr, ⊎_elim, arith}
+use native.Mathlib.Decide.{ℕ_discrete}
+use mathlib.Core.Logic.{dite}
+use Rattle.game_orders.specs.declared.order.Order.{Order}
+use Rattle.frame_core.specs.Column.{Column}
+use Rattle.frame_core.specs.Grows.{GrowsTo}
+use Rattle.drill_words.specs.Scripts.{plays_of}
+use Rattle.frame_table.specs.declared.seen.Seen.{Seen}
+use Rattle.frame_table.specs.declared.planned.Planned.{Planned}
+use Rattle.frame_table.specs.declared.planned.Planned.TheVariants.{Free, Plays}
+use Rattle.frame_table.specs.declared.view.View.{View}
+use Rattle.frame_table.specs.declared.view.Mark.{Mark}
+use Rattle.frame_table.specs.declared.pass.Pass.{Pass}
+use Rattle.frame_table.specs.declared.table.FrameTable.{FrameTable}
+use Rattle.frame_table.specs.Part.{Part, part_of, part_in, no_mark}
+use Rattle.frame_table.specs.Word.{whole_of}
+use Rattle.frame_table.specs.Rule.{Follows}
+use Rattle.frame_table.specs.Steps.{IsWithinPlan, IsFound, loaded, known_after, published}
+use Rattle.frame_table.specs.Passes.{kept_mark, given_mark, kept_view, given_view, joined_mark, joined_view, further, first_mark, first_view}
+use Rattle.frame_table.specs.PassesLemmas.{handed, joined_at, first_at}
+use Rattle.frame_table.specs.Calls.{plan_of, view_of, standing, IsPassOf, Acted, Unchanged, IsLater, IsLaterPart, MayPut, MayPutPlay, MayLeaveBy, PutsSo, LeavesSo}
+use Rattle.match_run.specs.declared.feeder.Feeder.{Feeder}
+use Rattle.match_run.specs.Local.{script_column, script_plan, IsAll}
+use Rattle.match_run.specs.Passes.{FollowsScript, IsLocalPass, KnowsSeen, KnowsAllSeen, IsFeeder, shares_of}
+use Rattle.std.specs.Prelude.{slice_get, All, Option, Some, None}
+use Rattle.std.specs.Option.{option_to_list}
+use Rattle.std.proofs.lemmas.List.Elements.{All-nil, All-push, All-pop}
+use Rattle.game_orders.specs.declared.entry.Entry.TheVariants.{Play}
+use Rattle.game_orders.specs.declared.limits.TheConstants.{MAX_FRAMES}
+use Rattle.frame_core.specs.Column.{left_column, put_column}
+use Rattle.frame_core.specs.declared.put.Put.{Put}
+use Rattle.frame_core.specs.declared.leaving.Leaving.{Leaving}
+use Rattle.match_run.proofs.Columns.{published_so, published_all, put_script, departed, whole_follows}
+
+abbrev pub Scripts : Type 0
+Scripts = List (List (List Order))
+
+abbrev StandsSo : List (List Order) → Part → Type 0
+StandsSo plays part = FollowsScript plays part × KnowsSeen plays part
+
+-- The first pass.
+plan_at : (scripts : Scripts) (c : ℕ) → c < length scripts → get_or (script_plan scripts) c Free ≡ Plays (plays_of scripts c)
+plan_at [] c below = absurd (omega arith)
+plan_at (s ∷ scripts) zero below = refl
+plan_at (s ∷ scripts) (suc c) below = plan_at scripts c (omega arith)
+
+plan_length : (scripts : Scripts) → length (script_plan scripts) ≡ length scripts
+plan_length [] = refl
+plan_length (s ∷ scripts) = ap suc (plan_length scripts)
+
+first_stands : (plays : List (List Order)) → StandsSo plays (part_in (2 ^ 62) (first_mark (Plays plays)))
+first_stands plays = (record { planned = refl; within = (omega arith, λ left. absurd (true≢false (sym left))) }, refl)
+
+module _ (scripts : Scripts) (table : FrameTable) (pass : Pass) (plan : List Planned) (plan_is : plan ≡ script_plan scripts) (is : IsPassOf table pass) (of_plan : plan_of table ≡ plan) (first : view_of pass ≡ first_view plan) where
+  stands : (c : ℕ) → c < length scripts → StandsSo (plays_of scripts c) (standing pass c)
+  stands c below =
+      let part : standing pass c ≡ part_in (2 ^ 62) (first_mark (Plays (plays_of scripts c))) =
+      ap (part_of c) first
+      ∙ ap (λ (l : List Planned). part_of c (first_view l)) plan_is
+      ∙ ap (part_in (2 ^ 62)) (first_at (script_plan scripts) c (let l = plan_length scripts in omega arith))
+      ∙ ap (λ (q : Planned). part_in (2 ^ 62) (first_mark q)) (plan_at scripts c below) in
+      subst (StandsSo (plays_of scripts c)) (sym part) (first_stands (plays_of scripts c))
+
+  pub first_local : IsLocalPass scripts table pass
+  first_local =
+      record {
+        of_table = is;
+        clients = ap length of_plan ∙ ap length plan_is ∙ plan_length scripts;
+        columns = λ c below. (stands c below).0;
+      }
+
+  pub first_knows : KnowsAllSeen scripts pass
+  first_knows c below = (stands c below).1
+
+  pub first_share : (view_of pass).share ≡ 2 ^ 62
+  first_share = ap (λ (v : View). v.share) first
+
+-- A call of the table that took a column's lock.
+module _ (scripts : Scripts) (table : FrameTable) (p q : Pass) (local : IsLocalPass scripts table p) (is : IsPassOf table q) (c : ℕ) (here : c < length scripts) (K L : Column) (acted : Acted c (view_of p) (view_of q) K L) (follows : Follows (Plays (plays_of scripts c)) L) where
+  now_so : StandsSo (plays_of scripts c) (standing q c)
+  now_so = published_so (plays_of scripts c) (standing p c) (standing q c) K L (local.columns c here).planned follows acted.part
+
+  pub acted_local : IsLocalPass scripts table q
+  acted_local =
+      record {
+        of_table = is;
+        clients = local.clients;
+        columns = λ d below. dite (ℕ_discrete d c)
+            (λ same. subst (λ e. FollowsScript (plays_of scripts e) (standing q e)) (sym same) now_so.0)
+            (λ apart. subst (FollowsScript (plays_of scripts d)) (sym (acted.others.2 d apart)) (local.columns d below));
+      }
+
+  pub acted_knows : KnowsAllSeen scripts p → KnowsAllSeen scripts q
+  acted_knows knows d below = dite (ℕ_discrete d c)
+      (λ same. subst (λ e. KnowsSeen (plays_of scripts e) (standing q e)) (sym same) now_so.1)
+      (λ apart. subst (KnowsSeen (plays_of scripts d)) (sym (acted.others.2 d apart)) (knows d below))
+
+  pub acted_share : (view_of q).share ≡ (view_of p).share
+  acted_share = acted.others.0
+
+-- What was found follows the script.
+pub found_follows : (plays : List (List Order)) (part : Part) (K : Column) → FollowsScript plays part → IsFound part K → Follows (Plays plays) K
+found_follows plays part K so found = subst (λ q. Follows q K) so.planned found.follows
+
+-- A call that changed nothing.
+module _ (scripts : Scripts) (table : FrameTable) (p q : Pass) (local : IsLocalPass scripts table p) (is : IsPassOf table q) (same : Unchanged (view_of p) (view_of q)) where
+  pub unchanged_local : IsLocalPass scripts table q
+  unchanged_local =
+      record {
+        of_table = is;
+        clients = local.clients;
+        columns = λ d below. subst (FollowsScript (plays_of scripts d)) (sym (same.parts d)) (local.columns d below);
+      }
+
+-- A look at the columns' words.
+later_so : (plays : List (List Order)) (old new : Part) → FollowsScript plays old → IsLaterPart old new → FollowsScript plays new × (KnowsSeen plays old → KnowsSeen plays new)
+later_so plays old new so later = ⊎_elim
+    (λ same. subst (λ (q : Part). FollowsScript plays q × (KnowsSeen plays old → KnowsSeen plays q)) (sym same) (so, λ knows. knows))
+    (λ once. (
+      record {
+        planned = ap (λ (q : Part). q.planned) once.0 ∙ so.planned;
+        within = subst (λ q. IsWithinPlan q new.reach) so.planned once.1;
+      },
+      λ knows. ap (λ (q : Part). q.known) once.0 ∙ ap (λ q. known_after q new.reach old.known) so.planned,
+    ))
+    later.exact
+
+module _ (scripts : Scripts) (table : FrameTable) (p q : Pass) (local : IsLocalPass scripts table p) (is : IsPassOf table q) (later : IsLater (view_of p) (view_of q)) where
+  pub later_local : IsLocalPass scripts table q
+  later_local =
+      record {
+        of_table = is;
+        clients = local.clients;
+        columns = λ d below. (later_so (plays_of scripts d) (standing p d) (standing q d) (local.columns d below) (later.parts d)).0;
+      }
+
+  pub later_knows : KnowsAllSeen scripts p → KnowsAllSeen scripts q
+  later_knows knows d below = (later_so (plays_of scripts d) (standing p d) (standing q d) (local.columns d below) (later.parts d)).1 (knows d below)
+
+-- A split.
+same_part : (plays : List (List Order)) (old new : Part) → new.planned ≡ old.planned → new.reach ≡ old.reach → new.known ≡ old.known → FollowsScript plays old → FollowsScript plays new × (KnowsSeen plays old → KnowsSeen plays new)
+same_part plays old new planned reach known so = (
+  record { planned = planned ∙ so.planned; within = subst (IsWithinPlan (Plays plays)) (sym reach) so.within },
+  λ knows. known ∙ knows ∙ ap (λ (s : Seen). record { plays = take s.plays plays; left = s.left }) (sym reach),
+)
+
+kept_so : (plays : List (List Order)) (b : Bool) (share old_share : ℕ) (m : Mark) → FollowsScript plays (part_in old_share m) → FollowsScript plays (part_in share (kept_mark b m)) × (KnowsSeen plays (part_in old_share m) → KnowsSeen plays (part_in share (kept_mark b m)))
+kept_so plays true share old_share m so = same_part plays (part_in old_share m) (part_in share (kept_mark true m)) refl refl refl so
+kept_so plays false share old_share m so = same_part plays (part_in old_share m) (part_in share (kept_mark false m)) refl refl refl so
+
+module _ (scripts : Scripts) (table : FrameTable) (p q : Pass) (local : IsLocalPass scripts table p) (is : IsPassOf table q) where
+  module _ (kept : view_of q ≡ kept_view (view_of p)) where
+    kept_here : (c : ℕ) → c < length scripts → FollowsScript (plays_of scripts c) (standing q c) × (KnowsSeen (plays_of scripts c) (standing p c) → KnowsSeen (plays_of scripts c) (standing q c))
+    kept_here c below =
+        let h = handed (view_of p).marks c in
+        let v = view_of p in
+        let part : standing q c ≡ part_in (v.share - v.share / 2) (kept_mark h.0 (get_or v.marks c no_mark)) = ap (part_of c) kept ∙ ap (part_in (v.share - v.share / 2)) h.1.0 in
+        subst (λ (r : Part). FollowsScript (plays_of scripts c) r × (KnowsSeen (plays_of scripts c) (standing p c) → KnowsSeen (plays_of scripts c) r)) (sym part)
+        (kept_so (plays_of scripts c) h.0 (v.share - v.share / 2) v.share (get_or v.marks c no_mark) (local.columns c below))
+
+    pub kept_local : IsLocalPass scripts table q
+    kept_local = record { of_table = is; clients = local.clients; columns = λ c below. (kept_here c below).0 }
+
+    pub kept_knows : KnowsAllSeen scripts p → KnowsAllSeen scripts q
+    kept_knows knows c below = (kept_here c below).1 (knows c below)
+
+  module _ (given : view_of q ≡ given_view (view_of p)) where
+    pub given_local : IsLocalPass scripts table q
+    given_local = record {
+      of_table = is;
+      clients = local.clients;
+      columns = λ c below.
+          let h = handed (view_of p).marks c in
+          let v = view_of p in
+          let m = get_or v.marks c no_mark in
+          let part : standing q c ≡ part_in (v.share / 2) (given_mark h.0 m) = ap (part_of c) given ∙ ap (part_in (v.share / 2)) h.1.1 in
+          subst (FollowsScript (plays_of scripts c)) (sym part) (same_part (plays_of scripts c) (part_in v.share m) (part_in (v.share / 2) (given_mark h.0 m)) refl refl refl (local.columns c below)).0;
+    }
+
+-- A join.
+max_within : (a b most : ℕ) → a ≤ most → b ≤ most → max a b ≤ most
+max_within a b most x y = grind (arith, x, y)
+
+or_parts : (a b : Bool) → (a || b) ≡ true → (a ≡ true) ⊎ (b ≡ true)
+or_parts true b is = inl refl
+or_parts false b is = inr is
+
+max_left : (a b most : ℕ) → a ≡ most → b ≤ most → max a b ≡ most
+max_left a b most x y = grind (arith, x, y)
+
+max_right : (a b most : ℕ) → a ≤ most → b ≡ most → max a b ≡ most
+max_right a b most x y = grind (arith, x, y)
+
+further_within : (plays : List (List Order)) (a b : Seen) → IsWithinPlan (Plays plays) a → IsWithinPlan (Plays plays) b → IsWithinPlan (Plays plays) (further a b)
+further_within plays a b x y = (
+  max_within a.plays b.plays (length plays) x.0 y.0,
+  λ left. ⊎_elim
+      (λ mine. max_left a.plays b.plays (length plays) (x.1 mine) y.0)
+      (λ theirs. max_right a.plays b.plays (length plays) x.0 (y.1 theirs))
+      (or_parts a.left b.left left),
+)
+
+further_whole : (plays : List (List Order)) (a b : Seen) → a ≡ whole_of (script_column plays) → IsWithinPlan (Plays plays) b → further a b ≡ whole_of (script_column plays)
+further_whole plays a b whole y =
+    ap (λ (s : Seen). further s b) whole ∙ (λ i. record { plays = max_left (length plays) b.plays (length plays) refl y.0 i; left = true })
+
+module _ (scripts : Scripts) (table : FrameTable) (p other q : Pass) (local : IsLocalPass scripts table p) (theirs : IsLocalPass scripts table other) (is : IsPassOf table q) (joined : view_of q ≡ joined_view (view_of p) (view_of other)) where
+  part_joined : (c : ℕ) → c < length scripts → standing q c ≡ part_in ((view_of p).share + (view_of other).share) (joined_mark (get_or (view_of p).marks c no_mark) (get_or (view_of other).marks c no_mark))
+  part_joined c below =
+      ap (part_of c) joined
+      ∙ ap (part_in ((view_of p).share + (view_of other).share)) (joined_at (view_of p).marks (view_of other).marks c
+      (let l = local.of_table.marks in let m = local.clients in omega arith) (let l = theirs.of_table.marks in let m = theirs.clients in omega arith))
+
+  pub joined_local : IsLocalPass scripts table q
+  joined_local = record {
+    of_table = is;
+    clients = local.clients;
+    columns = λ c below.
+        let part = part_joined c below in
+        record {
+          planned = ap (λ (r : Part). r.planned) part ∙ (local.columns c below).planned;
+          within = subst (λ (r : Part). IsWithinPlan (Plays (plays_of scripts c)) r.reach) (sym part)
+              (further_within (plays_of scripts c) (standing p c).reach (standing other c).reach (local.columns c below).within (theirs.columns c below).within);
+        };
+  }
+
+  pub joined_all :
+      ((c : ℕ) → c < length (plan_of table) → GrowsTo (standing p c).known (standing q c).known) →
+      ((c : ℕ) → c < length scripts → IsAll (standing p c) (script_column (plays_of scripts c))) →
+      (c : ℕ) → c < length scripts → IsAll (standing q c) (script_column (plays_of scripts c))
+  joined_all mine all c below =
+      let grows = mine c (let l = local.clients in omega arith) in
+      let whole = all c below in
+      record {
+        reach = ap (λ (r : Part). r.reach) (part_joined c below) ∙ further_whole (plays_of scripts c) (standing p c).reach (standing other c).reach whole.reach (theirs.columns c below).within;
+        known = grows.closed (ap (λ (k : Column). k.left) whole.known) ∙ whole.known;
+      }
+
+  pub joined_share : (view_of q).share ≡ (view_of p).share + (view_of other).share
+  joined_share = ap (λ (v : View). v.share) joined
+
+-- Plays below n were put.
+pub record FedSoFar (scripts : Scripts) (table : FrameTable) (start pass : Pass) (c n : ℕ) : Type 0 where
+  pub local : IsLocalPass scripts table pass
+  pub share : (view_of pass).share ≡ (view_of start).share
+  pub reach : n ≤ (standing pass c).reach.plays
+
+pub may_put : (plays : List (List Order)) (part : Part) (n : ℕ) (orders : List Order) → FollowsScript plays part → slice_get plays n ≡ Some orders → MayPut part n (Play orders)
+may_put plays part n orders so at = subst (λ q. MayPutPlay q part n orders) (sym so.planned) at
+
+pub may_leave : (plays : List (List Order)) (part : Part) → FollowsScript plays part → length plays ≤ part.reach.plays → MayLeaveBy part.planned part.reach
+may_leave plays part so long = subst (λ q. MayLeaveBy q part.reach) (sym so.planned) long
+
+module _ (scripts : Scripts) (table : FrameTable) (start p q : Pass) (c n : ℕ) (here : c < length scripts) (fed : FedSoFar scripts table start p c n) (is : IsPassOf table q) where
+  pub put_more : (orders : List Order) (answer : Put) → slice_get (plays_of scripts c) n ≡ Some orders → length (plays_of scripts c) ≤ MAX_FRAMES → PutsSo c (view_of p) (view_of q) n (Play orders) answer → FedSoFar scripts table start q c (n + 1)
+  put_more orders answer at few (K, acted, answered) =
+      let so = fed.local.columns c here in
+      let seen = acted.found.reach.plays in
+      let reach = fed.reach in
+      let put = put_script (plays_of scripts c) K n orders (found_follows (plays_of scripts c) (standing p c) K so acted.found) (omega arith) at few in
+      record {
+        local = acted_local scripts table p q fed.local is c here K (put_column K n (Play orders)) acted put.0;
+        share = acted.others.0 ∙ fed.share;
+        reach = (let more = put.1 in let now : (standing q c).reach.plays ≡ length (put_column K n (Play orders)).plays = ap (λ (r : Part). r.reach.plays) acted.part in omega arith);
+      }
+
+  pub left_all : (answer : Leaving) → length (plays_of scripts c) ≤ n → LeavesSo c (view_of p) (view_of q) answer →
+      IsLocalPass scripts table q × ((view_of q).share ≡ (view_of start).share) × IsAll (standing q c) (script_column (plays_of scripts c))
+  left_all answer end (K, acted, answered) =
+      let plays = plays_of scripts c in
+      let so = fed.local.columns c here in
+      let seen = acted.found.reach.plays in
+      let reach = fed.reach in
+      let whole : left_column K ≡ script_column plays = departed plays K (found_follows plays (standing p c) K so acted.found) (omega arith) in (
+        acted_local scripts table p q fed.local is c here K (left_column K) acted (subst (Follows (Plays plays)) (sym whole) (whole_follows plays)),
+        acted.others.0 ∙ fed.share,
+        published_all plays (standing p c) (standing q c) K (left_column K) whole acted.part,
+      )
+
+-- The shares of feeders.
+pub shares_same : (xs ys : List Feeder) → length ys ≡ length xs → ((i : ℕ) (d : Feeder) → i < length xs → (view_of (get_or ys i d).pass).share ≡ (view_of (get_or xs i d).pass).share) → shares_of ys ≡ shares_of xs
+shares_same [] [] long same = refl
+shares_same [] (y ∷ ys) long same = absurd (omega arith)
+shares_same (x ∷ xs) [] long same = absurd (omega arith)
+shares_same (x ∷ xs) (y ∷ ys) long same =
+    let here = same 0 x (omega arith) in
+    let rest = shares_same xs ys (omega arith) (λ i d below. same (suc i) d (omega arith)) in
+    omega arith
+
+shares_push : (xs : List Feeder) (x : Feeder) → shares_of (xs ++ x ∷ []) ≡ shares_of xs + (view_of x.pass).share
+shares_push [] x = omega arith
+shares_push (y ∷ xs) x = let rest = shares_push xs x in omega arith
+
+-- So many feeders were split off.
+pub record SplitSoFar (scripts : Scripts) (table : FrameTable) (pass : Pass) (feeders : List Feeder) (client : ℕ) : Type 0 where
+  pub local : IsLocalPass scripts table pass
+  pub knows : KnowsAllSeen scripts pass
+  pub feeders_are : All (λ f. IsFeeder scripts table f) feeders
+  pub shares : (view_of pass).share + shares_of feeders ≡ 2 ^ 62
+  pub enough : 2 ^ (62 - client) ≤ (view_of pass).share
+
+doubled : (k : ℕ) → 2 ^ suc k ≡ 2 * 2 ^ k
+doubled k = omega arith
+
+pub halved : (client share : ℕ) → client < 62 → 2 ^ (62 - client) ≤ share → (2 ≤ share) × (2 ^ (62 - (client + 1)) ≤ share - share / 2)
+halved client share few enough =
+    let k = 61 - client in
+    let here : 62 - client ≡ suc k = omega arith in
+    let next : 62 - (client + 1) ≡ k = omega arith in
+    let d = doubled k in
+    let one : 1 ≤ 2 ^ k = power_pos k in
+    let large : 2 * 2 ^ k ≤ share = subst (λ m. m ≤ share) (ap (λ m. 2 ^ m) here ∙ d) enough in
+    ((omega arith), subst (λ m. m ≤ share - share / 2) (sym (ap (λ m. 2 ^ m) next)) (omega arith))
+  where
+    power_pos : (k : ℕ) → 1 ≤ 2 ^ k
+    power_pos zero = omega arith
+    power_pos (suc k) = let d = doubled k in let rest = power_pos k in omega arith
+
+pub split_none : (scripts : Scripts) (table : FrameTable) (pass : Pass) → IsLocalPass scripts table pass → KnowsAllSeen scripts pass → (view_of pass).share ≡ 2 ^ 62 → SplitSoFar scripts table pass [] 0
+split_none scripts table pass local knows share =
+    record { local = local; knows = knows; feeders_are = All-nil (λ f. IsFeeder scripts table f); shares = (omega arith); enough = omega arith }
+
+pub split_more : (scripts : Scripts) (table : FrameTable) (p q : Pass) (feeders : List Feeder) (after : List Feeder) (client : ℕ) (feeder : Feeder) → client < 16 → client < length scripts →
+    SplitSoFar scripts table p feeders client → IsPassOf table q → view_of q ≡ kept_view (view_of p) → IsPassOf table feeder.pass → view_of feeder.pass ≡ given_view (view_of p) → feeder.client ≡ client → after ≡ feeders ++ feeder ∷ [] →
+    SplitSoFar scripts table q after (client + 1)
+split_more scripts table p q feeders after client feeder few here far is kept given_is given number pushed =
+    let share = (view_of p).share in
+    let half = halved client share (omega arith) far.enough in
+    let mine : (view_of q).share ≡ share - share / 2 = ap (λ (v : View). v.share) kept in
+    let theirs : (view_of feeder.pass).share ≡ share / 2 = ap (λ (v : View). v.share) given in
+    record {
+      local = kept_local scripts table p q far.local is kept;
+      knows = kept_knows scripts table p q far.local is kept far.knows;
+      feeders_are = subst (All (λ f. IsFeeder scripts table f)) (sym pushed)
+          (All-push (λ f. IsFeeder scripts table f) feeders feeder far.feeders_are
+          (record { pass = given_local scripts table p feeder.pass far.local given_is given; client = omega arith }));
+      shares = (let all = far.shares in let more = ap shares_of pushed ∙ shares_push feeders feeder in omega arith);
+      enough = (let e = half.1 in omega arith);
+    }
+
+-- Some feeders were joined, and these are left.
+pub record JoinedSoFar (scripts : Scripts) (table : FrameTable) (pass : Pass) (feeders : List Feeder) (share : ℕ) : Type 0 where
+  pub local : IsLocalPass scripts table pass
+  pub all : (c : ℕ) → c < length scripts → IsAll (standing pass c) (script_column (plays_of scripts c))
+  pub feeders_are : All (λ f. IsFeeder scripts table f) feeders
+  pub shares : (view_of pass).share + shares_of feeders ≡ share
+
+pub last_of : (scripts : Scripts) (table : FrameTable) (all rest : List Feeder) (feeder : Feeder) → All (λ f. IsFeeder scripts table f) all → all ≡ rest ++ feeder ∷ [] → All (λ f. IsFeeder scripts table f) rest × IsFeeder scripts table feeder
+last_of scripts table all rest feeder are is = All-pop (λ f. IsFeeder scripts table f) all rest (Some feeder) is are
+
+pub join_more : (scripts : Scripts) (table : FrameTable) (p q : Pass) (all rest : List Feeder) (feeder : Feeder) (share : ℕ) → JoinedSoFar scripts table p all share → all ≡ rest ++ feeder ∷ [] → IsPassOf table q →
+    view_of q ≡ joined_view (view_of p) (view_of feeder.pass) → ((c : ℕ) → c < length (plan_of table) → GrowsTo (standing p c).known (standing q c).known) → JoinedSoFar scripts table q rest share
+join_more scripts table p q all rest feeder share far is of_table joined mine =
+    let parts = last_of scripts table all rest feeder far.feeders_are is in
+    record {
+      local = joined_local scripts table p feeder.pass q far.local parts.1.pass of_table joined;
+      all = joined_all scripts table p feeder.pass q far.local parts.1.pass of_table joined mine far.all;
+      feeders_are = parts.0;
+      shares = (let s = far.shares in let m = ap shares_of is ∙ shares_push rest feeder in let j : (view_of q).share ≡ (view_of p).share + (view_of feeder.pass).share = ap (λ (v : View). v.share) joined in omega arith);
+    }
+
+-- The plan, client by client.
+plan_next : (scripts : Scripts) (c : ℕ) → c < length scripts → take (suc c) (script_plan scripts) ≡ take c (script_plan scripts) ++ Plays (plays_of scripts c) ∷ []
+plan_next [] c below = absurd (omega arith)
+plan_next (s ∷ scripts) zero below = refl
+plan_next (s ∷ scripts) (suc c) below = ap (λ l. Plays s ∷ l) (plan_next scripts c (omega arith))
+
+plan_end : (scripts : Scripts) (c : ℕ) → c ≡ length scripts → take c (script_plan scripts) ≡ script_plan scripts
+plan_end [] zero is = refl
+plan_end [] (suc c) is = absurd (omega arith)
+plan_end (s ∷ scripts) zero is = absurd (omega arith)
+plan_end (s ∷ scripts) (suc c) is = ap (λ l. Plays s ∷ l) (plan_end scripts c (omega arith))
+
+pub plan_more : (scripts : Scripts) (each after : List Planned) (copy : List (List Order)) (c : ℕ) → c < length scripts → each ≡ take c (script_plan scripts) → copy ≡ plays_of scripts c → after ≡ each ++ Plays copy ∷ [] → after ≡ take (c + 1) (script_plan scripts)
+plan_more scripts each after copy c below is copied pushed =
+    pushed
+    ∙ ap (λ l. l ++ Plays copy ∷ []) is
+    ∙ ap (λ (x : List (List Order)). take c (script_plan scripts) ++ Plays x ∷ []) copied
+    ∙ sym (plan_next scripts c below)
+    ∙ ap (λ k. take k (script_plan scripts)) (let one : suc c ≡ c + 1 = omega arith in one)
+
+pub plan_whole : (scripts : Scripts) (each : List Planned) (c : ℕ) → each ≡ take c (script_plan scripts) → c ≡ length scripts → each ≡ script_plan scripts
+plan_whole scripts each c is end = is ∙ plan_end scripts c end

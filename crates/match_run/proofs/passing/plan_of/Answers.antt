@@ -1,0 +1,10 @@
+use Rattle.std.proofs.Common.{◌∙◌, arith}
+use Rattle.match_run.proofs.LocalPasses.{plan_more, plan_whole}
+use Rattle.match_run.proofs.passing.plan_of.Goals as goal
+
+pub loop-c-preserved : goal.loop-c-preserved
+loop-c-preserved c =
+    let far = c.loop-c.invariant in
+    let end = far.1 in
+    let test = c.loop-c-test.true in
+    (plan_more _ _ _ _ _ (omega arith) far.0 (c.in_ok-copy_of.ensures ∙ c.plays.ensures.value) c.in_ok-push.ensures.ok, end)

@@ -1,0 +1,101 @@
+//! The passes of the feeding threads: how they are made, and joined back.
+ghost use Rattle.std.specs.Prelude.{◌≡◌, ◌<◌, ◌≤◌, ◌+◌, ◌^◌, ℕ, length, All, IfOk};
+ghost use Rattle.drill_words.specs.Scripts.{plays_of};
+ghost use Rattle.frame_table.specs.Calls.{plan_of, view_of, standing};
+ghost use Rattle.match_run.specs.Local.{IsAll, script_column, script_plan};
+ghost use Rattle.match_run.specs.Passes.{IsLocalPass, KnowsAllSeen, IsFeeder, shares_of};
+
+use crate::feeder::Feeder;
+use base::{List, NoMemory};
+use drill_words::Scripts;
+use frame_table::{FrameTable, Pass, Plan, Planned};
+use game_orders::Orders;
+use std::alloc::Global;
+
+/// The table of the scripts' clients, each column planned as its script has it, and its first pass.
+pub(crate) fn planned_table(
+    alloc: Global,
+    scripts: &Scripts,
+) -> Result<(FrameTable, Pass), NoMemory>
+    ensures pass { IfOk result (λ made. IsLocalPass scripts.now made.0 made.1) }
+    ensures knows { IfOk result (λ made. KnowsAllSeen scripts.now made.1) }
+    ensures share { IfOk result (λ made. (view_of made.1).share ≡ 2 ^ 62) }
+{
+    let plan = plan_of(alloc, scripts)?;
+    let (table, pass) = FrameTable::create(alloc, scripts.clients(), plan)?;
+    Ok((table, pass))
+}
+
+/// The plan that has each client play its script.
+fn plan_of(alloc: Global, scripts: &Scripts) -> Result<Plan, NoMemory>
+    ensures { IfOk result (λ plan. plan ≡ script_plan scripts.now) }
+{
+    let mut each = List::new(alloc);
+    for c in 0..scripts.clients() {
+        each.push(Planned::Plays(copy_of(alloc, scripts.plays(c))?))?;
+    }
+    Ok(Plan::new(each))
+}
+
+/// The same plays once more.
+fn copy_of(alloc: Global, plays: &[Orders]) -> Result<List<Orders>, NoMemory>
+    ensures { IfOk result (λ copy. copy ≡ plays.now) }
+{
+    let mut copy = List::new(alloc);
+    for orders in plays {
+        copy.push(orders.copy())?;
+    }
+    Ok(copy)
+}
+
+/// A feeder for each client. Each has a part of the share of the pass, which keeps the rest.
+pub(crate) fn split_feeders(
+    alloc: Global,
+    table: &FrameTable,
+    scripts: &Scripts,
+    pass: &mut Pass,
+) -> Result<Vec<Feeder>, NoMemory>
+    requires pass { IsLocalPass scripts.now table.now pass.old }
+    requires knows { KnowsAllSeen scripts.now pass.old }
+    requires share { (view_of pass.old).share ≡ 2 ^ 62 }
+    ensures pass { IsLocalPass scripts.now table.now pass.new }
+    ensures knows { KnowsAllSeen scripts.now pass.new }
+    ensures feeders { IfOk result (λ feeders.
+        All (λ f. IsFeeder scripts.now table.now f) feeders.items) }
+    ensures shares { IfOk result (λ feeders.
+        (view_of pass.new).share + shares_of feeders.items ≡ 2 ^ 62) }
+{
+    let mut feeders = Vec::new(alloc);
+    for client in 0..scripts.clients() {
+        let pass = table.split(pass);
+        feeders.push(Feeder { client, pass })?;
+    }
+    Ok(feeders)
+}
+
+/// Joins the passes of all feeders into the pass, which has seen and knows each whole column.
+pub(crate) fn join_feeders(
+    table: &FrameTable,
+    scripts: &Scripts,
+    pass: &mut Pass,
+    feeders: Vec<Feeder>,
+)
+    requires pass { IsLocalPass scripts.now table.now pass.old }
+    requires all { (c : ℕ) → c < length scripts.now →
+        IsAll (standing pass.old c) (script_column (plays_of scripts.now c)) }
+    requires feeders { All (λ f. IsFeeder scripts.now table.now f) feeders.items }
+    ensures pass { IsLocalPass scripts.now table.now pass.new }
+    ensures all { (c : ℕ) → c < length scripts.now →
+        IsAll (standing pass.new c) (script_column (plays_of scripts.now c)) }
+    ensures share { (view_of pass.new).share
+        ≡ (view_of pass.old).share + shares_of feeders.items }
+{
+    let mut left = feeders;
+    while let Some(feeder) = left.pop() {
+        let Feeder {
+            client: _,
+            pass: other,
+        } = feeder;
+        table.join(pass, other);
+    }
+}

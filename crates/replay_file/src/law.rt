@@ -1,0 +1,57 @@
+ghost use Rattle.std.specs.Prelude.{◌≡◌, ◌≤◌, ℕ, List, true, map};
+ghost use Rattle.std.specs.List.{AllByRecursion};
+ghost use Rattle.replay_file.specs.declared.replay.Replay.{Replay};
+ghost use Rattle.replay_file.specs.declared.replay_fault.ReplayFault.{ReplayFault};
+ghost use Rattle.replay_file.specs.FirstFault.{IsFirstFault, Spells};
+ghost use Rattle.replay_file.specs.Frames.{frames_of, marks_of, migrated};
+ghost use Rattle.replay_file.specs.MigratedLemmas.{anew};
+ghost use Rattle.replay_file.specs.PartRules.{EachMayFollow, greatest_tag, most_frames, opening};
+ghost use Rattle.replay_file.specs.RuleLaws.{HasKnownOrders, ObeysRules};
+ghost use Rattle.replay_file.specs.ValidReplay.{IsValidReplay};
+
+/// A law of the rules: parts of which each may follow those before it are, as a whole, at most so
+/// many frames, each with one entry for each client and a play, in which who has departed stays
+/// departed, and marks of which none stands directly after another, and all orders are of the
+/// version; and such parts may follow one another. The call does nothing.
+#[tactic(auto, using(crate::specs::RuleLemmas::rule_laws))]
+pub fn the_rules_are_these()
+    ensures whole { (version clients : ℕ) (r : Replay) →
+        EachMayFollow version (opening clients) r.parts →
+        ObeysRules clients (most_frames version) r.parts }
+    ensures orders { (version clients : ℕ) (r : Replay) →
+        EachMayFollow version (opening clients) r.parts →
+        AllByRecursion (HasKnownOrders (greatest_tag version)) r.parts }
+    ensures back { (version clients : ℕ) (r : Replay) →
+        ObeysRules clients (most_frames version) r.parts →
+        AllByRecursion (HasKnownOrders (greatest_tag version)) r.parts →
+        EachMayFollow version (opening clients) r.parts }
+{}
+
+/// A law of replays as bytes: bytes spell at most one replay. The call does nothing.
+#[tactic(auto, using(crate::specs::WholeLemmas::one_replay))]
+pub fn bytes_spell_one_replay()
+    ensures { (here : ℕ) (bytes : List ℕ) (r q : Replay) → Spells here bytes r →
+        Spells here bytes q → r ≡ q }
+{}
+
+/// A law of faults: bytes that spell a replay have none, and others at most one first fault. The
+/// call does nothing.
+#[tactic(auto, using(crate::specs::WholeLemmas::fault_laws))]
+pub fn bytes_have_one_first_fault()
+    ensures none { (here : ℕ) (bytes : List ℕ) (r : Replay) (fault : ReplayFault) →
+        Spells here bytes r → IsFirstFault here bytes fault → ⊥ }
+    ensures one { (here : ℕ) (bytes : List ℕ) (fault other : ReplayFault) →
+        IsFirstFault here bytes fault → IsFirstFault here bytes other → fault ≡ other }
+{}
+
+/// A law of migrated replays: they are valid, with the same frames, and with marks at the same
+/// places that have the new hashes. The call does nothing.
+#[tactic(auto, using(crate::specs::MigratedLemmas::migrated_laws))]
+pub fn a_migrated_replay_is_valid()
+    ensures valid { (hash_after : ℕ → ℕ) (r : Replay) → IsValidReplay r →
+        IsValidReplay (migrated hash_after r) }
+    ensures frames { (hash_after : ℕ → ℕ) (r : Replay) →
+        frames_of (migrated hash_after r).parts ≡ frames_of r.parts }
+    ensures marks { (hash_after : ℕ → ℕ) (r : Replay) →
+        marks_of (migrated hash_after r).parts ≡ map (anew hash_after) (marks_of r.parts) }
+{}

@@ -1,0 +1,18 @@
+use Rattle.std.proofs.Common.{◌≡◌, ◌∙◌, ap, sym, cond, false, Some}
+use Rattle.std.specs.HashMap.{get}
+use Rattle.std.specs.Prelude.{is_some}
+use Rattle.std.specs.Str.{bytes_eq}
+use Rattle.yaml_lines.specs.declared.forest.Forest.TheViews.{out-Node}
+use Rattle.yaml_merge.proofs.DistinctSteps.{named_next}
+use Rattle.yaml_merge.proofs.distinct.names_once.Goals as goal
+
+pub loop-at-preserved : goal.loop-at-preserved
+loop-at-preserved c =
+    let nodes = c.args.nodes.now in
+    let at = c.loop-at.at in
+    let node = c.index-nodes-at.result in
+    let old = get bytes_eq c.loop-at.names in
+    let absent : is_some (old (out-Node node).key) ≡ false = sym c.contains_key.ensures ∙ c.if-contains_key.false in
+    named_next nodes at node old (get bytes_eq c.insert.new.self) c.loop-at-test.true c.index-nodes-at.is absent
+    (λ name. (c.in_ok-insert.ensures {u = tt}).updates.0 name ∙ ap (λ k. cond (bytes_eq k name) (Some at) (old name)) (c.in_ok-copy.ensures {u = tt}))
+    c.loop-at.invariant
