@@ -8,12 +8,14 @@ use Rattle.game_orders.specs.declared.order.Order.{Order}
 use Rattle.game_orders.specs.declared.entry.Entry.{Entry}
 use Rattle.game_orders.specs.declared.entry.Entry.TheVariants.{Play, Leave}
 use Rattle.game_model.specs.declared.world.World.{World}
-use Rattle.game_model.specs.KeepsLemmas.{order_keeps, entry_keeps, entries_count, tick_keeps}
+use Rattle.game_tick.specs.KeepsLemmas.{order_keeps, entry_keeps, entries_count, tick_keeps}
 use Rattle.game_model.specs.Setup.{Setup}
 use Rattle.game_model.specs.World.{clients_of}
-use Rattle.game_model.specs.Order.{after_order, after_orders}
-use Rattle.game_model.specs.Tick.{gone_by, gone_after, after_entry, after_entries, after_turn}
-use Rattle.game_model.specs.Tick.{after_turns, with_orders}
+use Rattle.game_tick.specs.Orders.{after_order, after_orders}
+use Rattle.game_model.specs.Tick.{gone_by, gone_after}
+use Rattle.game_tick.specs.Tick.{after_entry, after_entries}
+use Rattle.game_tick.specs.Turn.{after_turn}
+use Rattle.game_tick.specs.Tick.{after_turns, with_orders}
 use Rattle.tick_core.specs.Departures.{departed_by}
 use Rattle.tick_core.specs.Live.{Standing}
 

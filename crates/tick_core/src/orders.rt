@@ -1,41 +1,54 @@
 ghost use Rattle.std.specs.Prelude.{◌≡◌, ◌<◌, ◌≤◌, ◌+◌, slice_index};
 ghost use Rattle.std.specs.Bool.{OnTrue};
 ghost use Rattle.game_model.specs.World.{clients_of};
-ghost use Rattle.game_model.specs.Order.{can_receive, donation_fits, after_order, after_orders};
 ghost use Rattle.game_orders.specs.declared.order.Order.TheVariants.{Donate, Pace};
+ghost use Rattle.game_tick.specs.Orders.{can_receive, donation_fits, after_order};
 
-use crate::live::LiveWorld;
+use crate::scene::Scene;
 use game_model::{MAX_CASH, MAX_PACE};
-use game_orders::{Order, Orders};
+use game_orders::Order;
+use production::{cancel, produce};
 
-impl LiveWorld {
-    /// Applies the orders of a client, first to last.
-    pub(crate) fn apply_orders(&mut self, client: u8, orders: &Orders)
-        requires { client < clients_of self.old.world }
-        ensures { self.new ≡ (record self.old { world = after_orders self.old.setup self.old.world client orders.now }) }
-    {
-        for i in 0..orders.len() {
-            if let Some(order) = orders.get(i) {
-                self.apply_order(client, order);
-            }
-        }
-    }
-
-    /// Applies one order of a client, which has no effect where it does not fit. Orders on actors
-    /// have none yet.
-    fn apply_order(&mut self, client: u8, order: &Order)
+impl Scene {
+    /// Applies one order of a client, which has no effect where it does not fit.
+    pub(crate) fn apply_order(&mut self, client: u8, order: &Order)
         requires { client < clients_of self.old.world }
         ensures { self.new ≡ (record self.old { world = after_order self.old.setup self.old.world client order.now }) }
     {
         match order {
+            Order::Move {
+                actor,
+                cell,
+                queued,
+            } => self.order_move(client, *actor, *cell, *queued),
+            Order::Attack {
+                actor,
+                target,
+                queued,
+            } => self.order_attack(client, *actor, *target, *queued),
+            Order::Harvest {
+                actor,
+                cell,
+                queued,
+            } => self.order_harvest(client, *actor, *cell, *queued),
+            Order::Stop { actor } => self.order_stop(client, *actor),
+            Order::Produce { actor, kind } => produce(
+                &mut self.table,
+                &mut self.head.cash,
+                &self.rules,
+                client,
+                *actor,
+                *kind,
+            ),
+            Order::Cancel { actor } => cancel(
+                &mut self.table,
+                &mut self.head.cash,
+                &self.rules,
+                client,
+                *actor,
+            ),
             Order::Donate { to, amount } => self.donate(client, *to, *amount),
             Order::Pace { ticks } => self.set_pace(client, *ticks),
-            Order::Move { .. }
-            | Order::Attack { .. }
-            | Order::Harvest { .. }
-            | Order::Stop { .. }
-            | Order::Produce { .. }
-            | Order::Cancel { .. } => {}
         }
     }
 

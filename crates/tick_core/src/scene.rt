@@ -1,7 +1,14 @@
+use crate::blocks::{blocks_of, is_building};
+use crate::burial::is_alive;
+use crate::departures::apply_departures;
+use crate::filling::filled_table;
 use actor_table::ActorTable;
-use game_model::{Blocks, Head, Map, Ore};
+use base::NoMemory;
+use game_model::{Blocks, Head, Map, Ore, World};
+use game_orders::Frame;
 use grid_routes::Router;
 use rule_traits::Rules;
+use std::alloc::Global;
 use std::marker::Model;
 use std::rc::Rc;
 use twister::Twister;
@@ -33,4 +40,81 @@ impl Model for Scene {
 
     ghost invariant = { λ s. IsScene (record { rules = s.rules.value; map = s.map.value })
         (world_with s.head s.table.actors s.ore) s.table s.blocks s.router s.dice };
+}
+
+impl Scene {
+    ghost use Rattle.std.specs.Prelude.{◌≡◌, IfOk, length};
+    ghost use Rattle.game_model.specs.Tick.{with_departures};
+    ghost use Rattle.game_model.specs.World.{clients_of};
+    ghost use Rattle.game_tick.specs.Turn.{buried};
+    ghost use Rattle.game_model.specs.ValidMap.{IsSetup};
+    ghost use Rattle.game_model.specs.ValidWorld.{IsValidWorld};
+
+    /// An opening world, with the memory for all that ticks want. Out of memory is the only error.
+    pub(crate) fn of(
+        alloc: Global,
+        rules: Rc<Rules>,
+        map: Rc<Map>,
+        world: World,
+    ) -> Result<Scene, NoMemory>
+        requires setup { IsSetup (record { rules = rules.value; map = map.value }) }
+        requires valid { IsValidWorld (record { rules = rules.value; map = map.value }) 0 world }
+        ensures { IfOk result (λ scene. scene ≡ (record { setup = record { rules = rules.value; map = map.value }; world = world })) }
+    {
+        let (width, height) = (map.width, map.height);
+        let table = filled_table(alloc, width, height, world.actors.as_slice())?;
+        let blocks = blocks_of(alloc, &rules, &map, world.actors.as_slice())?;
+        let router = Router::create(alloc, width, height)?;
+        let dice = Twister::seeded(world.seed);
+        Ok(Scene {
+            rules,
+            map,
+            head: Head {
+                tick: world.tick,
+                seed: world.seed,
+                drawn: world.drawn,
+                next_id: world.next_id,
+                pace: world.pace,
+                cash: world.cash,
+                gone: world.gone,
+            },
+            table,
+            ore: world.ore,
+            blocks,
+            router,
+            dice,
+        })
+    }
+
+    /// The world as it is now. Out of memory is the only error.
+    pub(crate) fn snapshot(&self, alloc: Global) -> Result<World, NoMemory>
+        ensures { IfOk result (λ world. world ≡ self.now.world) }
+    {
+        let actors = self.table.copy_actors(alloc)?;
+        let ore = self.ore.copy()?;
+        Ok(self.head.world_with(actors, ore))
+    }
+
+    /// Each client whose entry is a Leave becomes gone.
+    pub(crate) fn let_depart(&mut self, f: &Frame)
+        requires { length f.now ≡ clients_of self.old.world }
+        ensures { self.new ≡ (record self.old { world = with_departures self.old.world f.now }) }
+    {
+        apply_departures(&mut self.head.gone, f);
+    }
+
+    /// Removes the actors without health, and the blocks of the buildings among them.
+    pub(crate) fn bury(&mut self)
+        ensures { self.new ≡ (record self.old { world = buried self.old.world }) }
+    {
+        for i in 0..self.table.len() {
+            if let Some(a) = self.table.nth_actor(i)
+                && !is_alive(a)
+                && is_building(&self.rules, a)
+            {
+                self.blocks.set(a.cell, false);
+            }
+        }
+        self.table.bury();
+    }
 }
