@@ -13,3 +13,6 @@ mod shot;
 mod target;
 
 pub use attack::attack_step;
+
+#[cfg(test)]
+mod tests;

@@ -46,7 +46,7 @@ number_back n rest fits =
     let low : n < 2 ^ 32 = ltb-true n (2 ^ 32) fits in
     number_at-decimal 0 (2 ^ 32 - 1) n rest (omega arith) (omega (arith, low)) (omega (arith, low))
 
-client_back :
+pub client_back :
     (clients n : ℕ) (rest : List (List ℕ)) → clients ≤ MAX_CLIENTS → nat_lt n clients ≡ true →
     client_at clients (decimal n ∷ rest) ≡ Ok (n, rest)
 client_back clients n rest few fits =
@@ -215,7 +215,7 @@ order_words-some (Cancel actor) rest = refl
 order_words-some (Donate to amount) rest = refl
 order_words-some (Pace ticks) rest = refl
 
-orders_back :
+pub orders_back :
     (orders : List Order) → length orders ≤ MAX_ORDERS → list_all order_in_range orders ≡ true →
     orders_at (orders_words orders) ≡ Ok (orders, [])
 unfolding orders_at
@@ -354,12 +354,12 @@ more_words :
     ≡ true → list_all is_word (word ∷ words) ≡ true
 more_words word words here all = and_from (is_word word) (list_all is_word words) here all
 
-number_word : (n bound : ℕ) (words : List (List ℕ)) → n < bound → bound ≤ 2 ^ 64 →
+pub number_word : (n bound : ℕ) (words : List (List ℕ)) → n < bound → bound ≤ 2 ^ 64 →
     list_all is_word words ≡ true → list_all is_word (decimal n ∷ words) ≡ true
 number_word n bound words low high all =
     more_words (decimal n) words (decimal_word n (omega (arith, low, high))) all
 
-client_word :
+pub client_word :
     (clients n : ℕ) (words : List (List ℕ)) → clients ≤ MAX_CLIENTS → nat_lt n clients
     ≡ true → list_all is_word words ≡ true →
     list_all is_word (decimal n ∷ words) ≡ true
@@ -425,7 +425,7 @@ following_orders-are (order ∷ orders) fits =
     (list_all is_word (flat_map (λ next. codes ";" ∷ order_words next) orders))
     (order_words-are order parts.0) (following_orders-are orders parts.1)
 
-orders_words-are : (orders : List Order) → list_all order_in_range orders
+pub orders_words-are : (orders : List Order) → list_all order_in_range orders
     ≡ true → list_all is_word (orders_words orders) ≡ true
 orders_words-are [] fits = refl
 orders_words-are (order ∷ orders) fits = following_orders-are (order ∷ orders) fits

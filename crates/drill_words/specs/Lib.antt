@@ -18,3 +18,4 @@ pub mod ReadLemmas
 pub mod SpacedLemmas
 pub mod EventLineLemmas
 pub mod TextLemmas
+pub mod ScriptTextLemmas

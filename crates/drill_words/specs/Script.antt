@@ -1,13 +1,16 @@
 -- The scripts of a file's bytes, or its first fault: the earliest line decides, and in it the first
 -- word from the left.
 use Rattle.std.specs.Prelude.{ℕ, zero, suc, ◌+◌, ◌==◌, Bool, if◌then◌else◌, List, [], ◌∷◌}
-use Rattle.std.specs.Prelude.{Result, Ok, Err}
+use Rattle.std.specs.Prelude.{Result, Ok, Err, nat_lt, nat_le, ◌&&◌, length}
+use Rattle.std.specs.List.{list_all}
 use Rattle.base.specs.Steps.{◌>>=◌}
 use Rattle.game_orders.specs.declared.order.Order.{Order}
+use Rattle.game_orders.specs.declared.limits.TheConstants.{MAX_ORDERS}
 use Rattle.drill_words.specs.declared.limits.TheConstants.{MAX_EVENTS}
 use Rattle.drill_words.specs.declared.drill_fault.DrillFault.{DrillFault}
 use Rattle.drill_words.specs.declared.drill_fault.DrillFault.TheVariants.{BadWord, TooManyEvents}
 use Rattle.drill_words.specs.declared.script_words.ScriptPlay.{ScriptPlay}
+use Rattle.drill_words.specs.Event.{order_in_range}
 use Rattle.drill_words.specs.KeptLine.{KeptLine, kept_lines}
 use Rattle.drill_words.specs.DrillFault.{on_line}
 use Rattle.drill_words.specs.ScriptLine.{script_head_of, script_play_of}
@@ -66,3 +69,11 @@ script_of solo (line ∷ lines) = do
 -- The script of a file's bytes, or its first fault.
 unfoldable pub read_script_of : Bool → List ℕ → Result ScriptPlain DrillFault
 read_script_of solo bytes = script_of solo (kept_lines bytes)
+
+-- A play of a client of the match, with at most as many orders as a client may have, each within
+-- its
+-- range.
+abbrev pub play_fits : ℕ → ScriptPlay → Bool
+play_fits clients play =
+    nat_lt play.client clients
+    && (nat_le (length play.orders) MAX_ORDERS && list_all order_in_range play.orders)

@@ -8,11 +8,15 @@ use Rattle.drill_words.specs.declared.script_words.ScriptPlay.{ScriptPlay}
 use Rattle.drill_words.specs.Read.{after_word, number_at, client_at, at_end}
 use Rattle.drill_words.specs.OrderList.{orders_at}
 
--- `script CLIENTS SEED`. A solo script has one client.
+-- The most clients of a script. A solo script has one.
+abbrev pub most_clients : Bool → ℕ
+most_clients solo = if solo then 1 else MAX_CLIENTS
+
+-- `script CLIENTS SEED`
 unfoldable pub script_head_of : Bool → List (List ℕ) → Result ScriptHead WordFault
 script_head_of solo words = do
   rest ← after_word (codes "script") words
-  clients ← number_at 1 (if solo then 1 else MAX_CLIENTS) rest
+  clients ← number_at 1 (most_clients solo) rest
   seed ← number_at 0 (2 ^ 32 - 1) clients.1
   at_end (record { clients = clients.0; seed = seed.0 }) seed.1
 

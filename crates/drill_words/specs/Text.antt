@@ -1,4 +1,5 @@
--- The canonical text of a drill: one space between words, numbers without leading zeros, no
+-- The canonical text of a drill and of a script: one space between words, numbers without leading
+-- zeros, no
 -- comments, and a line feed after each line.
 use Rattle.std.specs.Prelude.{ℕ, Bool, if◌then◌else◌, List, [], ◌∷◌, ◌++◌, map, codes}
 use Rattle.std.specs.List.{flat_map}
@@ -10,6 +11,7 @@ use Rattle.drill_words.specs.declared.event.Event.{Event}
 use Rattle.drill_words.specs.declared.event.Event.TheVariants.{Seal, Up, Down, Tick, TickServer}
 use Rattle.drill_words.specs.declared.event.Event.TheVariants.{DropClient, Report, Forge, Bye}
 use Rattle.drill_words.specs.Hash.{hash_digits}
+use Rattle.drill_words.specs.declared.script_words.ScriptPlay.{ScriptPlay}
 use Rattle.drill_words.specs.Drill.{DrillPlain}
 
 -- Words with a space between them.
@@ -72,3 +74,16 @@ match_line clients lag seed = spaced (match_words clients lag seed)
 abbrev pub drill_text : DrillPlain → List ℕ
 drill_text drill =
     text_of (match_line drill.clients drill.lag drill.seed ∷ map event_line drill.events)
+
+abbrev pub script_words : (clients seed : ℕ) → List (List ℕ)
+script_words clients seed = codes "script" ∷ decimal clients ∷ decimal seed ∷ []
+
+abbrev pub play_words : ScriptPlay → List (List ℕ)
+play_words play = decimal play.client ∷ orders_words play.orders
+
+abbrev pub play_line : ScriptPlay → List ℕ
+play_line play = spaced (play_words play)
+
+-- The text of a script whose clients have these plays, in the order of its lines.
+abbrev pub script_text : (clients seed : ℕ) → List ScriptPlay → List ℕ
+script_text clients seed plays = text_of (spaced (script_words clients seed) ∷ map play_line plays)

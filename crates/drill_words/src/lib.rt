@@ -8,7 +8,7 @@
 //! (`specs/KeptLine.antt`, `specs/Words.antt`), how words are read (`specs/Read.antt`), the line of
 //! a match and of an event (`specs/MatchLine.antt`, `specs/EventLine.antt`), and the whole file
 //! (`specs/Drill.antt`; of a script `specs/ScriptLine.antt` and `specs/Script.antt`). The canonical text of a drill (`specs/Text.antt`) is read back as exactly
-//! this drill ([`lines_read_back`]).
+//! this drill ([`lines_read_back`]), and that of a script as its plays ([`scripts_read_back`]).
 #![tactic(auto)]
 
 mod drill;
@@ -41,7 +41,7 @@ pub use event::Event;
 pub use event_list::EventList;
 pub use event_view::EventView;
 pub use hash::HASH_DIGITS;
-pub use law::lines_read_back;
+pub use law::{lines_read_back, scripts_read_back};
 pub use limits::{MAX_DRILL_BYTES, MAX_EVENTS};
 pub use reading::read_drill;
 pub use script_reading::read_script;

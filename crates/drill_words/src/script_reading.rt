@@ -18,8 +18,8 @@ use std::alloc::Global;
 /// plays.
 ///
 /// Lines and words are those of a drill ([`crate::read_drill`]). The first kept line is `script
-/// CLIENTS SEED`, and each further one is `C ORDERS`, the next play of client `C`. A solo script has
-/// one client.
+/// CLIENTS SEED`, and each further one is `C ORDERS`, the next play of client `C`. A solo script
+/// has one client.
 ///
 /// An `Err` is the first fault: that of the earliest line, and in it that of the first word from
 /// the left. They come as in a drill; `BadNumber` also at the clients of a solo script that aren't
@@ -27,11 +27,7 @@ use std::alloc::Global;
 /// has more plays than a match has frames. `NoMemory` is out of memory, and may take the place of
 /// any answer.
 #[tactic(auto, unfolding(crate::specs::Script::read_script_of, crate::specs::Script::script_of))]
-pub fn read_script(
-    alloc: Global,
-    bytes: &[u8],
-    solo: bool,
-) -> Result<(u32, Scripts), DrillFault>
+pub fn read_script(alloc: Global, bytes: &[u8], solo: bool) -> Result<(u32, Scripts), DrillFault>
     requires { length bytes.now ≤ MAX_DRILL_BYTES }
     ensures script { ReturnsRead script_plain result (read_script_of solo bytes.now) }
     ensures alone { IfOk result (λ read. solo ≡ true → length read.1 ≤ 1) }
@@ -46,11 +42,7 @@ pub fn read_script(
 }
 
 /// The plays of all lines that are left.
-fn read_plays(
-    alloc: Global,
-    clients: u8,
-    lines: &mut KeptLines<'_>,
-) -> Result<Scripts, DrillFault>
+fn read_plays(alloc: Global, clients: u8, lines: &mut KeptLines<'_>) -> Result<Scripts, DrillFault>
     requires least { 1 ≤ clients }
     requires most { clients ≤ MAX_CLIENTS }
     ensures plays { ReturnsRead (λ scripts. scripts) result (scripts_on clients lines.old) }

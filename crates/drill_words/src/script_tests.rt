@@ -105,12 +105,7 @@ fn plays_are_counted(rt: HostRuntime) -> Result<(), Fail> {
 
 /// A script that is read in one line: its seed, after each stroke the plays of a client, and of
 /// each play the receiver and the amount of its donations.
-fn shown(
-    rt: &impl Abort,
-    alloc: Global,
-    text: &[u8],
-    solo: bool,
-) -> Result<String, AllocError> {
+fn shown(rt: &impl Abort, alloc: Global, text: &[u8], solo: bool) -> Result<String, AllocError> {
     assert!(rt; text.len() <= MAX_DRILL_BYTES as usize);
     let Ok((seed, scripts)) = read_script(alloc, text, solo) else {
         return Ok(String::new(alloc));

@@ -130,7 +130,8 @@ abbrev pub MeansReadySeen : View → ℕ → Ready → Type 0
 MeansReadySeen view n =
     MeansReady (SawPlay view n) (SawLeave view n) (SawNothing view n) (length view.marks)
 
--- A column's word may have been loaded, once: then what it showed is seen, and known as far as it is
+-- A column's word may have been loaded, once: then what it showed is seen, and known as far as it
+-- is
 -- planned, and in a planned column it is of the plan. Nothing else has changed.
 pub record IsLaterPart (old new : Part) : Type 0 where
   pub exact : (new ≡ old) ⊎ ((new ≡ loaded old new.reach) × IsWithinPlan old.planned new.reach)

@@ -1,7 +1,7 @@
 -- Proofs about the step of an Attack.
 use Rattle.std.specs.Prelude.{◌≡◌, ◌≢◌, ℕ, ◌+◌, ◌-◌, ◌==◌, ◌≤◌, ◌⊎◌, ◌&&◌, Bool, true, false, if◌then◌else◌}
-use Rattle.std.specs.Prelude.{List, Option, Some, None, IsSomeAnd, refl}
-use Rattle.std.proofs.Common.{sym, ◌∙◌, ap, subst, inl, inr, arith}
+use Rattle.std.specs.Prelude.{List, Option, Some, None, refl}
+use Rattle.std.proofs.Common.{ap, subst, inl, inr, arith}
 use Rattle.std.proofs.lemmas.Bool.{cases_eq}
 use Rattle.twister.specs.Place.{Place, after_word}
 use Rattle.activities.specs.declared.activity.Activity.TheVariants.{Attack}
@@ -12,13 +12,13 @@ use Rattle.game_model.specs.ActorChanges.{changed_at}
 use Rattle.game_model.specs.Grid.{Grid}
 use Rattle.game_model.specs.Setup.{Setup}
 use Rattle.game_model.specs.ValidMap.{IsMapFor}
-use Rattle.game_model.specs.ValidWorld.{IsActivityOf, IsSoundActor}
+use Rattle.game_model.specs.ValidWorld.{IsActivityOf}
 use Rattle.game_model.specs.World.{is_alive, living_of}
 use Rattle.game_tick.specs.Attacking.{Fought, after_attack, fought_with, hit_by, is_in_range, points_of, reloading}
 use Rattle.game_tick.specs.Acts.{popped}
 use Rattle.game_tick.specs.Moving.{gone_towards}
 use Rattle.game_tick.specs.Kinds.{kind_of}
-use Rattle.game_tick.specs.ChangesLemmas.{All-found, changed, changed_other, id_of_living, living_stands}
+use Rattle.game_tick.specs.ChangesLemmas.{All-found, changed, changed_other, living_stands}
 use Rattle.game_tick.specs.MovingLemmas.{towards_sound}
 use Rattle.game_tick.specs.SoundLemmas.{AreSound, IsHurt, Steps, all_sound, body_of, popped_sound, some_weaker, sound_body}
 

@@ -1,8 +1,8 @@
 -- Proofs about the step of the first build of an actor.
 use Rattle.std.specs.Prelude.{◌≡◌, ◌≢◌, ℕ, ◌+◌, ◌-◌, ◌==◌, ◌<◌, ◌≤◌, ◌&&◌, Bool, true, false, if◌then◌else◌, nat_lt, not}
 use Rattle.std.specs.Prelude.{List, [], ◌∷◌, ◌++◌, length, Option, Some, None, IsSomeAnd, refl}
-use Rattle.std.specs.List.{All, AllPairs, find}
-use Rattle.std.proofs.Common.{sym, ◌∙◌, ap, subst, inl, inr, arith}
+use Rattle.std.specs.List.{All}
+use Rattle.std.proofs.Common.{subst, inl, arith}
 use Rattle.std.proofs.lemmas.Bool.{and_parts, ltb-true, not-true}
 use Rattle.std.proofs.lemmas.List.{length-append}
 use Rattle.std.proofs.lemmas.List.Elements.{All-cons, All-head, All-push, All-tail, All-weaker}
@@ -21,7 +21,7 @@ use Rattle.game_model.specs.Buildings.{if_on, neighbour_of}
 use Rattle.game_model.specs.Grid.{IsOn, at_cell, is_on}
 use Rattle.game_model.specs.Setup.{Setup}
 use Rattle.game_model.specs.StartLemmas.{new_body_of}
-use Rattle.game_model.specs.ValidWorld.{IsBodyOf, IsBuildOf, IsSoundActor, IsUnderWay, StepReady}
+use Rattle.game_model.specs.ValidWorld.{IsBodyOf, IsBuildOf, IsSoundActor, IsUnderWay}
 use Rattle.game_model.specs.Walks.{cost_at}
 use Rattle.game_model.specs.World.{full_health_of, is_alive, is_occupied, living_of, new_actor, new_body}
 use Rattle.game_tick.specs.declared.limits.TheConstants.{LAST_ID}

@@ -1,14 +1,11 @@
 -- Proofs about lists of actors by rising id in which one actor has changed.
-use Rattle.std.specs.Prelude.{◌≡◌, ◌≢◌, ℕ, zero, suc, ◌+◌, ◌==◌, ◌<◌, ◌≤◌, ◌⊎◌, ◌&&◌, Bool, true, false}
-use Rattle.std.specs.Prelude.{if◌then◌else◌, cond, List, [], ◌∷◌, ◌++◌, length, get_or, Option, Some, None, refl}
-use Rattle.std.specs.List.{All, AllPairs, find, list_any}
+use Rattle.std.specs.Prelude.{◌≡◌, ◌≢◌, ℕ, zero, suc, ◌==◌, ◌<◌, ◌⊎◌, ◌&&◌, Bool, true, false}
+use Rattle.std.specs.Prelude.{if◌then◌else◌, cond, List, [], ◌∷◌, length, get_or, Some, refl}
+use Rattle.std.specs.List.{All, AllPairs, find}
 use Rattle.std.proofs.Common.{sym, ◌∙◌, ap, subst, inl, inr, arith}
 use Rattle.std.proofs.lemmas.Bool.{eqb-true, eqb-false, cases_order, and_parts}
-use Rattle.std.proofs.lemmas.List.Elements.{All-push, All-weaker}
-use Rattle.std.proofs.lemmas.List.Quantifiers.{all_pairs_push}
 use Rattle.world_units.specs.declared.cell.CPos.{CPos}
 use Rattle.game_model.specs.declared.actor.Actor.{Actor}
-use Rattle.game_model.specs.declared.limits.TheConstants.{MAX_ACTORS}
 use Rattle.game_model.specs.ActorChanges.{changed_at}
 use Rattle.game_model.specs.Setup.{Setup}
 use Rattle.game_model.specs.ValidWorld.{IsSoundActor, StepReady}

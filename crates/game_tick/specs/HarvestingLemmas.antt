@@ -1,10 +1,9 @@
 -- Proofs about the steps of a Harvest and of a Deliver.
-use Rattle.std.specs.Prelude.{◌≡◌, ◌≢◌, ℕ, zero, suc, ◌+◌, ◌-◌, ◌*◌, ◌/◌, ◌%◌, ◌==◌, ◌<◌, ◌≤◌, ◌&&◌, Bool, true, false, min, max, nat_le, nat_lt, not}
-use Rattle.std.specs.Prelude.{if◌then◌else◌, cond, List, [], ◌∷◌, length, map, Option, Some, None, refl, slice_index, slice_set}
-use Rattle.std.specs.List.{All, filter, reduce, fold, range_with_len}
-use Rattle.std.specs.Option.{unwrap_or}
-use Rattle.std.proofs.Common.{sym, ◌∙◌, ap, subst, inl, inr, arith, length-set, get_or}
-use Rattle.std.proofs.lemmas.Bool.{leb-true, leb-false, eqb-false, and_parts}
+use Rattle.std.specs.Prelude.{◌≡◌, ℕ, zero, suc, ◌+◌, ◌-◌, ◌*◌, ◌==◌, ◌<◌, ◌≤◌, Bool, true, false, min, max, nat_le, nat_lt, not}
+use Rattle.std.specs.Prelude.{if◌then◌else◌, List, [], ◌∷◌, length, map, Option, Some, None, refl, slice_index, slice_set}
+use Rattle.std.specs.List.{All, filter, fold, range_with_len}
+use Rattle.std.proofs.Common.{sym, ◌∙◌, ap, subst, inl, arith, length-set}
+use Rattle.std.proofs.lemmas.Bool.{leb-false, and_parts}
 use Rattle.std.proofs.lemmas.List.Elements.{All-from_get_or, All-filter, All-map, All-head, All-tail}
 use Rattle.std.proofs.lemmas.List.FromFn.{length-range_with_len, get_or-range_with_len}
 use Rattle.std.proofs.lemmas.Nat.{div_below, mod_below}
@@ -23,8 +22,8 @@ use Rattle.game_model.specs.Keeps.{KeepsCash}
 use Rattle.game_model.specs.OreRows.{has_ore}
 use Rattle.game_model.specs.Setup.{Setup}
 use Rattle.game_model.specs.ValidMap.{IsMapFor, IsOreOf}
-use Rattle.game_model.specs.ValidWorld.{IsActivityOf, IsSoundActor, IsWayTo, capacity_in, gathers, load_delay_in, unload_delay_in}
-use Rattle.game_tick.specs.Acts.{popped, with_acts, with_first}
+use Rattle.game_model.specs.ValidWorld.{IsActivityOf, capacity_in, gathers, load_delay_in, unload_delay_in}
+use Rattle.game_tick.specs.Acts.{popped, with_first}
 use Rattle.game_tick.specs.Harvesting.{Harvested, with_actors, with_load, after_loading, after_search, after_harvest}
 use Rattle.game_tick.specs.Harvesting.{paid_to, is_beside, after_unloading, delivered_to, after_deliver, nearest_refinery}
 use Rattle.game_tick.specs.Kinds.{bale_value_in, kind_of}
@@ -246,7 +245,7 @@ search_by setup clients next_id before a cell timer waits (Some p) found size st
 search_by setup clients next_id before a cell timer waits None found size steps fits =
     only_actors setup clients next_id before _ (none_by (nat_lt 0 a.body.load) setup clients next_id before a cell timer waits steps fits)
 
-gathers_moves : (kind : Kind) → gathers kind ≡ true → moves kind ≡ true
+pub gathers_moves : (kind : Kind) → gathers kind ≡ true → moves kind ≡ true
 gathers_moves kind is = (and_parts (moves kind) _ is).0
 
 harvest_by :

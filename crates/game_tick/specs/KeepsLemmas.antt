@@ -1,7 +1,6 @@
 -- Proofs of what steps and ticks keep, whatever world they are of.
-use Rattle.std.specs.Prelude.{◌≡◌, ◌≢◌, ℕ, zero, suc, ◌+◌, ◌-◌, ◌*◌, ◌<◌, ◌≤◌, ◌==◌, ◌&&◌, ◌⊎◌, ◌↔◌, nat_le, nat_lt, not, Bool, true, false}
-use Rattle.std.specs.Prelude.{if◌then◌else◌, List, [], ◌∷◌, length, Option, Some, None, refl, slice_get, slice_index, fold}
-use Rattle.std.specs.List.{filter}
+use Rattle.std.specs.Prelude.{◌≡◌, ℕ, zero, suc, ◌+◌, ◌-◌, ◌≤◌, ◌==◌, ◌&&◌, ◌⊎◌, ◌↔◌, nat_le, not, Bool, true, false}
+use Rattle.std.specs.Prelude.{if◌then◌else◌, List, [], ◌∷◌, length, Option, Some, None, refl, slice_get}
 use Rattle.std.proofs.Common.{sym, ◌∙◌, ap, subst, inl, inr, arith}
 use Rattle.twister.specs.Place.{Place, after_word}
 use Rattle.world_units.specs.declared.cell.CPos.{CPos}
@@ -27,10 +26,10 @@ use Rattle.game_model.specs.OreRows.{has_ore}
 use Rattle.game_model.specs.Setup.{Setup}
 use Rattle.game_model.specs.Tick.{gone_after, with_departures}
 use Rattle.game_model.specs.ValidWorld.{capacity_in, load_delay_in, unload_delay_in}
-use Rattle.game_model.specs.World.{ids_of, is_alive, living_of}
+use Rattle.game_model.specs.World.{ids_of, living_of}
 use Rattle.game_tick.specs.Acts.{popped, with_first}
 use Rattle.game_tick.specs.Attacking.{Fought, after_attack, fought_with, hit_by, is_in_range, points_of, reloading}
-use Rattle.game_tick.specs.Building.{Built, after_build, built_first, came_out, exit_of, finished, has_room, with_builds}
+use Rattle.game_tick.specs.Building.{after_build, built_first, came_out, exit_of, finished, has_room, with_builds}
 use Rattle.game_tick.specs.Harvesting.{Harvested, after_deliver, after_harvest, after_loading, after_search, after_unloading}
 use Rattle.game_tick.specs.Harvesting.{delivered_to, is_beside, nearest_refinery, paid_to, with_actors, with_load}
 use Rattle.game_tick.specs.Kinds.{bale_value_in, kind_of}
@@ -39,8 +38,8 @@ use Rattle.game_tick.specs.Nearest.{nearest_ore, ore_at}
 use Rattle.game_tick.specs.Orders.{after_order, after_orders}
 use Rattle.game_tick.specs.StepKeeps.{HasNoMoreOre, StepKeeps}
 use Rattle.game_tick.specs.Tick.{after_entries, after_entry, after_turns, tick_of, with_orders}
-use Rattle.game_tick.specs.Turn.{after_activity, after_first, after_step, after_steps, after_turn, after_way, blocks_of, buried}
-use Rattle.game_tick.specs.Turn.{dice_of, harvest_of, step_if, with_build, with_built, with_fought, with_harvested, with_reload, with_way}
+use Rattle.game_tick.specs.Turn.{after_activity, after_first, after_step, after_steps, after_turn, after_way, blocks_of}
+use Rattle.game_tick.specs.Turn.{dice_of, harvest_of, step_if, with_build, with_fought, with_harvested, with_reload, with_way}
 use Rattle.game_tick.specs.HarvestingLemmas.{less_ore, paid_keeps, same_cash, same_ore}
 use Rattle.game_tick.specs.OwnLemmas.{order_keeps}
 

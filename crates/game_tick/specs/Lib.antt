@@ -9,6 +9,9 @@ pub mod Orders
 pub mod Turn
 pub mod Tick
 pub mod StepKeeps
+pub mod MidTurn
+pub mod Shots
+pub mod Idle
 pub mod ChangesLemmas
 pub mod SoundLemmas
 pub mod MovingLemmas
@@ -18,7 +21,8 @@ pub mod BuildingLemmas
 pub mod TurnLemmas
 pub mod OrdersLemmas
 pub mod TickLemmas
-pub mod Shots
 pub mod ShotsLemmas
+pub mod IdleLemmas
 pub mod OwnLemmas
 pub mod KeepsLemmas
+pub mod ActorsLemmas

@@ -1,10 +1,9 @@
 -- Proofs about legs and steps towards a cell.
-use Rattle.std.specs.Prelude.{◌≡◌, ◌≢◌, ℕ, zero, suc, ◌+◌, ◌-◌, ◌*◌, ◌%◌, ◌==◌, ◌<◌, ◌≤◌, ◌&&◌, ◌||◌, not, nat_lt, Bool, true, false}
-use Rattle.std.specs.Prelude.{if◌then◌else◌, cond, List, [], ◌∷◌, length, Option, Some, None, IfSome, is_some, refl}
+use Rattle.std.specs.Prelude.{◌≡◌, ◌≢◌, ℕ, zero, suc, ◌+◌, ◌-◌, ◌*◌, ◌%◌, ◌==◌, ◌<◌, ◌&&◌, ◌||◌, not, nat_lt, Bool, true, false}
+use Rattle.std.specs.Prelude.{if◌then◌else◌, List, [], ◌∷◌, Option, Some, None, IfSome, refl}
 use Rattle.std.specs.List.{All, find, list_any}
-use Rattle.std.specs.Option.{option_map}
-use Rattle.std.proofs.Common.{sym, ◌∙◌, ap, subst, inl, inr, arith}
-use Rattle.std.proofs.lemmas.Bool.{eqb-true, ltb-true, and_parts, or_parts, false≢true}
+use Rattle.std.proofs.Common.{sym, ◌∙◌, subst, inl, inr, arith}
+use Rattle.std.proofs.lemmas.Bool.{ltb-true, and_parts, or_parts, false≢true}
 use Rattle.std.proofs.lemmas.List.Elements.{All-nil, All-cons, All-from_recursion}
 use Rattle.world_units.specs.declared.angle.TheConstants.{FULL_TURN}
 use Rattle.world_units.specs.declared.direction.TheConstants.{DIRECTIONS}
@@ -25,11 +24,11 @@ use Rattle.game_model.specs.declared.limits.TheConstants.{MAX_WAITS}
 use Rattle.game_model.specs.declared.map.Map.{Map}
 use Rattle.game_model.specs.declared.terrain.Terrain.{Terrain}
 use Rattle.game_model.specs.ActorChanges.{changed_at, with_body}
-use Rattle.game_model.specs.BestDirection.{best_dir_of, by_direction, by_fare, by_step, directions, distance_of, is_cost, leads_on}
+use Rattle.game_model.specs.BestDirection.{best_dir_of, by_fare, by_step, directions, distance_of, is_cost, leads_on}
 use Rattle.game_model.specs.Grid.{Grid, IsOn, is_on, at_cell}
 use Rattle.game_model.specs.Setup.{Setup}
 use Rattle.game_model.specs.ValidMap.{IsMapFor}
-use Rattle.game_model.specs.ValidWorld.{IsActivityOf, IsBodyOf, IsLegOf, IsSoundActor, IsWayTo}
+use Rattle.game_model.specs.ValidWorld.{IsActivityOf, IsBodyOf, IsLegOf, IsSoundActor}
 use Rattle.game_model.specs.Walks.{Land, cost_at, fare_of, holds, is_free, land_of, toll_of}
 use Rattle.game_model.specs.World.{is_occupied}
 use Rattle.game_tick.specs.declared.moving.Moving.{Moving}
@@ -38,7 +37,7 @@ use Rattle.game_tick.specs.Acts.{popped, with_first}
 use Rattle.game_tick.specs.Kinds.{kind_of, speed_in, turning_in, costs_in}
 use Rattle.game_tick.specs.Moving.{Moved, after_leg, after_move, gone_on, gone_towards, leg_after, leg_step}
 use Rattle.game_tick.specs.Moving.{moved_in, moved_into, moved_towards, set_out, waiting_after, with_leg_step}
-use Rattle.game_tick.specs.ChangesLemmas.{All-found, found_in, IsFreeFor, Stands, changed}
+use Rattle.game_tick.specs.ChangesLemmas.{All-found, found_in, changed}
 use Rattle.game_tick.specs.SoundLemmas.{AreSound, IsHurt, Steps, all_sound, body_of, first_sound, popped_sound, sound_body}
 
 -- Angles stay within a full turn.
@@ -191,7 +190,7 @@ on_from_test width height p is =
     let parts = and_parts (nat_lt p.x width) (nat_lt p.y height) is in
     record { column = ltb-true p.x width parts.0; row = ltb-true p.y height parts.1 }
 
-best_is_way :
+pub best_is_way :
     (setup : Setup) (built : Grid Bool) (kind : Kind) (p goal : CPos) (d : ℕ) →
     IsMapFor setup.rules setup.map →
     best_dir_of setup.map (land_of setup.map built (costs_in kind.mobile) goal) p ≡ Some d →

@@ -1,11 +1,11 @@
 -- Proofs that orders keep a world valid, and of what they change only.
-use Rattle.std.specs.Prelude.{◌≡◌, ◌≢◌, ℕ, zero, suc, ◌+◌, ◌-◌, ◌==◌, ◌<◌, ◌≤◌, ◌&&◌, nat_lt, nat_le, not, max, Bool, true, false}
-use Rattle.std.specs.Prelude.{if◌then◌else◌, cond, List, [], ◌∷◌, ◌++◌, length, take, Option, Some, None, IsSomeAnd, is_some, refl}
-use Rattle.std.specs.Prelude.{slice_get, slice_index, slice_set}
-use Rattle.std.specs.List.{All, AllPairs}
+use Rattle.std.specs.Prelude.{◌≡◌, ℕ, ◌-◌, ◌==◌, ◌<◌, ◌≤◌, ◌&&◌, nat_lt, nat_le, Bool, true, false}
+use Rattle.std.specs.Prelude.{if◌then◌else◌, List, [], ◌∷◌, ◌++◌, length, Option, Some, None, IsSomeAnd, is_some, refl}
+use Rattle.std.specs.Prelude.{slice_index, slice_set}
+use Rattle.std.specs.List.{All}
 use Rattle.std.specs.Option.{unwrap_or}
-use Rattle.std.proofs.Common.{sym, ◌∙◌, ap, subst, inl, inr, arith, length-set}
-use Rattle.std.proofs.lemmas.Bool.{and_parts, eqb-true, leb-true, ltb-true}
+use Rattle.std.proofs.Common.{sym, ◌∙◌, ap, subst, inl, arith, length-set}
+use Rattle.std.proofs.lemmas.Bool.{and_parts, eqb-true, ltb-true}
 use Rattle.std.proofs.lemmas.List.{length-append, length-take}
 use Rattle.std.proofs.lemmas.List.Elements.{All-cons, All-from_get_or, All-nil, All-push, All-take}
 use Rattle.world_units.specs.declared.cell.CPos.{CPos}
@@ -23,21 +23,19 @@ use Rattle.game_model.specs.declared.builds.Build.{Build}
 use Rattle.game_model.specs.declared.limits.TheConstants.{MAX_BUILDS, MAX_CASH}
 use Rattle.game_model.specs.declared.world.World.{World}
 use Rattle.game_model.specs.ActorChanges.{changed_at}
-use Rattle.game_model.specs.Grid.{IsOn, is_on}
-use Rattle.game_model.specs.Keeps.{ChangesOnlyOwn, KeepsCash, OrdersKeep, receiver_of}
-use Rattle.game_model.specs.KeepsLemmas as model
-use Rattle.game_model.specs.OwnLemmas as own
+use Rattle.game_model.specs.Grid.{is_on}
+use Rattle.game_model.specs.Keeps.{KeepsCash}
 use Rattle.game_model.specs.Setup.{Setup}
-use Rattle.game_model.specs.StartLemmas.{all_at}
 use Rattle.game_model.specs.ValidTickLemmas as valid_model
 use Rattle.game_model.specs.ValidWorld.{IsActivityOf, IsBuildOf, IsHealthy, IsSoundActor, IsUnderWay, IsWorldWithin, StepReady, duration_in, gathers, is_unit}
-use Rattle.game_model.specs.World.{clients_of, ids_of, living_of}
-use Rattle.game_tick.specs.Acts.{acts_after, with_acts}
+use Rattle.game_model.specs.World.{clients_of, living_of}
+use Rattle.game_tick.specs.Acts.{acts_after}
 use Rattle.game_tick.specs.Building.{with_builds}
 use Rattle.game_tick.specs.Harvesting.{paid_to}
 use Rattle.game_tick.specs.Kinds.{kind_of}
-use Rattle.game_tick.specs.Orders.{Doing, after_cancel, after_order, after_orders, after_produce, attacking, but_last, cancelled, changed_if}
+use Rattle.game_tick.specs.Orders.{Doing, after_cancel, after_order, after_produce, attacking, but_last, cancelled, changed_if}
 use Rattle.game_tick.specs.Orders.{harvesting, has_needs, if_owned, is_target, last_of, moving, own_of, produce_fits, produced, stopping, told, with_order}
+use Rattle.game_tick.specs.Orders.{goods_of, with_goods}
 use Rattle.game_tick.specs.ChangesLemmas.{Stands, changed, living_stands}
 use Rattle.game_tick.specs.HarvestingLemmas.{lowered, paid_keeps, same_cash}
 use Rattle.game_tick.specs.MovingLemmas.{on_from_test}
@@ -248,7 +246,7 @@ pub record FitsProduce (setup : Setup) (number : ℕ) (a : Actor) : Type 0 where
 
 produce_parts :
     (setup : Setup) (w : World) (client number : ℕ) (a : Actor) →
-    produce_fits setup w client number a ≡ true → FitsProduce setup number a
+    produce_fits setup.rules (goods_of w) client number a ≡ true → FitsProduce setup number a
 produce_parts setup w client number a fits =
     let product : Kind = kind_of setup.rules number in
     let p : Bool = is_some (kind_of setup.rules a.kind).production in
@@ -266,8 +264,8 @@ produce_parts setup w client number a fits =
 
 produced_by :
     (fits : Bool) (setup : Setup) (least most draws : ℕ) (w : World) (client number : ℕ) (a : Actor) →
-    produce_fits setup w client number a ≡ fits → Lives setup w a → IsWorldWithin setup least most draws w →
-    IsWorldWithin setup least most draws (if fits then produced setup w client number a else w)
+    produce_fits setup.rules (goods_of w) client number a ≡ fits → Lives setup w a → IsWorldWithin setup least most draws w →
+    IsWorldWithin setup least most draws (with_goods w (if fits then produced setup.rules (goods_of w) client number a else goods_of w))
 produced_by true setup least most draws w client number a fits lives valid =
     let product : Kind = kind_of setup.rules number in
     let build : Build = record { kind = number; left = duration_in product.buildable } in
@@ -287,13 +285,13 @@ produce_valid :
     IsWorldWithin setup least most draws (after_produce setup w client number found)
 produce_valid setup least most draws w client id number None found valid = valid
 produce_valid setup least most draws w client id number (Some a) found valid =
-    produced_by (produce_fits setup w client number a) setup least most draws w client number a refl
+    produced_by (produce_fits setup.rules (goods_of w) client number a) setup least most draws w client number a refl
     (own_lives setup least most draws w client id a valid found).0 valid
 
 cancelled_valid :
     (setup : Setup) (least most draws : ℕ) (w : World) (client : ℕ) (a : Actor) (last : Option Build) →
     Lives setup w a → IsWorldWithin setup least most draws w →
-    IsWorldWithin setup least most draws (cancelled setup w client a last)
+    IsWorldWithin setup least most draws (with_goods w (cancelled setup.rules (goods_of w) client a last))
 cancelled_valid setup least most draws w client a None lives valid = valid
 cancelled_valid setup least most draws w client a (Some build) lives valid =
     let body = body_of setup (clients_of w) w.next_id a lives.sound in
@@ -307,7 +305,7 @@ cancelled_valid setup least most draws w client a (Some build) lives valid =
 cancel_by :
     (can : Bool) (setup : Setup) (least most draws : ℕ) (w : World) (client : ℕ) (a : Actor) →
     Lives setup w a → IsWorldWithin setup least most draws w →
-    IsWorldWithin setup least most draws (if can then cancelled setup w client a (last_of a.body.builds) else w)
+    IsWorldWithin setup least most draws (with_goods w (if can then cancelled setup.rules (goods_of w) client a (last_of a.body.builds) else goods_of w))
 cancel_by true setup least most draws w client a lives valid =
     cancelled_valid setup least most draws w client a (last_of a.body.builds) lives valid
 cancel_by false setup least most draws w client a lives valid = valid

@@ -1,9 +1,9 @@
 -- Proofs of what orders keep, and of what they change only.
-use Rattle.std.specs.Prelude.{◌≡◌, ◌≢◌, ℕ, zero, suc, ◌+◌, ◌-◌, ◌==◌, ◌<◌, ◌≤◌, min, nat_lt, Bool, true, false}
+use Rattle.std.specs.Prelude.{◌≡◌, ◌≢◌, ℕ, zero, suc, ◌+◌, ◌-◌, ◌==◌, ◌<◌, min, nat_lt, Bool, true, false}
 use Rattle.std.specs.Prelude.{if◌then◌else◌, List, [], ◌∷◌, ◌++◌, length, Option, Some, None, is_some, refl}
 use Rattle.std.specs.Prelude.{slice_get, slice_index, slice_set}
-use Rattle.std.specs.List.{All, AllPairs}
-use Rattle.std.proofs.Common.{sym, ◌∙◌, ap, subst, arith}
+use Rattle.std.specs.List.{AllPairs}
+use Rattle.std.proofs.Common.{sym, ◌∙◌, ap, arith}
 use Rattle.std.proofs.lemmas.Bool.{eqb-true}
 use Rattle.game_orders.specs.declared.order.Order.{Order}
 use Rattle.game_orders.specs.declared.order.Order.TheVariants.{Move, Attack, Harvest, Stop}
@@ -26,6 +26,7 @@ use Rattle.game_tick.specs.Harvesting.{paid_to}
 use Rattle.game_tick.specs.Kinds.{kind_of}
 use Rattle.game_tick.specs.Orders.{Doing, after_cancel, after_order, after_produce, attacking, but_last, cancelled, changed_if}
 use Rattle.game_tick.specs.Orders.{harvesting, last_of, moving, own_of, produce_fits, produced, stopping, with_order}
+use Rattle.game_tick.specs.Orders.{goods_of, with_goods}
 use Rattle.game_tick.specs.ChangesLemmas.{IsOnly, is_only}
 use Rattle.game_tick.specs.HarvestingLemmas.{paid_keeps, same_cash}
 use Rattle.game_tick.specs.OrdersLemmas.{owned_living, price_keeps}
@@ -41,9 +42,9 @@ same_world w = keeps_with w w.actors w.cash (same_cash w.cash)
 
 produced_keeps :
     (fits : Bool) (setup : Setup) (w : World) (client number : ℕ) (a : Actor) →
-    OrdersKeep w (if fits then produced setup w client number a else w)
+    OrdersKeep w (with_goods w (if fits then produced setup.rules (goods_of w) client number a else goods_of w))
 produced_keeps true setup w client number a =
-    keeps_with w (produced setup w client number a).actors (produced setup w client number a).cash
+    keeps_with w (produced setup.rules (goods_of w) client number a).actors (produced setup.rules (goods_of w) client number a).cash
     (price_keeps w.cash client (cost_of (kind_of setup.rules number)))
 produced_keeps false setup w client number a = same_world w
 
@@ -51,10 +52,10 @@ produce_keeps :
     (setup : Setup) (w : World) (client number : ℕ) (found : Option Actor) → OrdersKeep w (after_produce setup w client number found)
 produce_keeps setup w client number None = same_world w
 produce_keeps setup w client number (Some a) =
-    produced_keeps (produce_fits setup w client number a) setup w client number a
+    produced_keeps (produce_fits setup.rules (goods_of w) client number a) setup w client number a
 
 cancelled_keeps :
-    (setup : Setup) (w : World) (client : ℕ) (a : Actor) (last : Option Build) → OrdersKeep w (cancelled setup w client a last)
+    (setup : Setup) (w : World) (client : ℕ) (a : Actor) (last : Option Build) → OrdersKeep w (with_goods w (cancelled setup.rules (goods_of w) client a last))
 cancelled_keeps setup w client a None = same_world w
 cancelled_keeps setup w client a (Some build) =
     keeps_with w (changed_at w.actors a.id (with_builds (but_last a.body.builds))) (paid_to w.cash client (cost_of (kind_of setup.rules build.kind)))
@@ -62,7 +63,7 @@ cancelled_keeps setup w client a (Some build) =
 
 cancel_by :
     (can : Bool) (setup : Setup) (w : World) (client : ℕ) (a : Actor) →
-    OrdersKeep w (if can then cancelled setup w client a (last_of a.body.builds) else w)
+    OrdersKeep w (with_goods w (if can then cancelled setup.rules (goods_of w) client a (last_of a.body.builds) else goods_of w))
 cancel_by true setup w client a = cancelled_keeps setup w client a (last_of a.body.builds)
 cancel_by false setup w client a = same_world w
 
@@ -216,10 +217,9 @@ paid_others false cash owner amount c other = refl
 produced_only :
     (fits : Bool) (setup : Setup) (order : Order) (w : World) (client number : ℕ) (a : Actor) →
     IsOnly w.actors a → a.body.owner ≡ client →
-    ChangesOnlyOwn client order w (if fits then produced setup w client number a else w)
+    ChangesOnlyOwn client order w (with_goods w (if fits then produced setup.rules (goods_of w) client number a else goods_of w))
 produced_only true setup order w client number a only owner =
     let price : ℕ = cost_of (kind_of setup.rules number) in
-    let after : World = produced setup w client number a in
     own_change client order w a (with_builds (a.body.builds ++ record { kind = number; left = duration_in (kind_of setup.rules number).buildable } ∷ [])) (slice_set w.cash client (slice_index w.cash client - price)) only owner (λ b. refl)
     (price_keeps w.cash client price).clients
     (λ c other. others_stay w.cash client (slice_index w.cash client - price) c other)
@@ -232,12 +232,12 @@ produce_only :
 produce_only setup order w client id number None found rise = nothing_changes client order w
 produce_only setup order w client id number (Some a) found rise =
     let (only, owner) = own_only w client id a rise found in
-    produced_only (produce_fits setup w client number a) setup order w client number a only owner
+    produced_only (produce_fits setup.rules (goods_of w) client number a) setup order w client number a only owner
 
 cancelled_only :
     (setup : Setup) (order : Order) (w : World) (client : ℕ) (a : Actor) (last : Option Build) →
     IsOnly w.actors a → a.body.owner ≡ client →
-    ChangesOnlyOwn client order w (cancelled setup w client a last)
+    ChangesOnlyOwn client order w (with_goods w (cancelled setup.rules (goods_of w) client a last))
 cancelled_only setup order w client a None only owner = nothing_changes client order w
 cancelled_only setup order w client a (Some build) only owner =
     let cost : ℕ = cost_of (kind_of setup.rules build.kind) in
@@ -248,7 +248,7 @@ cancelled_only setup order w client a (Some build) only owner =
 cancel_by_only :
     (can : Bool) (setup : Setup) (order : Order) (w : World) (client : ℕ) (a : Actor) →
     IsOnly w.actors a → a.body.owner ≡ client →
-    ChangesOnlyOwn client order w (if can then cancelled setup w client a (last_of a.body.builds) else w)
+    ChangesOnlyOwn client order w (with_goods w (if can then cancelled setup.rules (goods_of w) client a (last_of a.body.builds) else goods_of w))
 cancel_by_only true setup order w client a only owner =
     cancelled_only setup order w client a (last_of a.body.builds) only owner
 cancel_by_only false setup order w client a only owner = nothing_changes client order w

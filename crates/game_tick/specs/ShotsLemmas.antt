@@ -1,159 +1,119 @@
--- Proofs of the laws of single steps.
-use Rattle.std.specs.Prelude.{◌≡◌, ◌≢◌, ℕ, ◌+◌, ◌==◌, ◌<◌, ◌≤◌, ◌&&◌, Bool, true, false}
-use Rattle.std.specs.Prelude.{if◌then◌else◌, cond, List, [], ◌∷◌, Option, Some, None, refl}
-use Rattle.std.specs.List.{AllPairs}
-use Rattle.std.specs.Option.{option_map}
-use Rattle.std.proofs.Common.{eqb, ◌∙◌, ap, subst, inl, inr, arith}
-use Rattle.std.proofs.lemmas.Bool.Decides.{eqb_tells}
-use Rattle.world_units.specs.declared.cell.CPos.{CPos}
-use Rattle.world_units.specs.Angles.{dir_angle_of}
-use Rattle.world_units.specs.Directions.{step_of}
+-- Proofs that a step draws one random word for its shot, and none without a shot.
+use Rattle.std.specs.Prelude.{◌≡◌, ℕ, ◌+◌, ◌==◌, ◌&&◌, if◌then◌else◌, Bool, true, false, List, [], ◌∷◌, Option, Some, None, refl}
+use Rattle.std.proofs.Common.{◌∙◌, ap, arith}
 use Rattle.twister.specs.Place.{Place, after_word}
 use Rattle.activities.specs.declared.activity.Activity.{Activity}
 use Rattle.activities.specs.declared.activity.Activity.TheVariants.{Move, Attack, Harvest, Deliver}
 use Rattle.rule_traits.specs.declared.kind.Kind.{Kind}
 use Rattle.rule_traits.specs.Rules.{moves}
 use Rattle.game_model.specs.declared.actor.Actor.{Actor}
-use Rattle.game_model.specs.declared.actor.Body.{Body}
 use Rattle.game_model.specs.declared.actor.Leg.{Leg}
 use Rattle.game_model.specs.declared.world.World.{World}
-use Rattle.game_model.specs.ActorChanges.{changed_at, with_body}
-use Rattle.game_model.specs.BestDirection.{best_dir_of}
+use Rattle.game_model.specs.ActorChanges.{changed_at}
 use Rattle.game_model.specs.Grid.{Grid}
 use Rattle.game_model.specs.Setup.{Setup}
-use Rattle.game_model.specs.Walks.{land_of}
-use Rattle.game_model.specs.World.{is_alive, is_occupied, living_of}
-use Rattle.game_tick.specs.Attacking.{Fought, after_attack, fought_with, is_in_range}
-use Rattle.game_tick.specs.Building.{after_build}
-use Rattle.game_tick.specs.ChangesLemmas.{IsOnly, apart_after, is_only}
-use Rattle.game_tick.specs.declared.moving.Moving.TheVariants.{Going}
-use Rattle.game_tick.specs.Kinds.{kind_of, costs_in}
-use Rattle.game_tick.specs.Moving.{Moved, moved_in, moved_into, moved_towards, set_out, waiting_after}
-use Rattle.game_tick.specs.MovingLemmas.{free_cell}
-use Rattle.game_tick.specs.Shots.{IsIdle, can_fire, fires, fires_at, fires_first, fires_on}
+use Rattle.game_model.specs.World.{living_of}
+use Rattle.game_tick.specs.Acts.{popped}
+use Rattle.game_tick.specs.Attacking.{Fought, after_attack, fought_with, hit_by, is_in_range, points_of, reloading}
+use Rattle.game_tick.specs.Kinds.{kind_of}
+use Rattle.game_tick.specs.Moving.{gone_towards}
+use Rattle.game_tick.specs.Shots.{fires_at, fires_by, fires_first, fires_if, fires_in, fires_off, shots_of}
 use Rattle.game_tick.specs.Turn.{after_activity, after_first, after_step, after_way, blocks_of, dice_of}
-use Rattle.game_tick.specs.Turn.{reloaded, step_if, with_build, with_reload, with_way}
+use Rattle.game_tick.specs.Turn.{step_if, with_build, with_reload, with_way}
 
--- No two actors hold one cell.
-abbrev pub IsApart : List Actor → Type 0
-IsApart actors = AllPairs (λ (x y : Actor). x.cell ≢ y.cell) actors
+-- The words drawn after an attack.
+abbrev drawn_after : Fought → ℕ
+drawn_after fought = fought.dice.drawn
 
-abbrev pub LeavesApart : Moved → Type 0
-LeavesApart moved = IsApart moved.actors
+range_shots :
+    (near loaded able : Bool) (setup : Setup) (built : Grid Bool) (dice : Place) (actors : List Actor) (a target : Actor) (kind : Kind) (waits : ℕ) →
+    drawn_after (
+    if near
+    then (
+    if loaded
+    then record {
+      actors =
+          changed_at (changed_at actors target.id (hit_by (points_of kind dice))) a.id (reloading kind);
+      dice = after_word dice;
+    }
+    else record { actors = actors; dice = dice }
+    )
+    else (
+    if able
+    then record {
+      actors = gone_towards setup built actors a target.cell waits (Attack target.id);
+      dice = dice;
+    }
+    else record { actors = changed_at actors a.id popped; dice = dice }
+    )) ≡ dice.drawn + (if near && loaded then 1 else 0)
+range_shots true true able setup built dice actors a target kind waits = omega arith
+range_shots true false able setup built dice actors a target kind waits = omega arith
+range_shots false loaded true setup built dice actors a target kind waits = omega arith
+range_shots false loaded false setup built dice actors a target kind waits = omega arith
 
-module _ (kind : Kind) (actors : List Actor) (a : Actor) (only : IsOnly actors a)
-    (rise : AllPairs (λ (x y : Actor). x.id < y.id) actors) (apart : IsApart actors) where
-  into_by : (occupied : Bool) (waits d : ℕ) (next : CPos) → is_occupied actors next ≡ occupied → LeavesApart (if occupied then record { actors = actors; answer = waiting_after waits } else record { actors = changed_at actors a.id (set_out kind d next); answer = Going 0 })
-  into_by true waits d next is = apart
-  into_by false waits d next is =
-      apart_after actors a (set_out kind d next) only (inr (free_cell actors next is)) rise apart
+fought_shots :
+    (setup : Setup) (built : Grid Bool) (dice : Place) (actors : List Actor) (a : Actor) (waits : ℕ) (found : Option Actor) →
+    drawn_after (fought_with setup built dice actors a (kind_of setup.rules a.kind) waits found)
+    ≡ dice.drawn + (if fires_at setup.rules a found then 1 else 0)
+fought_shots setup built dice actors a waits None = omega arith
+fought_shots setup built dice actors a waits (Some target) =
+    let kind : Kind = kind_of setup.rules a.kind in
+    range_shots (is_in_range kind a target) (a.body.reload == 0) (moves kind) setup built dice actors a target kind waits
 
-  into_apart : (waits d : ℕ) (next : Option CPos) → LeavesApart (moved_into kind actors a.id waits d next)
-  into_apart waits d None = apart
-  into_apart waits d (Some next) = into_by (is_occupied actors next) waits d next refl
-
-  body_apart : (body : Body) → IsApart (with_body actors a.id body)
-  body_apart body = apart_after actors a (λ (x : Actor). record x { body = body }) only (inl refl) rise apart
-
-  facing_by : (faces : Bool) (waits d : ℕ) (body : Body) → LeavesApart (if faces then moved_into kind actors a.id waits d (step_of a.cell d) else record { actors = with_body actors a.id body; answer = Going waits })
-  facing_by true waits d body = into_apart waits d (step_of a.cell d)
-  facing_by false waits d body = body_apart body
-
-  best_apart : (waits : ℕ) (best : Option ℕ) → LeavesApart (moved_in kind actors a waits best)
-  best_apart waits None = apart
-  best_apart waits (Some d) = facing_by (a.body.facing == dir_angle_of d) waits d _
-
-pub moves_apart : (setup : Setup) (built : Grid Bool) (actors : List Actor) (id : ℕ) (a : Actor) (goal : CPos) (waits : ℕ) → living_of actors id ≡ Some a → AllPairs (λ (x y : Actor). x.id < y.id) actors → IsApart actors → IsApart (moved_towards setup built actors a goal waits).actors
-unfolding moved_towards
-moves_apart setup built actors id a goal waits found rise apart =
-    best_apart (kind_of setup.rules a.kind) actors a (is_only actors id a rise found) rise apart waits
-    (best_dir_of setup.map (land_of setup.map built (costs_in (kind_of setup.rules a.kind).mobile) goal) a.cell)
-
--- The dice after the step of an attack: one word more where the actor fires.
-dice_by : (near loaded able : Bool) (x y u v : Fought) (before after : Place) → x.dice ≡ after → y.dice ≡ before → u.dice ≡ before → v.dice ≡ before → (cond near (cond loaded x y) (cond able u v)).dice ≡ cond (near && loaded) after before
-dice_by true true able x y u v before after fired waited went stayed = fired
-dice_by true false able x y u v before after fired waited went stayed = waited
-dice_by false loaded true x y u v before after fired waited went stayed = went
-dice_by false loaded false x y u v before after fired waited went stayed = stayed
-
-fought_dice : (setup : Setup) (built : Grid Bool) (dice : Place) (actors : List Actor) (a : Actor) (kind : Kind) (waits : ℕ) (target : Option Actor) → (fought_with setup built dice actors a kind waits target).dice ≡ (if can_fire kind a target then after_word dice else dice)
-fought_dice setup built dice actors a kind waits None = refl
-fought_dice setup built dice actors a kind waits (Some target) =
-    dice_by (is_in_range kind a target) (a.body.reload == 0) (moves kind) _ _ _ _ dice (after_word dice) refl refl refl refl
-
-pub attack_dice : (setup : Setup) (built : Grid Bool) (dice : Place) (actors : List Actor) (a : Actor) (target waits : ℕ) → (after_attack setup built dice actors a target waits).dice ≡ (if fires setup actors a target then after_word dice else dice)
+attack_shots :
+    (setup : Setup) (built : Grid Bool) (dice : Place) (actors : List Actor) (a : Actor) (target waits : ℕ) →
+    drawn_after (after_attack setup built dice actors a target waits)
+    ≡ dice.drawn + (if fires_at setup.rules a (living_of actors target) then 1 else 0)
 unfolding after_attack
-attack_dice setup built dice actors a target waits =
-    fought_dice setup built dice actors a (kind_of setup.rules a.kind) waits (living_of actors target)
+attack_shots setup built dice actors a target waits =
+    fought_shots setup built dice actors a waits (living_of actors target)
 
-drawn_by : (fired : Bool) (dice : Place) → (if fired then after_word dice else dice).drawn ≡ dice.drawn + (if fired then 1 else 0)
-drawn_by true dice = refl
-drawn_by false dice = omega arith
+activity_shots :
+    (setup : Setup) (w : World) (a : Actor) (activity : Activity) →
+    (after_activity setup w a activity).drawn
+    ≡ w.drawn + (if fires_by setup.rules w.actors a activity then 1 else 0)
+activity_shots setup w a (Move goal waits) = omega arith
+activity_shots setup w a (Attack target waits) =
+    attack_shots setup (blocks_of setup w.actors) (dice_of w) w.actors a target waits
+activity_shots setup w a (Harvest cell timer waits) = omega arith
+activity_shots setup w a (Deliver home timer waits) = omega arith
 
--- The draws of what an actor does on its leg or at its first activity.
-activity_drawn : (setup : Setup) (w : World) (a : Actor) (activity : Activity) → (after_activity setup w a activity).drawn ≡ w.drawn + (if fires_at setup w.actors a activity then 1 else 0)
-activity_drawn setup w a (Move goal waits) = omega arith
-activity_drawn setup w a (Attack target waits) =
-    ap (λ (dice : Place). dice.drawn) (attack_dice setup (blocks_of setup w.actors) (dice_of w) w.actors a target waits)
-    ∙ drawn_by (fires setup w.actors a target) (dice_of w)
-activity_drawn setup w a (Harvest cell timer waits) = omega arith
-activity_drawn setup w a (Deliver home timer waits) = omega arith
+first_shots :
+    (setup : Setup) (w : World) (a : Actor) (acts : List Activity) →
+    (after_first setup w a acts).drawn
+    ≡ w.drawn + (if fires_first setup.rules w.actors a acts then 1 else 0)
+first_shots setup w a [] = omega arith
+first_shots setup w a (activity ∷ later) = activity_shots setup w a activity
 
-first_drawn : (setup : Setup) (w : World) (a : Actor) (acts : List Activity) → (after_first setup w a acts).drawn ≡ w.drawn + (if fires_first setup w.actors a acts then 1 else 0)
-first_drawn setup w a [] = omega arith
-first_drawn setup w a (activity ∷ later) = activity_drawn setup w a activity
+leg_shots :
+    (setup : Setup) (w : World) (a : Actor) (leg : Option Leg) →
+    (after_way setup w a leg).drawn ≡ w.drawn + (if fires_off setup.rules w.actors a leg then 1 else 0)
+leg_shots setup w a (Some leg) = omega arith
+leg_shots setup w a None = first_shots setup w a a.body.acts
 
-pub way_drawn : (setup : Setup) (w : World) (a : Actor) (leg : Option Leg) → (after_way setup w a leg).drawn ≡ w.drawn + (if fires_on setup w.actors a leg then 1 else 0)
-way_drawn setup w a None = first_drawn setup w a a.body.acts
-way_drawn setup w a (Some leg) = omega arith
+way_shots :
+    (setup : Setup) (w : World) (found : Option Actor) →
+    (with_way setup w found).drawn ≡ w.drawn + (if fires_in setup.rules w.actors found then 1 else 0)
+way_shots setup w None = omega arith
+way_shots setup w (Some a) = leg_shots setup w a a.body.leg
 
--- At most one word a step.
-pub record DrawsAtMostOne (before after : ℕ) : Type 0 where
-  pub least : before ≤ after
-  pub most : after ≤ before + 1
+build_draws : (setup : Setup) (w : World) (found : Option Actor) → (with_build setup w found).drawn ≡ w.drawn
+build_draws setup w None = refl
+build_draws setup w (Some a) = refl
 
-at_most_one : (fired : Bool) (before after : ℕ) → after ≡ before + (if fired then 1 else 0) → DrawsAtMostOne before after
-at_most_one true before after is = record { least = omega arith; most = omega arith }
-at_most_one false before after is = record { least = omega arith; most = omega arith }
+step_if_shots :
+    (setup : Setup) (w : World) (id : ℕ) (found : Option Actor) →
+    (step_if setup w id found).drawn ≡ w.drawn + (if fires_if setup w id found then 1 else 0)
+step_if_shots setup w id None = omega arith
+step_if_shots setup w id (Some a) =
+    let reloaded : World = with_reload w id in
+    let built : World = with_build setup reloaded (living_of reloaded.actors id) in
+    way_shots setup built (living_of built.actors id)
+    ∙ ap (λ n. n + (if fires_in setup.rules built.actors (living_of built.actors id) then 1 else 0))
+    (build_draws setup reloaded (living_of reloaded.actors id))
 
-way_draws : (setup : Setup) (w : World) (a : Option Actor) → DrawsAtMostOne w.drawn (with_way setup w a).drawn
-way_draws setup w None = record { least = omega arith; most = omega arith }
-way_draws setup w (Some a) =
-    at_most_one (fires_on setup w.actors a a.body.leg) w.drawn (after_way setup w a a.body.leg).drawn (way_drawn setup w a a.body.leg)
-
-build_drawn : (setup : Setup) (w : World) (a : Option Actor) → (with_build setup w a).drawn ≡ w.drawn
-build_drawn setup w None = refl
-build_drawn setup w (Some a) = refl
-
-step_by : (setup : Setup) (w : World) (id : ℕ) (a : Option Actor) → DrawsAtMostOne w.drawn (step_if setup w id a).drawn
-step_by setup w id None = record { least = omega arith; most = omega arith }
-step_by setup w id (Some a) =
-    let before = with_reload w id in
-    let built = with_build setup before (living_of before.actors id) in
-    subst (λ n. DrawsAtMostOne n (with_way setup built (living_of built.actors id)).drawn) (build_drawn setup before (living_of before.actors id))
-    (way_draws setup built (living_of built.actors id))
-
-pub step_draws : (setup : Setup) (w : World) (id : ℕ) → DrawsAtMostOne w.drawn (after_step setup w id).drawn
+-- A step draws as often as it fires.
+pub step_shots :
+    (setup : Setup) (w : World) (id : ℕ) → (after_step setup w id).drawn ≡ w.drawn + shots_of setup w id
 unfolding after_step
-step_draws setup w id = step_by setup w id (living_of w.actors id)
-
--- The living actor of an id after a change that leaves ids and life as they are.
-living_by : (lives : Bool) (f : Actor → Actor) (b : Actor) (after before : Option Actor) → after ≡ option_map f before → cond lives (Some (f b)) after ≡ option_map f (cond lives (Some b) before)
-living_by true f b after before rest = refl
-living_by false f b after before rest = rest
-
-pub living_changed : (actors : List Actor) (id : ℕ) (f : Actor → Actor) → ((x : Actor) → (f x).id ≡ x.id) → ((x : Actor) → is_alive (f x) ≡ is_alive x) → living_of (changed_at actors id f) id ≡ option_map f (living_of actors id)
-living_changed [] id f same lives = refl
-living_changed (b ∷ actors) id f same lives = elim (eqb_tells b.id id) [
-  | inl hit ↦ rw hit.0 (ap (λ t. cond t (Some (f b)) (living_of (changed_at actors id f) id)) (test hit.0) ∙ living_by (is_alive b) f b (living_of (changed_at actors id f) id) (living_of actors id) (living_changed actors id f same lives))
-  | inr miss ↦ rw miss.0 (rw miss.0 (living_changed actors id f same lives))
-]
-  where
-    test : eqb b.id id ≡ true → (eqb (f b).id id && is_alive (f b)) ≡ is_alive b
-    test hit = rw (same b, hit, lives b) refl
-
-pub idle_stays : (setup : Setup) (w : World) (id : ℕ) (a : Actor) → living_of w.actors id ≡ Some a → IsIdle a → after_step setup w id ≡ with_reload w id
-unfolding after_step after_build
-idle_stays setup w id a found idle =
-    let next : living_of (changed_at w.actors id reloaded) id ≡ Some (reloaded a) = living_changed w.actors id reloaded (λ x. refl) (λ x. refl) ∙ ap (option_map reloaded) found in
-    rw found (rw next (rw idle.builds (rw next (rw idle.leg (rw idle.acts refl)))))
+step_shots setup w id = step_if_shots setup w id (living_of w.actors id)

@@ -1,31 +1,30 @@
 -- Proofs about sound actors whose body has changed.
-use Rattle.std.specs.Prelude.{◌≡◌, ◌≢◌, ℕ, suc, ◌+◌, ◌-◌, ◌<◌, ◌≤◌, List, [], ◌∷◌, ◌++◌, drop, length}
+use Rattle.std.specs.Prelude.{◌≡◌, ℕ, ◌<◌, ◌≤◌, List, ◌∷◌, drop, length}
 use Rattle.std.specs.Prelude.{Option, Some, None, IsSomeAnd, refl}
-use Rattle.std.specs.List.{All, AllPairs}
+use Rattle.std.specs.List.{All}
 use Rattle.std.specs.Option.{unwrap_or}
-use Rattle.std.proofs.Common.{sym, ◌∙◌, ap, subst, inl, inr, arith}
-use Rattle.std.proofs.lemmas.List.Elements.{All-cons, All-drop, All-push, All-weaker}
+use Rattle.std.proofs.Common.{sym, subst, inl, arith}
+use Rattle.std.proofs.lemmas.List.Elements.{All-cons, All-drop}
 use Rattle.std.proofs.lemmas.List.{length-drop}
-use Rattle.std.proofs.lemmas.List.Quantifiers.{all_pairs_push}
 use Rattle.world_units.specs.declared.angle.TheConstants.{FULL_TURN}
 use Rattle.activities.specs.declared.activity.Activity.{Activity}
 use Rattle.activities.specs.declared.queue.TheConstants.{MAX_ACTIVITIES}
-use Rattle.rule_traits.specs.declared.kind.Kind.{Kind}
-use Rattle.rule_traits.specs.Rules.{kind_at, hp_of}
+use Rattle.rule_traits.specs.Rules.{kind_at}
 use Rattle.game_model.specs.declared.actor.Actor.{Actor}
 use Rattle.game_model.specs.declared.actor.Body.{Body}
 use Rattle.game_model.specs.declared.builds.Build.{Build}
-use Rattle.game_model.specs.declared.limits.TheConstants.{MAX_ACTORS, MAX_BUILDS}
+use Rattle.game_model.specs.declared.limits.TheConstants.{MAX_BUILDS}
 use Rattle.game_model.specs.ActorChanges.{changed_at}
 use Rattle.game_model.specs.Setup.{Setup}
 use Rattle.game_model.specs.ValidMap.{IsOwner}
-use Rattle.game_model.specs.ValidWorld.{IsActivityOf, IsBodyOf, IsBuildOf, IsSoundActor, StepReady}
+use Rattle.game_model.specs.ValidWorld.{IsActivityOf, IsBodyOf, IsBuildOf, IsSoundActor}
 use Rattle.game_tick.specs.Acts.{popped, with_acts, with_first}
 use Rattle.game_tick.specs.Building.{with_builds}
 use Rattle.game_tick.specs.Kinds.{kind_of}
+pub use Rattle.game_tick.specs.MidTurn.{AreSound, IsHurt}
 use Rattle.game_tick.specs.ChangesLemmas.{Stands, changed}
 
-some_holds :
+pub some_holds :
     {X : Type 0} (found : Option X) (d : X) (P : X → Type 0) → IsSomeAnd found P →
     P (unwrap_or found d)
 some_holds None d P never = absurd never
@@ -42,10 +41,6 @@ pub some_weaker :
     IsSomeAnd found Q
 some_weaker None P Q more never = absurd never
 some_weaker (Some x) P Q more holds = more x holds
-
--- The health is at most the kind's hit points. In mid-turn it may be 0.
-abbrev pub IsHurt : List Kind → Actor → Type 0
-IsHurt rules a = IsSomeAnd (kind_at rules a.kind) (λ kind. a.body.health ≤ hp_of kind)
 
 -- What is known of an actor's body.
 pub body_of :
@@ -130,12 +125,7 @@ sound_first setup clients next_id a act sound fits =
     (omega (arith, is.act_count, length-drop 1 a.body.acts))
     (All-cons P act (drop 1 a.body.acts) fits (All-drop P 1 a.body.acts is.acts))
 
--- Actors in mid-turn.
-pub record AreSound (setup : Setup) (clients next_id : ℕ) (actors : List Actor) : Type 0 where
-  pub ready : StepReady setup clients next_id actors
-  pub hurt : All (IsHurt setup.rules) actors
-
--- The same with one of them.
+-- Actors in mid-turn, and one of them.
 abbrev pub Steps : Setup → (clients next_id : ℕ) → List Actor → Actor → Type 0
 Steps setup clients next_id actors a = Stands setup clients next_id (IsHurt setup.rules) actors a
 

@@ -1,5 +1,5 @@
 -- What a step of an actor keeps of a world, and how far it changes the rest.
-use Rattle.std.specs.Prelude.{◌≡◌, ◌≢◌, ℕ, ◌+◌, ◌<◌, ◌≤◌, Bool, true, false, List, length, get_or, slice_index}
+use Rattle.std.specs.Prelude.{◌≡◌, ◌≢◌, ℕ, ◌+◌, ◌<◌, ◌≤◌, true, false, List, length, get_or, slice_index}
 use Rattle.rule_traits.specs.declared.kind.Kind.{Kind}
 use Rattle.rule_traits.specs.Rules.{moves}
 use Rattle.game_model.specs.declared.actor.Actor.{Actor}

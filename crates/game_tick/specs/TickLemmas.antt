@@ -1,5 +1,5 @@
 -- Proofs that a tick keeps a world valid.
-use Rattle.std.specs.Prelude.{◌≡◌, ℕ, ◌+◌, ◌*◌, ◌≤◌, List, [], ◌∷◌}
+use Rattle.std.specs.Prelude.{ℕ, ◌+◌, ◌*◌, List, [], ◌∷◌}
 use Rattle.std.proofs.Common.{arith}
 use Rattle.game_orders.specs.declared.order.Order.{Order}
 use Rattle.game_orders.specs.declared.entry.Entry.{Entry}
@@ -8,7 +8,7 @@ use Rattle.game_model.specs.declared.limits.TheConstants.{MAX_ACTORS, MAX_DRAWS,
 use Rattle.game_model.specs.declared.world.World.{World}
 use Rattle.game_model.specs.Setup.{Setup}
 use Rattle.game_model.specs.Tick.{with_departures}
-use Rattle.game_model.specs.ValidMap.{IsMapFor, IsSetup}
+use Rattle.game_model.specs.ValidMap.{IsMapFor}
 use Rattle.game_model.specs.ValidTickLemmas.{departures_valid, wider}
 use Rattle.game_model.specs.ValidWorld.{IsValidWorld, IsWorldWithin}
 use Rattle.game_tick.specs.Orders.{after_order, after_orders}

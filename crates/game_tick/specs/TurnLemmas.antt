@@ -1,11 +1,10 @@
 -- Proofs that steps of actors and turns keep a world valid.
-use Rattle.std.specs.Prelude.{◌≡◌, ◌≢◌, ℕ, zero, suc, ◌+◌, ◌-◌, ◌*◌, ◌<◌, ◌≤◌, ◌==◌, ◌&&◌, nat_lt, Bool, true, false, cond, max}
-use Rattle.std.specs.Prelude.{List, [], ◌∷◌, length, Option, Some, None, IsSomeAnd, refl, slice_index, fold, get_or}
-use Rattle.std.specs.List.{All, AllPairs, filter}
-use Rattle.std.proofs.Common.{sym, ◌∙◌, ap, subst, inl, inr, arith}
+use Rattle.std.specs.Prelude.{◌≡◌, ℕ, zero, suc, ◌+◌, ◌*◌, ◌≤◌, true}
+use Rattle.std.specs.Prelude.{List, [], ◌∷◌, length, Option, Some, None, refl, get_or}
+use Rattle.std.specs.List.{All, filter}
+use Rattle.std.proofs.Common.{sym, ◌∙◌, ap, subst, inl, arith}
 use Rattle.std.proofs.lemmas.Bool.{ltb-true}
-use Rattle.std.proofs.lemmas.List.Elements.{All-cons, All-filter, All-from_get_or, All-head, All-nil, filter_passes}
-use Rattle.std.proofs.lemmas.List.Kept.{AllPairs-filter}
+use Rattle.std.proofs.lemmas.List.Elements.{All-filter, All-from_get_or, All-head, filter_passes}
 use Rattle.activities.specs.declared.activity.Activity.{Activity}
 use Rattle.activities.specs.declared.activity.Activity.TheVariants.{Move, Attack, Harvest, Deliver}
 use Rattle.rule_traits.specs.declared.kind.Kind.{Kind}
@@ -15,17 +14,16 @@ use Rattle.game_model.specs.declared.actor.Leg.{Leg}
 use Rattle.game_model.specs.declared.limits.TheConstants.{MAX_ACTORS, MAX_CASH}
 use Rattle.game_model.specs.declared.world.World.{World}
 use Rattle.game_model.specs.ActorChanges.{changed_at}
-use Rattle.game_model.specs.Grid.{Grid, HasSize}
-use Rattle.game_model.specs.Keeps.{KeepsCash}
 use Rattle.game_model.specs.Setup.{Setup}
-use Rattle.game_model.specs.ValidMap.{IsMapFor, IsOreOf}
+use Rattle.game_model.specs.ValidMap.{IsMapFor}
 use Rattle.game_model.specs.ValidTickLemmas.{filter_ready, wider}
-use Rattle.game_model.specs.ValidWorld.{IsActivityOf, IsHealthOf, IsHealthy, IsPace, IsWorldWithin, StepReady}
-use Rattle.game_model.specs.World.{AreClients, HasClients, clients_of, ids_of, is_alive, living_of}
+use Rattle.game_model.specs.ValidWorld.{IsActivityOf, IsHealthOf, IsHealthy, IsWorldWithin}
+use Rattle.game_model.specs.World.{clients_of, ids_of, is_alive, living_of}
 use Rattle.game_tick.specs.Attacking.{after_attack}
 use Rattle.game_tick.specs.Building.{after_build}
 use Rattle.game_tick.specs.Harvesting.{Harvested, after_deliver, after_harvest}
 use Rattle.game_tick.specs.Kinds.{kind_of}
+use Rattle.game_tick.specs.MidTurn.{IsMidTurn}
 use Rattle.game_tick.specs.Moving.{after_move}
 use Rattle.game_tick.specs.Tick.{after_turns}
 use Rattle.game_tick.specs.Turn.{after_activity, after_first, after_step, after_steps, after_turn, after_way, blocks_of, buried}
@@ -36,17 +34,6 @@ use Rattle.game_tick.specs.BuildingLemmas.{build_sound}
 use Rattle.game_tick.specs.HarvestingLemmas.{IsHarvested, deliver_is, harvest_is, ore_kept}
 use Rattle.game_tick.specs.MovingLemmas.{leg_sound, move_sound}
 use Rattle.game_tick.specs.SoundLemmas.{AreSound, IsHurt, Steps, all_sound, body_of, some_weaker, sound_body}
-
--- A world in mid-turn: all that a valid world says, but that actors may have no health left.
-pub record IsMidTurn (setup : Setup) (least most draws : ℕ) (w : World) : Type 0 where
-  pub ore : IsOreOf setup.map.width setup.map.height w.ore
-  pub least_tick : least ≤ w.tick
-  pub most_tick : w.tick ≤ most
-  pub drawn : w.drawn ≤ draws
-  pub pace : IsPace w.pace
-  pub clients : HasClients w
-  pub cash : All (λ cash. cash ≤ MAX_CASH) w.cash
-  pub actors : AreSound setup (clients_of w) w.next_id w.actors
 
 -- More draws.
 pub more_draws :
@@ -99,14 +86,14 @@ mid_of setup least most draws next_id w actors mid sound =
     }
 
 -- The living actor of an id in a world in mid-turn.
-living_steps :
+pub living_steps :
     (setup : Setup) (least most draws : ℕ) (w : World) (id : ℕ) (a : Actor) →
     IsMidTurn setup least most draws w → living_of w.actors id ≡ Some a →
     Steps setup (clients_of w) w.next_id w.actors a
 living_steps setup least most draws w id a mid found =
     living_stands setup (clients_of w) w.next_id (IsHurt setup.rules) w.actors id a mid.actors.ready mid.actors.hurt found
 
-reload_mid :
+pub reload_mid :
     (setup : Setup) (least most draws : ℕ) (w : World) (id : ℕ) (a : Actor) →
     IsMidTurn setup least most draws w → living_of w.actors id ≡ Some a →
     IsMidTurn setup least most draws (with_reload w id)
@@ -130,7 +117,7 @@ reload_mid setup least most draws w id a mid found =
     mid_of setup least most draws w.next_id w (changed_at w.actors id reloaded) mid
     (subst (λ i. AreSound setup (clients_of w) w.next_id (changed_at w.actors i reloaded)) (id_of_living w.actors id a found) sound)
 
-build_mid :
+pub build_mid :
     (setup : Setup) (least most draws : ℕ) (w : World) (id : ℕ) (found : Option Actor) →
     living_of w.actors id ≡ found → IsMidTurn setup least most draws w →
     IsMidTurn setup least most draws (with_build setup w found)

@@ -5,12 +5,14 @@ ghost use Rattle.game_model.specs.declared.world.World.{World};
 ghost use Rattle.game_model.specs.Keeps.{ChangesOnlyOwn, OrdersKeep, TickKeeps};
 ghost use Rattle.game_model.specs.Setup.{Setup};
 ghost use Rattle.game_model.specs.ValidMap.{IsSetup};
-ghost use Rattle.game_model.specs.ValidWorld.{IsValidWorld};
+ghost use Rattle.game_model.specs.ValidWorld.{IsValidWorld, IsWorldWithin};
 ghost use Rattle.game_model.specs.World.{living_of};
+ghost use Rattle.game_tick.specs.MidTurn.{IsMidTurn};
 ghost use Rattle.game_tick.specs.Orders.{after_order};
-ghost use Rattle.game_tick.specs.StepKeeps.{HasNoMoreOre, StepKeeps};
+ghost use Rattle.game_tick.specs.Shots.{shots_of};
+ghost use Rattle.game_tick.specs.StepKeeps.{ActorsKeep, HasNoMoreOre, StepKeeps};
 ghost use Rattle.game_tick.specs.Tick.{tick_of};
-ghost use Rattle.game_tick.specs.Turn.{after_step, after_turn};
+ghost use Rattle.game_tick.specs.Turn.{after_step, after_steps, after_turn, blocks_of};
 
 /// A law of orders: they keep the seed, the clients and who has departed, and none lifts a client
 /// above [`game_model::MAX_CASH`].
@@ -33,6 +35,34 @@ pub fn orders_valid()
 /// client above [`game_model::MAX_CASH`].
 pub fn steps_keep()
     ensures { (setup : Setup) (w : World) (id : ℕ) → StepKeeps 1 w (after_step setup w id) }
+{}
+
+/// A law of steps: each actor stays at its place in the list with its id, its kind and its owner, and
+/// no health rises. Of another actor than the one that makes the step nothing changes but its health,
+/// so its activities change only by orders and by its own steps. At most one actor comes last, with
+/// the next id, and it moves.
+pub fn steps_keep_actors()
+    ensures { (setup : Setup) (least most draws : ℕ) (w : World) (id : ℕ) → IsSetup setup → IsMidTurn setup least most draws w → ActorsKeep setup.rules id w.next_id w.actors (after_step setup w id).actors }
+{}
+
+/// A law of steps: each keeps what a world in mid-turn is, and draws at most once.
+pub fn steps_keep_mid_turn()
+    ensures { (setup : Setup) (least most draws : ℕ) (w : World) (id : ℕ) → IsSetup setup → IsMidTurn setup least most draws w → IsMidTurn setup least most (draws + 1) (after_step setup w id) }
+{}
+
+/// A law of steps: no cell gets or loses a building by those of a turn.
+pub fn steps_keep_blocks()
+    ensures { (setup : Setup) (least most draws : ℕ) (w : World) (ids : List ℕ) → IsSetup setup → IsMidTurn setup least most draws w → blocks_of setup (after_steps setup w ids).actors ≡ blocks_of setup w.actors }
+{}
+
+/// A law of turns: a valid world is one in mid-turn before its first step.
+pub fn valid_worlds_are_in_mid_turn()
+    ensures { (setup : Setup) (least most draws : ℕ) (w : World) → IsWorldWithin setup least most draws w → IsMidTurn setup least most draws w }
+{}
+
+/// A law of steps: each draws one random word for its shot, and none without a shot.
+pub fn draws_are_shots()
+    ensures { (setup : Setup) (w : World) (id : ℕ) → (after_step setup w id).drawn ≡ w.drawn + shots_of setup w id }
 {}
 
 /// A law of steps: an id of which no actor lives makes none.

@@ -1,4 +1,5 @@
-ghost use Rattle.std.specs.Prelude.{◌≡◌, ◌≢◌, ◌<◌, ◌≤◌, ℕ, ◌+◌, Bool, if◌then◌else◌, List, Some};
+ghost use Rattle.std.specs.Prelude.{◌≡◌, ◌≢◌, ◌<◌, ℕ, Bool};
+ghost use Rattle.std.specs.Prelude.{List, Some};
 ghost use Rattle.std.specs.List.{AllPairs};
 ghost use Rattle.world_units.specs.declared.cell.CPos.{CPos};
 ghost use Rattle.game_model.specs.declared.actor.Actor.{Actor};
@@ -7,11 +8,11 @@ ghost use Rattle.game_model.specs.Grid.{Grid};
 ghost use Rattle.game_model.specs.Setup.{Setup};
 ghost use Rattle.game_model.specs.World.{living_of};
 ghost use Rattle.game_tick.specs.Moving.{moved_towards};
-ghost use Rattle.game_tick.specs.Shots.{IsIdle, fires_on};
-ghost use Rattle.game_tick.specs.Turn.{after_step, after_way, with_reload};
+ghost use Rattle.game_tick.specs.Idle.{IsIdle};
+ghost use Rattle.game_tick.specs.Turn.{after_step, with_reload};
 
-/// A law of moves: where ids rise and no two actors hold one cell, no two hold one after a step of a
-/// living actor towards a cell.
+/// A law of moves: where ids rise and no two actors hold one cell, no two hold one after a step of
+/// a living actor towards a cell.
 pub fn moves_keep_apart()
     ensures { (setup : Setup) (built : Grid Bool) (actors : List Actor) (id : ℕ) (a : Actor) (goal :
         CPos) (waits : ℕ) → living_of actors id ≡ Some a → AllPairs (λ (x y : Actor). x.id < y.id)
@@ -19,19 +20,9 @@ pub fn moves_keep_apart()
         x.cell ≢ y.cell) (moved_towards setup built actors a goal waits).actors }
 {}
 
-/// A law of idle actors: the step of an actor without activities, leg and builds is that it reloads,
-/// and nothing else.
+/// A law of idle actors: the step of an actor without activities, leg and builds is that it
+/// reloads, and nothing else.
 pub fn idle_actors_stay()
     ensures { (setup : Setup) (w : World) (id : ℕ) (a : Actor) → living_of w.actors id ≡ Some a →
         IsIdle a → after_step setup w id ≡ with_reload w id }
-{}
-
-/// A law of random words: what an actor does on its leg or at its first activity draws one word
-/// exactly where it fires, and a step draws at most one.
-pub fn draws_are_shots()
-    ensures shots { (setup : Setup) (w : World) (a : Actor) → (after_way setup w a
-        a.body.leg).drawn ≡ w.drawn + (if fires_on setup w.actors a a.body.leg then 1 else 0) }
-    ensures least { (setup : Setup) (w : World) (id : ℕ) → w.drawn ≤ (after_step setup w id).drawn }
-    ensures most { (setup : Setup) (w : World) (id : ℕ) → (after_step setup w id).drawn ≤ w.drawn +
-        1 }
 {}

@@ -1,5 +1,6 @@
 -- What is kept from one question to the next: fields of distances over one ground.
-use Rattle.std.specs.Prelude.{◌≡◌, ℕ, ◌*◌, ◌<◌, ◌≤◌, All, IfSome, Bool, List, length, slice_index_or, None}
+use Rattle.std.specs.Prelude.{◌≡◌, ℕ, ◌*◌, ◌<◌, ◌≤◌, All, IfSome, Bool, List, length}
+use Rattle.std.specs.Prelude.{slice_index_or, None}
 use Rattle.world_units.specs.declared.cell.CPos.{CPos}
 use Rattle.rule_traits.specs.declared.trait_fields.Costs.{Costs}
 use Rattle.game_model.specs.declared.terrain.Terrain.{Terrain}
@@ -13,10 +14,11 @@ use Rattle.grid_routes.specs.Steps.{IsGoing, IsSearch}
 
 -- A kept field has the size of the map. If it belongs to a goal and costs, then a search for these
 -- over this ground made it.
-pub record IsKept (w h : ℕ) (terrain : Grid Terrain) (built : Grid Bool) (kept : Kept) : Type 0 where
-  pub size : HasSize w h kept.field.labels
-  pub going :
-      IfSome kept.ask (λ ask. IsGoing (land_over terrain built ask.costs ask.goal) kept.field)
+pub record IsKept (w h : ℕ) (terrain : Grid Terrain) (built : Grid Bool) (kept : Kept) : Type 0
+  where
+    pub size : HasSize w h kept.field.labels
+    pub going :
+        IfSome kept.ask (λ ask. IsGoing (land_over terrain built ask.costs ask.goal) kept.field)
 
 -- Room for a field of this size.
 pub record IsRoom (w h : ℕ) (kept : Kept) : Type 0 where
@@ -35,7 +37,8 @@ pub record AreFields (w h : ℕ) (fields : Fields) : Type 0 where
   pub size : HasSize w h fields.search.field.labels
   pub room : fields.search.buckets.room ≡ w * h
   pub search : IfSome fields.ask (IsFor fields.search)
-  pub kept : All (IsKept w h fields.search.tolls.terrain fields.search.tolls.built) fields.kept.items
+  pub kept : All (IsKept w h fields.search.tolls.terrain fields.search.tolls.built)
+      fields.kept.items
   pub count : length fields.kept.items ≡ 33
   pub place : fields.place ≤ 32
 

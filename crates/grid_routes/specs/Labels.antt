@@ -25,7 +25,8 @@ label_of labels p = value_in NONE labels p
 -- The field of a search that begins: the goal alone has a label.
 abbrev pub begun : Distances → CPos → Distances
 begun field goal =
-    let none : Grid ℕ = record field.labels { cells = replicate (length field.labels.cells) NONE } in
+    let none : Grid ℕ = record field.labels { cells = replicate (length field.labels.cells) NONE }
+    in
     record { labels = with_cell none goal 0; level = 0 }
 
 -- How many cells have a label from the level on, or none.
@@ -42,11 +43,13 @@ pub record IsRight (land : Land) (field : Distances) : Type 0 where
       (cells : List CPos) × IsWalk land p cells (label_of field.labels p)
   -- Each step into a cell below the level was offered.
   pub closed :
-      (p q : CPos) (d k : ℕ) → IsOn field.labels.width field.labels.height p → IsStep land.toll p d q k →
+      (p q : CPos) (d k : ℕ) → IsOn field.labels.width field.labels.height p →
+      IsStep land.toll p d q k →
       label_of field.labels q < field.level →
       label_of field.labels p ≤ label_of field.labels q + k
   -- Labels are at most a step above the level, and far below `NONE`.
-  pub near : (p : CPos) → label_of field.labels p < NONE → label_of field.labels p < field.level + 71
+  pub near : (p : CPos) → label_of field.labels p < NONE →
+      label_of field.labels p < field.level + 71
   pub small :
       (p : CPos) → label_of field.labels p < NONE →
       label_of field.labels p < 71 * length field.labels.cells + 71

@@ -1,5 +1,6 @@
 -- What the steps of a search change.
-use Rattle.std.specs.Prelude.{◌≡◌, ◌≢◌, ℕ, ◌+◌, ◌*◌, ◌%◌, ◌<◌, ◌≤◌, ◌⊎◌, true, false, length, nat_lt, suc, Option, Some, None}
+use Rattle.std.specs.Prelude.{◌≡◌, ◌≢◌, ℕ, ◌+◌, ◌*◌, ◌%◌, ◌<◌, ◌≤◌, ◌⊎◌, true, false, length}
+use Rattle.std.specs.Prelude.{nat_lt, suc, Option, Some, None}
 use Rattle.std.specs.Prelude.{if◌then◌else◌}
 use Rattle.world_units.specs.declared.cell.CPos.{CPos}
 use Rattle.game_model.specs.Grid.{Grid, IsOn, HasSize}
@@ -11,7 +12,8 @@ use Rattle.grid_routes.specs.Tolls.{Ground}
 use Rattle.grid_routes.specs.Held.{Shelves, IsAt, IsHeld, len_of}
 
 -- A cell got a lower label by a step into a cell of this level, and went into its bucket.
-pub record IsMade (toll : CPos → ℕ) (level : ℕ) (old new : Grid ℕ) (after : Shelves) (p : CPos) : Type 0 where
+pub record IsMade (toll : CPos → ℕ) (level : ℕ) (old new : Grid ℕ) (after : Shelves)
+    (p : CPos) : Type 0 where
   pub entered : CPos
   pub direction : ℕ
   pub cost : ℕ
@@ -25,7 +27,8 @@ pub record IsMade (toll : CPos → ℕ) (level : ℕ) (old new : Grid ℕ) (afte
 
 -- From one state of labels and buckets to another, labels only fell, by steps into cells of this
 -- level, whose own bucket stays as it is.
-pub record Lowers (toll : CPos → ℕ) (level : ℕ) (old : Grid ℕ) (before : Shelves) (new : Grid ℕ) (after : Shelves) : Type 0 where
+pub record Lowers (toll : CPos → ℕ) (level : ℕ) (old : Grid ℕ) (before : Shelves) (new : Grid ℕ)
+    (after : Shelves) : Type 0 where
   pub size : HasSize old.width old.height new
   pub cells : length new.cells ≡ length old.cells
   pub each : (p : CPos) → (label_of new p ≡ label_of old p) ⊎ IsMade toll level old new after p
@@ -38,7 +41,8 @@ pub record Lowers (toll : CPos → ℕ) (level : ℕ) (old : Grid ℕ) (before :
 -- Each cell from which a step enters q has at most the label by that step.
 abbrev pub IsExpanded : (CPos → ℕ) → Grid ℕ → ℕ → CPos → Type 0
 IsExpanded toll labels level q =
-    (p : CPos) (d k : ℕ) → IsOn labels.width labels.height p → IsStep toll p d q k → label_of labels p ≤ level + k
+    (p : CPos) (d k : ℕ) → IsOn labels.width labels.height p → IsStep toll p d q k →
+    label_of labels p ≤ level + k
 
 -- Each cell with a label from the level on is in its bucket.
 pub record AreQueued (field : Distances) (shelves : Shelves) : Type 0 where
@@ -96,7 +100,8 @@ pub record IsFilled (field : Distances) (shelves : Shelves) (y x : ℕ) : Type 0
   pub whole : shelves.lost ≡ false
   pub few : (b : ℕ) → len_of shelves b ≤ y * field.labels.width + x
   pub above :
-      (p : CPos) → p.y < y → field.level ≤ label_of field.labels p → label_of field.labels p < NONE →
+      (p : CPos) → p.y < y → field.level ≤ label_of field.labels p →
+      label_of field.labels p < NONE →
       IsHeld shelves (label_of field.labels p % 71) p
   pub before :
       (p : CPos) → p.y ≡ y → p.x < x → field.level ≤ label_of field.labels p →
@@ -110,12 +115,14 @@ pub record IsLead (toll : CPos → ℕ) (labels : Grid ℕ) (p : CPos) (distance
   pub label : label_of labels entered + cost ≡ distance
 
 -- The least such direction.
-pub record IsLeastLead (toll : CPos → ℕ) (labels : Grid ℕ) (p : CPos) (distance d : ℕ) : Type 0 where
-  pub leads : IsLead toll labels p distance d
-  pub least : (e : ℕ) → IsLead toll labels p distance e → d ≤ e
+pub record IsLeastLead (toll : CPos → ℕ) (labels : Grid ℕ) (p : CPos) (distance d : ℕ) : Type 0
+  where
+    pub leads : IsLead toll labels p distance d
+    pub least : (e : ℕ) → IsLead toll labels p distance e → d ≤ e
 
 -- All that a search keeps has the size of the map.
-pub record FitsTogether (width height : ℕ) (ground : Ground) (field : Distances) (shelves : Shelves) : Type 0 where
+pub record FitsTogether (width height : ℕ) (ground : Ground) (field : Distances)
+    (shelves : Shelves) : Type 0 where
   pub of_terrain : HasSize width height ground.terrain
   pub of_labels : HasSize width height field.labels
   pub room : shelves.room ≡ width * height

@@ -13,6 +13,11 @@ pub record Ground : Type 0 where
   pub costs : Costs
   pub goal : CPos
 
+-- A ground and a question over it.
+abbrev pub ground_of : Grid Terrain → Grid Bool → Costs → CPos → Ground
+ground_of terrain built costs goal =
+    record { terrain = terrain; built = built; costs = costs; goal = goal }
+
 -- The toll of a cell.
 abbrev pub toll_in : Ground → CPos → ℕ
 toll_in ground = toll_of ground.terrain ground.built ground.costs ground.goal

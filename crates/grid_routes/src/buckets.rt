@@ -28,9 +28,21 @@ impl Model for Buckets {
 
     ghost Value = { Shelves };
 
-    ghost view = { λ b. record { room = b.room; cells = b.cells.items; lens = b.lens.items; lost = b.lost } };
+    ghost view = { λ b. record {
+      room = b.room;
+      cells = b.cells.items;
+      lens = b.lens.items;
+      lost =
+          b.lost;
+    } };
 
-    ghost invariant = { λ b. IsWhole (record { room = b.room; cells = b.cells.items; lens = b.lens.items; lost = b.lost }) };
+    ghost invariant = { λ b. IsWhole (record {
+      room = b.room;
+      cells = b.cells.items;
+      lens =
+          b.lens.items;
+      lost = b.lost;
+    }) };
 }
 
 impl Buckets {

@@ -26,9 +26,18 @@ impl Model for Field {
 
     ghost Value = { Distances };
 
-    ghost view = { λ f. record { labels = record { width = f.width; height = f.height; cells = f.labels.items }; level = f.level } };
+    ghost view = { λ f. record {
+      labels =
+          record { width = f.width; height = f.height; cells = f.labels.items };
+      level = f.level;
+    } };
 
-    ghost invariant = { λ f. IsFull (record { width = f.width; height = f.height; cells = f.labels.items }) };
+    ghost invariant = { λ f. IsFull (record {
+      width = f.width;
+      height = f.height;
+      cells =
+          f.labels.items;
+    }) };
 }
 
 impl Field {

@@ -1,7 +1,8 @@
-ghost use Rattle.std.specs.Prelude.{◌≡◌, ◌≤◌, ◌<◌, All, Some, IfOk, IsTrue, length, slice_index_or, slice_set, ◌↔◌};
+ghost use Rattle.std.specs.Prelude.{◌≡◌, ◌≤◌, ◌<◌, All, Some, IfOk, IsTrue, length, slice_index_or};
+ghost use Rattle.std.specs.Prelude.{slice_set, ◌↔◌};
 ghost use Rattle.game_model.specs.Grid.{IsOn, HasSize};
 ghost use Rattle.grid_routes.specs.declared.fields.Kept.{Kept};
-ghost use Rattle.grid_routes.specs.Tolls.{IsCheap};
+ghost use Rattle.grid_routes.specs.Tolls.{IsCheap, ground_of};
 ghost use Rattle.grid_routes.specs.Labels.{label_of};
 ghost use Rattle.grid_routes.specs.Kept.{AreFields, AreForgotten, IsFor, IsRoom, IsSameGround};
 
@@ -70,7 +71,8 @@ impl Fields {
         requires costs { IsCheap costs.now }
         requires goal { IsOn map.now.width map.now.height goal }
         ensures fields { AreFields map.now.width map.now.height self.new }
-        ensures tolls { self.new.search.tolls ≡ (record { terrain = map.now.terrain; built = blocks.now; costs = costs.now; goal = goal }) }
+        ensures tolls { self.new.search.tolls ≡
+            ground_of map.now.terrain blocks.now costs.now goal }
         ensures search { IsFor self.new.search (record { goal = goal; costs = costs.now }) }
         ensures settled { label_of self.new.search.field.labels from ≤ self.new.search.field.level }
     {
@@ -115,10 +117,13 @@ impl Fields {
 
     /// Turns to a question: goes on with its field, or begins one.
     fn turn_to(&mut self, ask: &Ask) -> bool
-        requires fields { AreFields self.old.search.tolls.terrain.width self.old.search.tolls.terrain.height self.old }
+        requires fields { AreFields self.old.search.tolls.terrain.width
+            self.old.search.tolls.terrain.height self.old }
         requires costs { IsCheap ask.now.costs }
-        requires goal { IsOn self.old.search.tolls.terrain.width self.old.search.tolls.terrain.height ask.now.goal }
-        ensures fields { AreFields self.old.search.tolls.terrain.width self.old.search.tolls.terrain.height self.new }
+        requires goal { IsOn self.old.search.tolls.terrain.width
+            self.old.search.tolls.terrain.height ask.now.goal }
+        ensures fields { AreFields self.old.search.tolls.terrain.width
+            self.old.search.tolls.terrain.height self.new }
         ensures ground { IsSameGround self.old self.new }
         ensures asked { self.new.ask ≡ Some ask.now }
     {
@@ -133,8 +138,10 @@ impl Fields {
 
     /// Puts the field of the search back to its place.
     fn put_back(&mut self)
-        requires fields { AreFields self.old.search.tolls.terrain.width self.old.search.tolls.terrain.height self.old }
-        ensures fields { AreFields self.old.search.tolls.terrain.width self.old.search.tolls.terrain.height self.new }
+        requires fields { AreFields self.old.search.tolls.terrain.width
+            self.old.search.tolls.terrain.height self.old }
+        ensures fields { AreFields self.old.search.tolls.terrain.width
+            self.old.search.tolls.terrain.height self.new }
         ensures tolls { self.new.search.tolls ≡ self.old.search.tolls }
     {
         exchange(&mut self.kept, self.place, &mut self.search.field, self.ask);
@@ -143,11 +150,14 @@ impl Fields {
 
     /// Goes on with the field at a place if it belongs to this, and begins it anew if not.
     fn take_up(&mut self, place: usize, ask: &Ask) -> bool
-        requires fields { AreFields self.old.search.tolls.terrain.width self.old.search.tolls.terrain.height self.old }
+        requires fields { AreFields self.old.search.tolls.terrain.width
+            self.old.search.tolls.terrain.height self.old }
         requires place { place ≤ 32 }
         requires costs { IsCheap ask.now.costs }
-        requires goal { IsOn self.old.search.tolls.terrain.width self.old.search.tolls.terrain.height ask.now.goal }
-        ensures fields { AreFields self.old.search.tolls.terrain.width self.old.search.tolls.terrain.height self.new }
+        requires goal { IsOn self.old.search.tolls.terrain.width
+            self.old.search.tolls.terrain.height ask.now.goal }
+        ensures fields { AreFields self.old.search.tolls.terrain.width
+            self.old.search.tolls.terrain.height self.new }
         ensures ground { IsSameGround self.old self.new }
         ensures asked { self.new.ask ≡ Some ask.now }
     {
@@ -180,7 +190,8 @@ fn is_known(place: usize, found: &Option<Ask>, ask: &Ask) -> bool
 /// Exchanges a field with the one at a place. Returns what that one belonged to.
 fn exchange(kept: &mut Vec<Kept>, place: usize, field: &mut Field, ask: Option<Ask>) -> Option<Ask>
     requires { place < length kept.old.items }
-    ensures kept { kept.new.items ≡ slice_set kept.old.items place (record { ask = ask; field = field.old }) }
+    ensures kept { kept.new.items ≡
+        slice_set kept.old.items place (record { ask = ask; field = field.old }) }
     ensures found { (d : Kept) → result ≡ (slice_index_or kept.old.items place d).ask }
     ensures field { (d : Kept) → field.new ≡ (slice_index_or kept.old.items place d).field }
 {

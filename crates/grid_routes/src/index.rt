@@ -40,8 +40,8 @@ impl Index {
         self.places.clear();
     }
 
-    /// The place of a field: the one that it has, else one that is not taken, else that of the field
-    /// that was used longest ago. It is `FIELDS` where memory ran out.
+    /// The place of a field: the one that it has, else one that is not taken, else that of the
+    /// field that was used longest ago. It is `FIELDS` where memory ran out.
     pub(crate) fn place(&mut self, ask: &Ask) -> usize
         ensures { result ≤ 32 }
     {

@@ -12,5 +12,7 @@ ghost use Rattle.grid_routes.specs.Tolls.{IsCheap};
 /// walks, and the least direction that begins such a walk.
 #[tactic(auto, using(crate::proofs::Distances::are_least))]
 pub fn distances_are_least()
-    ensures { (map : Map) (built : Grid Bool) (costs : Costs) (goal : CPos) → HasSize map.width map.height map.terrain → IsCheap costs → AreLeast map (land_of map built costs goal) }
+    ensures { (map : Map) (built : Grid Bool) (costs : Costs) (goal : CPos) →
+        HasSize map.width map.height map.terrain → IsCheap costs →
+        AreLeast map (land_of map built costs goal) }
 {}

@@ -3,11 +3,13 @@
 //! A walk is a list of cells joined by steps to neighbours. A step costs 5 straight on and 7 across
 //! a corner, times what the ground costs that it enters. A cell can't be entered where its ground
 //! costs 0, or where a building stands on it that isn't the goal, and a step across a corner needs
-//! both cells beside it to be free too. Only entered cells are tested, so a walk may begin anywhere.
+//! both cells beside it to be free too. Only entered cells are tested, so a walk may begin
+//! anywhere.
 //!
-//! [`Router`] finds the least cost of all walks, and the least direction that begins such a walk. It
-//! searches from the goal, by rings of cells that are equally far (R. B. Dial, "Algorithm 360:
-//! Shortest-path forest with topological ordering", Communications of the ACM 12, 1969).
+//! [`Router`] finds the least cost of all walks, and the least direction that begins such a walk.
+//! It searches from the goal, by rings of cells that are equally far (R. B. Dial, "Algorithm 360:
+//! Shortest-path forest with topological ordering", Communications of the ACM 12, 1969), and stops
+//! as soon as the answer is sure. What it found is kept, and a later question goes on from there.
 #![tactic(auto)]
 
 mod ask;

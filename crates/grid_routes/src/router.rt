@@ -38,7 +38,8 @@ impl Model for Router {
 impl Router {
     /// A router for maps of this size. Out of memory is its only error.
     pub fn create(alloc: Global, w: u8, h: u8) -> Result<Router, NoMemory>
-        ensures { IfOk result (λ router. router ≡ (record { width = w; height = h; computed = 0 })) }
+        ensures { IfOk result (λ router. router ≡
+            (record { width = w; height = h; computed = 0 })) }
     {
         Ok(Router {
             width: w,
@@ -69,7 +70,8 @@ impl Router {
         requires costs { IsCheap costs.now }
         requires from { IsOn map.now.width map.now.height from }
         requires goal { IsOn map.now.width map.now.height goal }
-        ensures value { result ≡ best_dir_of map.now (land_of map.now blocks.now costs.now goal) from }
+        ensures value { result ≡
+            best_dir_of map.now (land_of map.now blocks.now costs.now goal) from }
         ensures best { IsBestDirection (land_of map.now blocks.now costs.now goal) from result }
         ensures size { IsSameSize self.old self.new }
         ensures computed { CountsOn self.old.computed self.new.computed }

@@ -1,4 +1,5 @@
-ghost use Rattle.std.specs.Prelude.{◌≡◌, ◌≢◌, ℕ, ◌+◌, ◌*◌, ◌%◌, ◌^◌, ◌<◌, ◌≤◌, false, Some, IfOk, IsTrue, IsFalse, MatchOption, length};
+ghost use Rattle.std.specs.Prelude.{◌≡◌, ◌≢◌, ℕ, ◌+◌, ◌*◌, ◌%◌, ◌^◌, ◌<◌, ◌≤◌, false, Some, IfOk};
+ghost use Rattle.std.specs.Prelude.{IsTrue, IsFalse, MatchOption, length};
 ghost use Rattle.world_units.specs.declared.cell.CPos.{CPos};
 ghost use Rattle.world_units.specs.Directions.{opposite_of, step_of};
 ghost use Rattle.game_model.specs.Grid.{IsOn, HasSize};
@@ -6,7 +7,9 @@ ghost use Rattle.game_model.specs.Walks.{IsBestDirection, IsStep};
 ghost use Rattle.grid_routes.specs.Tolls.{IsCheap, land_over, toll_in};
 ghost use Rattle.grid_routes.specs.Labels.{IsFull, label_of};
 ghost use Rattle.grid_routes.specs.Held.{IsAt};
-ghost use Rattle.grid_routes.specs.Steps.{AreQueued, FitsTogether, HasLabel, IsClear, IsExpanded, IsFilled, IsGoing, IsLead, IsLeastLead, IsNext, IsOnward, IsRoute, IsSearch, Lowers, rings_left};
+ghost use Rattle.grid_routes.specs.Steps.{AreQueued, FitsTogether, HasLabel, IsClear, IsExpanded};
+ghost use Rattle.grid_routes.specs.Steps.{IsFilled, IsGoing, IsLead, IsLeastLead, IsNext, IsOnward};
+ghost use Rattle.grid_routes.specs.Steps.{IsRoute, IsSearch, Lowers, rings_left};
 
 use crate::buckets::{BUCKETS, Buckets};
 use crate::field::{Field, NONE};
@@ -31,7 +34,8 @@ pub(crate) struct Search {
 impl Search {
     /// Room for searches on maps of this size. Out of memory is its only error.
     pub(crate) fn create(alloc: Global, w: u8, h: u8) -> Result<Search, NoMemory>
-        ensures { IfOk result (λ search. FitsTogether w h search.tolls search.field search.buckets) }
+        ensures { IfOk result (λ search. FitsTogether w h search.tolls search.field
+            search.buckets) }
     {
         Ok(Search {
             tolls: Tolls::create(alloc, w, h)?,
@@ -42,14 +46,18 @@ impl Search {
 
     /// Begins a search to another goal, over the same ground.
     fn begin(&mut self, costs: &Costs, goal: CPos)
-        requires room { self.old.buckets.room ≡ self.old.tolls.terrain.width * self.old.tolls.terrain.height }
-        requires size { HasSize self.old.tolls.terrain.width self.old.tolls.terrain.height self.old.field.labels }
+        requires room { self.old.buckets.room ≡
+            self.old.tolls.terrain.width * self.old.tolls.terrain.height }
+        requires size { HasSize self.old.tolls.terrain.width self.old.tolls.terrain.height
+            self.old.field.labels }
         requires costs { IsCheap costs.now }
         requires goal { IsOn self.old.tolls.terrain.width self.old.tolls.terrain.height goal }
         ensures tolls { self.new.tolls ≡ record self.old.tolls { costs = costs.now; goal = goal } }
         ensures room { self.new.buckets.room ≡ self.old.buckets.room }
-        ensures size { HasSize self.old.tolls.terrain.width self.old.tolls.terrain.height self.new.field.labels }
-        ensures search { IsSearch (record { toll = toll_in self.new.tolls; goal = goal }) self.new.field self.new.buckets }
+        ensures size { HasSize self.old.tolls.terrain.width self.old.tolls.terrain.height
+            self.new.field.labels }
+        ensures search { IsSearch (record { toll = toll_in self.new.tolls; goal = goal })
+            self.new.field self.new.buckets }
     {
         self.tolls.turn_to(costs, goal);
         self.tolls.ground();
@@ -59,14 +67,19 @@ impl Search {
 
     /// Takes up a search where it stopped, over the same ground.
     fn resume(&mut self, costs: &Costs, goal: CPos)
-        requires room { self.old.buckets.room ≡ self.old.tolls.terrain.width * self.old.tolls.terrain.height }
-        requires size { HasSize self.old.tolls.terrain.width self.old.tolls.terrain.height self.old.field.labels }
+        requires room { self.old.buckets.room ≡
+            self.old.tolls.terrain.width * self.old.tolls.terrain.height }
+        requires size { HasSize self.old.tolls.terrain.width self.old.tolls.terrain.height
+            self.old.field.labels }
         requires costs { IsCheap costs.now }
-        requires going { IsGoing (land_over self.old.tolls.terrain self.old.tolls.built costs.now goal) self.old.field }
+        requires going { IsGoing (land_over self.old.tolls.terrain self.old.tolls.built costs.now
+            goal) self.old.field }
         ensures tolls { self.new.tolls ≡ record self.old.tolls { costs = costs.now; goal = goal } }
         ensures room { self.new.buckets.room ≡ self.old.buckets.room }
-        ensures size { HasSize self.old.tolls.terrain.width self.old.tolls.terrain.height self.new.field.labels }
-        ensures search { IsSearch (record { toll = toll_in self.new.tolls; goal = goal }) self.new.field self.new.buckets }
+        ensures size { HasSize self.old.tolls.terrain.width self.old.tolls.terrain.height
+            self.new.field.labels }
+        ensures search { IsSearch (record { toll = toll_in self.new.tolls; goal = goal })
+            self.new.field self.new.buckets }
     {
         self.tolls.turn_to(costs, goal);
         self.buckets.lose();
@@ -74,15 +87,21 @@ impl Search {
 
     /// Takes up the search for a goal, or begins it.
     pub(crate) fn set_out(&mut self, going: bool, costs: &Costs, goal: CPos)
-        requires room { self.old.buckets.room ≡ self.old.tolls.terrain.width * self.old.tolls.terrain.height }
-        requires size { HasSize self.old.tolls.terrain.width self.old.tolls.terrain.height self.old.field.labels }
+        requires room { self.old.buckets.room ≡
+            self.old.tolls.terrain.width * self.old.tolls.terrain.height }
+        requires size { HasSize self.old.tolls.terrain.width self.old.tolls.terrain.height
+            self.old.field.labels }
         requires costs { IsCheap costs.now }
         requires goal { IsOn self.old.tolls.terrain.width self.old.tolls.terrain.height goal }
-        requires going { IsTrue going → IsGoing (land_over self.old.tolls.terrain self.old.tolls.built costs.now goal) self.old.field }
+        requires going { IsTrue going →
+            IsGoing (land_over self.old.tolls.terrain self.old.tolls.built costs.now goal)
+            self.old.field }
         ensures tolls { self.new.tolls ≡ record self.old.tolls { costs = costs.now; goal = goal } }
         ensures room { self.new.buckets.room ≡ self.old.buckets.room }
-        ensures size { HasSize self.old.tolls.terrain.width self.old.tolls.terrain.height self.new.field.labels }
-        ensures search { IsSearch (record { toll = toll_in self.new.tolls; goal = goal }) self.new.field self.new.buckets }
+        ensures size { HasSize self.old.tolls.terrain.width self.old.tolls.terrain.height
+            self.new.field.labels }
+        ensures search { IsSearch (record { toll = toll_in self.new.tolls; goal = goal })
+            self.new.field self.new.buckets }
     {
         if going {
             self.resume(costs, goal);
@@ -100,8 +119,10 @@ impl Search {
         requires low { level < 2 ^ 31 }
         ensures tolls { self.new.tolls ≡ self.old.tolls }
         ensures level { self.new.field.level ≡ self.old.field.level }
-        ensures lowers { Lowers (toll_in self.old.tolls) level self.old.field.labels self.old.buckets self.new.field.labels self.new.buckets }
-        ensures done { (k : ℕ) → IsStep (toll_in self.old.tolls) p d q k → label_of self.new.field.labels p ≤ level + k }
+        ensures lowers { Lowers (toll_in self.old.tolls) level self.old.field.labels
+            self.old.buckets self.new.field.labels self.new.buckets }
+        ensures done { (k : ℕ) → IsStep (toll_in self.old.tolls) p d q k →
+            label_of self.new.field.labels p ≤ level + k }
     {
         let fare = self.tolls.fare(p, d, q);
         if fare > 0 && level + fare < self.field.label(p) {
@@ -117,8 +138,12 @@ impl Search {
         requires low { level < 2 ^ 31 }
         ensures tolls { self.new.tolls ≡ self.old.tolls }
         ensures level { self.new.field.level ≡ self.old.field.level }
-        ensures lowers { Lowers (toll_in self.old.tolls) level self.old.field.labels self.old.buckets self.new.field.labels self.new.buckets }
-        ensures done { (p : CPos) (k : ℕ) → step_of q d ≡ Some p → IsOn self.old.field.labels.width self.old.field.labels.height p → IsStep (toll_in self.old.tolls) p (opposite_of d) q k → label_of self.new.field.labels p ≤ level + k }
+        ensures lowers { Lowers (toll_in self.old.tolls) level self.old.field.labels
+            self.old.buckets self.new.field.labels self.new.buckets }
+        ensures done { (p : CPos) (k : ℕ) → step_of q d ≡ Some p →
+            IsOn self.old.field.labels.width self.old.field.labels.height p →
+            IsStep (toll_in self.old.tolls) p (opposite_of d) q k →
+            label_of self.new.field.labels p ≤ level + k }
     {
         if let Some(p) = step(q, d) {
             if self.field.has(p) {
@@ -134,7 +159,8 @@ impl Search {
         requires low { level < 2 ^ 31 }
         ensures tolls { self.new.tolls ≡ self.old.tolls }
         ensures level { self.new.field.level ≡ self.old.field.level }
-        ensures lowers { Lowers (toll_in self.old.tolls) level self.old.field.labels self.old.buckets self.new.field.labels self.new.buckets }
+        ensures lowers { Lowers (toll_in self.old.tolls) level self.old.field.labels
+            self.old.buckets self.new.field.labels self.new.buckets }
         ensures done { IsExpanded (toll_in self.old.tolls) self.new.field.labels level q }
     {
         for d in 0..DIRECTIONS {
@@ -148,8 +174,11 @@ impl Search {
         requires low { level < 2 ^ 31 }
         ensures tolls { self.new.tolls ≡ self.old.tolls }
         ensures level { self.new.field.level ≡ self.old.field.level }
-        ensures lowers { Lowers (toll_in self.old.tolls) level self.old.field.labels self.old.buckets self.new.field.labels self.new.buckets }
-        ensures done { (i : ℕ) (q : CPos) → IsAt self.old.buckets (level % 71) i q → label_of self.old.field.labels q ≡ level → IsExpanded (toll_in self.old.tolls) self.new.field.labels level q }
+        ensures lowers { Lowers (toll_in self.old.tolls) level self.old.field.labels
+            self.old.buckets self.new.field.labels self.new.buckets }
+        ensures done { (i : ℕ) (q : CPos) → IsAt self.old.buckets (level % 71) i q →
+            label_of self.old.field.labels q ≡ level →
+            IsExpanded (toll_in self.old.tolls) self.new.field.labels level q }
     {
         let bucket = (level % BUCKETS) as usize;
         for i in 0..self.buckets.len(bucket) {
@@ -164,7 +193,8 @@ impl Search {
     fn has_label(&self, bucket: usize, label: u32) -> bool
         requires { bucket < 71 }
         ensures found { IsTrue result → HasLabel self.now.field.labels label }
-        ensures missing { IsFalse result → (i : ℕ) (p : CPos) → IsAt self.now.buckets bucket i p → label_of self.now.field.labels p ≢ label }
+        ensures missing { IsFalse result → (i : ℕ) (p : CPos) → IsAt self.now.buckets bucket i p →
+            label_of self.now.field.labels p ≢ label }
     {
         for i in 0..self.buckets.len(bucket) {
             let p = self.buckets.get(bucket, i);
@@ -178,7 +208,8 @@ impl Search {
     /// The least label from the level on, if any cell has one.
     fn next_level(&self) -> Option<u32>
         requires { self.now.field.level < 2 ^ 30 }
-        ensures { MatchOption result (IsClear self.now.field self.now.buckets (self.now.field.level + 71)) (λ label. IsNext self.now.field self.now.buckets label) }
+        ensures { MatchOption result (IsClear self.now.field self.now.buckets
+            (self.now.field.level + 71)) (λ label. IsNext self.now.field self.now.buckets label) }
     {
         let level = self.field.level();
         for k in 0..BUCKETS {
@@ -241,10 +272,12 @@ impl Search {
 
     /// Fills the buckets where a cell may be missing.
     fn make_whole(&mut self, goal: CPos)
-        requires { IsSearch (record { toll = toll_in self.old.tolls; goal = goal }) self.old.field self.old.buckets }
+        requires { IsSearch (record { toll = toll_in self.old.tolls; goal = goal }) self.old.field
+            self.old.buckets }
         ensures tolls { self.new.tolls ≡ self.old.tolls }
         ensures field { self.new.field ≡ self.old.field }
-        ensures search { IsSearch (record { toll = toll_in self.new.tolls; goal = goal }) self.new.field self.new.buckets }
+        ensures search { IsSearch (record { toll = toll_in self.new.tolls; goal = goal })
+            self.new.field self.new.buckets }
         ensures whole { self.new.buckets.lost ≡ false }
     {
         if self.buckets.has_lost() {
@@ -254,13 +287,16 @@ impl Search {
 
     /// Expands the ring of the least label and raises the level above it.
     fn pass(&mut self, goal: CPos, label: u32)
-        requires search { IsSearch (record { toll = toll_in self.old.tolls; goal = goal }) self.old.field self.old.buckets }
+        requires search { IsSearch (record { toll = toll_in self.old.tolls; goal = goal })
+            self.old.field self.old.buckets }
         requires whole { self.old.buckets.lost ≡ false }
         requires next { IsNext self.old.field self.old.buckets label }
         requires open { self.old.field.level < NONE }
         ensures tolls { self.new.tolls ≡ self.old.tolls }
-        ensures search { IsSearch (record { toll = toll_in self.new.tolls; goal = goal }) self.new.field self.new.buckets }
-        ensures size { HasSize self.old.field.labels.width self.old.field.labels.height self.new.field.labels }
+        ensures search { IsSearch (record { toll = toll_in self.new.tolls; goal = goal })
+            self.new.field self.new.buckets }
+        ensures size { HasSize self.old.field.labels.width self.old.field.labels.height
+            self.new.field.labels }
         ensures fewer { rings_left self.new.field < rings_left self.old.field }
     {
         self.ring(label);
@@ -270,11 +306,14 @@ impl Search {
 
     /// Raises the level by a ring, or to the end where no cell is left.
     fn advance(&mut self, goal: CPos)
-        requires search { IsSearch (record { toll = toll_in self.old.tolls; goal = goal }) self.old.field self.old.buckets }
+        requires search { IsSearch (record { toll = toll_in self.old.tolls; goal = goal })
+            self.old.field self.old.buckets }
         requires open { self.old.field.level < NONE }
         ensures tolls { self.new.tolls ≡ self.old.tolls }
-        ensures search { IsSearch (record { toll = toll_in self.new.tolls; goal = goal }) self.new.field self.new.buckets }
-        ensures size { HasSize self.old.field.labels.width self.old.field.labels.height self.new.field.labels }
+        ensures search { IsSearch (record { toll = toll_in self.new.tolls; goal = goal })
+            self.new.field self.new.buckets }
+        ensures size { HasSize self.old.field.labels.width self.old.field.labels.height
+            self.new.field.labels }
         ensures fewer { rings_left self.new.field < rings_left self.old.field }
     {
         self.make_whole(goal);
@@ -286,10 +325,13 @@ impl Search {
 
     /// Goes on until the label of a cell is final.
     pub(crate) fn settle(&mut self, from: CPos, goal: CPos)
-        requires search { IsSearch (record { toll = toll_in self.old.tolls; goal = goal }) self.old.field self.old.buckets }
+        requires search { IsSearch (record { toll = toll_in self.old.tolls; goal = goal })
+            self.old.field self.old.buckets }
         ensures tolls { self.new.tolls ≡ self.old.tolls }
-        ensures search { IsSearch (record { toll = toll_in self.new.tolls; goal = goal }) self.new.field self.new.buckets }
-        ensures size { HasSize self.old.field.labels.width self.old.field.labels.height self.new.field.labels }
+        ensures search { IsSearch (record { toll = toll_in self.new.tolls; goal = goal })
+            self.new.field self.new.buckets }
+        ensures size { HasSize self.old.field.labels.width self.old.field.labels.height
+            self.new.field.labels }
         ensures settled { label_of self.new.field.labels from ≤ self.new.field.level }
     {
         while self.field.level() < self.field.label(from) {
@@ -299,10 +341,12 @@ impl Search {
 
     /// The least direction whose step begins a walk of least cost.
     pub(crate) fn best(&self, from: CPos, goal: CPos) -> Option<u8>
-        requires search { IsSearch (record { toll = toll_in self.now.tolls; goal = goal }) self.now.field self.now.buckets }
+        requires search { IsSearch (record { toll = toll_in self.now.tolls; goal = goal })
+            self.now.field self.now.buckets }
         requires on { IsOn self.now.field.labels.width self.now.field.labels.height from }
         requires settled { label_of self.now.field.labels from ≤ self.now.field.level }
-        ensures { IsBestDirection (record { toll = toll_in self.now.tolls; goal = goal }) from result }
+        ensures { IsBestDirection (record { toll = toll_in self.now.tolls; goal = goal }) from
+            result }
     {
         let distance = self.field.label(from);
         if distance == NONE {
@@ -315,7 +359,9 @@ impl Search {
     /// The least direction whose step leads to a label that is less by the step's cost.
     fn least_lead(&self, from: CPos, distance: u32) -> Option<u8>
         requires { distance < NONE }
-        ensures { MatchOption result ((d : ℕ) → IsLead (toll_in self.now.tolls) self.now.field.labels from distance d → ⊥) (λ d. IsLeastLead (toll_in self.now.tolls) self.now.field.labels from distance d) }
+        ensures { MatchOption result ((d : ℕ) →
+            IsLead (toll_in self.now.tolls) self.now.field.labels from distance d →
+            ⊥) (λ d. IsLeastLead (toll_in self.now.tolls) self.now.field.labels from distance d) }
     {
         for d in 0..DIRECTIONS {
             if self.leads(from, d, distance) {
@@ -329,8 +375,10 @@ impl Search {
     fn leads(&self, from: CPos, d: u8, distance: u32) -> bool
         requires direction { d < 8 }
         requires distance { distance < NONE }
-        ensures yes { IsTrue result → IsLead (toll_in self.now.tolls) self.now.field.labels from distance d }
-        ensures no { IsFalse result → IsLead (toll_in self.now.tolls) self.now.field.labels from distance d → ⊥ }
+        ensures yes { IsTrue result →
+            IsLead (toll_in self.now.tolls) self.now.field.labels from distance d }
+        ensures no { IsFalse result →
+            IsLead (toll_in self.now.tolls) self.now.field.labels from distance d → ⊥ }
     {
         match step(from, d) {
             Some(q) => {
@@ -349,10 +397,12 @@ impl Search {
         from: CPos,
         goal: CPos,
     ) -> Result<Option<Route>, NoMemory>
-        requires search { IsSearch (record { toll = toll_in self.now.tolls; goal = goal }) self.now.field self.now.buckets }
+        requires search { IsSearch (record { toll = toll_in self.now.tolls; goal = goal })
+            self.now.field self.now.buckets }
         requires on { IsOn self.now.field.labels.width self.now.field.labels.height from }
         requires settled { label_of self.now.field.labels from ≤ self.now.field.level }
-        ensures { IfOk result (IsRoute (record { toll = toll_in self.now.tolls; goal = goal }) from) }
+        ensures { IfOk result (IsRoute (record { toll = toll_in self.now.tolls; goal = goal })
+            from) }
     {
         let cost = self.field.label(from);
         if cost == NONE {
@@ -373,12 +423,14 @@ impl Search {
 
     /// The cell that the best step enters.
     fn next(&self, at: CPos, goal: CPos) -> CPos
-        requires search { IsSearch (record { toll = toll_in self.now.tolls; goal = goal }) self.now.field self.now.buckets }
+        requires search { IsSearch (record { toll = toll_in self.now.tolls; goal = goal })
+            self.now.field self.now.buckets }
         requires on { IsOn self.now.field.labels.width self.now.field.labels.height at }
         requires settled { label_of self.now.field.labels at ≤ self.now.field.level }
         requires labelled { label_of self.now.field.labels at < NONE }
         requires away { 0 < label_of self.now.field.labels at }
-        ensures { IsOnward (record { toll = toll_in self.now.tolls; goal = goal }) self.now.field.labels at result }
+        ensures { IsOnward (record { toll = toll_in self.now.tolls; goal = goal })
+            self.now.field.labels at result }
     {
         match self.least_lead(at, self.field.label(at)) {
             Some(d) => match step(at, d) {

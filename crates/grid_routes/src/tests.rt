@@ -1,8 +1,10 @@
 //! Routes over small maps, and what a router keeps from one question to the next.
 
 ghost use Rattle.std.specs.Prelude.{IfOk};
-ghost use Rattle.game_model.specs.Grid.{HasSize};
-ghost use Rattle.grid_routes.specs.Routing.{IsMapSized};
+ghost use Rattle.std.specs.Prelude.{◌≡◌, ◌≤◌};
+ghost use Rattle.game_model.specs.Grid.{HasSize, IsOn};
+ghost use Rattle.grid_routes.specs.Routing.{AreSized, IsMapSized, IsSameSize};
+ghost use Rattle.grid_routes.specs.Tolls.{IsCheap};
 
 mod rows;
 
@@ -129,5 +131,76 @@ fn routes_on_small_maps(rt: HostRuntime) -> Result<(), Fail> {
         let got = answer(rt.alloc(), row)?;
         assert_eq!(rt; got.as_str(), row.want);
     }
+    Ok(())
+}
+
+/// The costs of a kind to which all ground is the same.
+const EVEN: Costs = Costs {
+    clear: 1,
+    road: 1,
+    rough: 1,
+    water: 1,
+};
+
+/// Asks the same question a hundred times.
+fn ask_often(router: &mut Router, map: &Map, blocks: &Blocks, costs: &Costs, from: CPos, goal: CPos)
+    requires sizes { AreSized router.old map.now blocks.now }
+    requires costs { IsCheap costs.now }
+    requires from { IsOn map.now.width map.now.height from }
+    requires goal { IsOn map.now.width map.now.height goal }
+    ensures { IsSameSize router.old router.new }
+{
+    for _time in 0..100 {
+        let _direction = router.best_dir(map, blocks, costs, from, goal);
+    }
+}
+
+/// Asks for a goal after the other.
+fn ask_for_goals(router: &mut Router, map: &Map, blocks: &Blocks, costs: &Costs, count: u8)
+    requires sizes { AreSized router.old map.now blocks.now }
+    requires costs { IsCheap costs.now }
+    requires width { map.now.width ≡ 40 }
+    requires height { map.now.height ≡ 1 }
+    requires count { count ≤ 40 }
+    ensures { IsSameSize router.old router.new }
+{
+    for x in 0..count {
+        let _direction = router.best_dir(map, blocks, costs, CPos { x: 0, y: 0 }, CPos { x, y: 0 });
+    }
+}
+
+#[test]
+fn a_field_is_kept_until_a_building_comes_or_dies(rt: HostRuntime) -> Result<(), Fail> {
+    let alloc = rt.alloc();
+    let map = map_of(alloc, 3, 1, "...")?;
+    let mut blocks = Blocks::create(alloc, 3, 1)?;
+    let mut router = Router::create(alloc, 3, 1)?;
+    let (from, goal) = (CPos { x: 0, y: 0 }, CPos { x: 2, y: 0 });
+    ask_often(&mut router, &map, &blocks, &EVEN, from, goal);
+    assert_eq!(rt; router.computed(), 1);
+    blocks.set(CPos { x: 1, y: 0 }, true);
+    let blocked = router.walk(alloc, &map, &blocks, &EVEN, from, goal)?;
+    assert_eq!(rt; written(alloc, &blocked)?.as_str(), "none");
+    assert_eq!(rt; router.computed(), 2);
+    blocks.set(CPos { x: 1, y: 0 }, false);
+    let route = router.walk(alloc, &map, &blocks, &EVEN, from, goal)?;
+    assert_eq!(rt; written(alloc, &route)?.as_str(), "10 0,0 1,0 2,0");
+    assert_eq!(rt; router.computed(), 3);
+    Ok(())
+}
+
+#[test]
+fn fields_of_the_last_32_goals_are_kept(rt: HostRuntime) -> Result<(), Fail> {
+    let alloc = rt.alloc();
+    let map = map_of(alloc, 40, 1, "")?;
+    let blocks = Blocks::create(alloc, 40, 1)?;
+    let mut router = Router::create(alloc, 40, 1)?;
+    ask_for_goals(&mut router, &map, &blocks, &EVEN, 32);
+    ask_for_goals(&mut router, &map, &blocks, &EVEN, 32);
+    assert_eq!(rt; router.computed(), 32);
+    ask_for_goals(&mut router, &map, &blocks, &EVEN, 33);
+    assert_eq!(rt; router.computed(), 33);
+    ask_for_goals(&mut router, &map, &blocks, &EVEN, 1);
+    assert_eq!(rt; router.computed(), 34);
     Ok(())
 }

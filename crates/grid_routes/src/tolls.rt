@@ -36,9 +36,16 @@ impl Model for Tolls {
 
     ghost Value = { Ground };
 
-    ghost view = { λ t. record { terrain = t.terrain; built = t.blocks; costs = t.costs; goal = t.goal } };
+    ghost view = { λ t. record {
+      terrain = t.terrain;
+      built = t.blocks;
+      costs = t.costs;
+      goal =
+          t.goal;
+    } };
 
-    ghost invariant = { λ t. IsGround (record { terrain = t.terrain; built = t.blocks; costs = t.costs; goal = t.goal }) };
+    ghost invariant = { λ t. IsGround (record
+        { terrain = t.terrain; built = t.blocks; costs = t.costs; goal = t.goal }) };
 }
 
 impl Tolls {
@@ -61,7 +68,8 @@ impl Tolls {
 
     /// Whether they are over this terrain and these buildings.
     pub(crate) fn is_over(&self, map: &Map, blocks: &Blocks) -> bool
-        ensures { IsTrue result ↔ ((self.now.terrain ≡ map.now.terrain) × (self.now.built ≡ blocks.now)) }
+        ensures { IsTrue result ↔ ((self.now.terrain ≡ map.now.terrain) ×
+            (self.now.built ≡ blocks.now)) }
     {
         self.terrain.is_same(&map.terrain) && self.blocks.is_same(blocks)
     }

@@ -1,5 +1,5 @@
 -- Columns that follow a script: what is found of them, and what a put and a departure make of them.
-use Rattle.std.proofs.Common.{◌≡◌, ℕ, zero, suc, ◌+◌, ◌<◌, ◌≤◌, ◌==◌, ◌&&◌, nat_lt, Bool, true, false, true≢false, if◌then◌else◌, List, [], ◌∷◌, ◌++◌, length, take, get_or, refl, sym, ap, ◌∙◌, subst, inl, inr, arith, Some, None, append-nil, append_assoc, length-append}
+use Rattle.std.proofs.Common.{◌≡◌, ℕ, zero, suc, ◌<◌, ◌≤◌, ◌==◌, ◌&&◌, nat_lt, Bool, true, false, true≢false, if◌then◌else◌, List, [], ◌∷◌, ◌++◌, length, take, get_or, refl, sym, ap, ◌∙◌, subst, inl, inr, arith, Some, None, append-nil, append_assoc, length-append}
 use Rattle.std.specs.Prelude.{slice_get, Option as Maybe}
 use Rattle.std.proofs.lemmas.Bool.{ne_eqb}
 use Rattle.std.proofs.lemmas.Bool.Decides.{nat_tests}
@@ -15,7 +15,7 @@ use Rattle.frame_table.specs.declared.planned.Planned.TheVariants.{Plays}
 use Rattle.frame_table.specs.Part.{Part}
 use Rattle.frame_table.specs.Word.{whole_of}
 use Rattle.frame_table.specs.Rule.{IsReach, Follows}
-use Rattle.frame_table.specs.Steps.{published, IsWithinPlan}
+use Rattle.frame_table.specs.Steps.{published}
 use Rattle.frame_table.specs.Calls.{HasSeen}
 use Rattle.match_run.specs.Local.{script_column, IsAll}
 use Rattle.match_run.specs.Passes.{FollowsScript, KnowsSeen}

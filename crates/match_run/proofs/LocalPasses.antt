@@ -1,5 +1,5 @@
 -- The passes of a local match: the calls of the table keep what is known of them.
-use Rattle.std.proofs.Common.{◌≡◌, ℕ, zero, suc, ◌+◌, ◌-◌, ◌*◌, ◌/◌, ◌^◌, ◌<◌, ◌≤◌, ◌⊎◌, ◌||◌, max, Bool, true, false, true≢false, List, [], ◌∷◌, ◌++◌, length, map, take, get_or, refl, sym, ap, ◌∙◌, subst, inl, inr, ⊎_elim, arith}
+use Rattle.std.proofs.Common.{◌≡◌, ℕ, zero, suc, ◌+◌, ◌-◌, ◌*◌, ◌/◌, ◌^◌, ◌<◌, ◌≤◌, ◌⊎◌, ◌||◌, max, Bool, true, false, true≢false, List, [], ◌∷◌, ◌++◌, length, take, get_or, refl, sym, ap, ◌∙◌, subst, inl, inr, ⊎_elim, arith}
 use native.Mathlib.Decide.{ℕ_discrete}
 use mathlib.Core.Logic.{dite}
 use Rattle.game_orders.specs.declared.order.Order.{Order}
@@ -16,15 +16,14 @@ use Rattle.frame_table.specs.declared.table.FrameTable.{FrameTable}
 use Rattle.frame_table.specs.Part.{Part, part_of, part_in, no_mark}
 use Rattle.frame_table.specs.Word.{whole_of}
 use Rattle.frame_table.specs.Rule.{Follows}
-use Rattle.frame_table.specs.Steps.{IsWithinPlan, IsFound, loaded, known_after, published}
+use Rattle.frame_table.specs.Steps.{IsWithinPlan, IsFound, known_after}
 use Rattle.frame_table.specs.Passes.{kept_mark, given_mark, kept_view, given_view, joined_mark, joined_view, further, first_mark, first_view}
 use Rattle.frame_table.specs.PassesLemmas.{handed, joined_at, first_at}
 use Rattle.frame_table.specs.Calls.{plan_of, view_of, standing, IsPassOf, Acted, Unchanged, IsLater, IsLaterPart, MayPut, MayPutPlay, MayLeaveBy, PutsSo, LeavesSo}
-use Rattle.match_run.specs.declared.feeder.Feeder.{Feeder}
+use Rattle.match_run.specs.declared.client_pass.ClientPass.{ClientPass}
 use Rattle.match_run.specs.Local.{script_column, script_plan, IsAll}
-use Rattle.match_run.specs.Passes.{FollowsScript, IsLocalPass, KnowsSeen, KnowsAllSeen, IsFeeder, shares_of}
-use Rattle.std.specs.Prelude.{slice_get, All, Option, Some, None}
-use Rattle.std.specs.Option.{option_to_list}
+use Rattle.match_run.specs.Passes.{FollowsScript, IsLocalPass, KnowsSeen, KnowsAllSeen, IsClientPass, shares_of}
+use Rattle.std.specs.Prelude.{slice_get, All, Some}
 use Rattle.std.proofs.lemmas.List.Elements.{All-nil, All-push, All-pop}
 use Rattle.game_orders.specs.declared.entry.Entry.TheVariants.{Play}
 use Rattle.game_orders.specs.declared.limits.TheConstants.{MAX_FRAMES}
@@ -241,7 +240,7 @@ module _ (scripts : Scripts) (table : FrameTable) (p other q : Pass) (local : Is
   joined_share = ap (λ (v : View). v.share) joined
 
 -- Plays below n were put.
-pub record FedSoFar (scripts : Scripts) (table : FrameTable) (start pass : Pass) (c n : ℕ) : Type 0 where
+pub record PutSoFar (scripts : Scripts) (table : FrameTable) (start pass : Pass) (c n : ℕ) : Type 0 where
   pub local : IsLocalPass scripts table pass
   pub share : (view_of pass).share ≡ (view_of start).share
   pub reach : n ≤ (standing pass c).reach.plays
@@ -252,16 +251,16 @@ may_put plays part n orders so at = subst (λ q. MayPutPlay q part n orders) (sy
 pub may_leave : (plays : List (List Order)) (part : Part) → FollowsScript plays part → length plays ≤ part.reach.plays → MayLeaveBy part.planned part.reach
 may_leave plays part so long = subst (λ q. MayLeaveBy q part.reach) (sym so.planned) long
 
-module _ (scripts : Scripts) (table : FrameTable) (start p q : Pass) (c n : ℕ) (here : c < length scripts) (fed : FedSoFar scripts table start p c n) (is : IsPassOf table q) where
-  pub put_more : (orders : List Order) (answer : Put) → slice_get (plays_of scripts c) n ≡ Some orders → length (plays_of scripts c) ≤ MAX_FRAMES → PutsSo c (view_of p) (view_of q) n (Play orders) answer → FedSoFar scripts table start q c (n + 1)
+module _ (scripts : Scripts) (table : FrameTable) (start p q : Pass) (c n : ℕ) (here : c < length scripts) (played : PutSoFar scripts table start p c n) (is : IsPassOf table q) where
+  pub put_more : (orders : List Order) (answer : Put) → slice_get (plays_of scripts c) n ≡ Some orders → length (plays_of scripts c) ≤ MAX_FRAMES → PutsSo c (view_of p) (view_of q) n (Play orders) answer → PutSoFar scripts table start q c (n + 1)
   put_more orders answer at few (K, acted, answered) =
-      let so = fed.local.columns c here in
+      let so = played.local.columns c here in
       let seen = acted.found.reach.plays in
-      let reach = fed.reach in
+      let reach = played.reach in
       let put = put_script (plays_of scripts c) K n orders (found_follows (plays_of scripts c) (standing p c) K so acted.found) (omega arith) at few in
       record {
-        local = acted_local scripts table p q fed.local is c here K (put_column K n (Play orders)) acted put.0;
-        share = acted.others.0 ∙ fed.share;
+        local = acted_local scripts table p q played.local is c here K (put_column K n (Play orders)) acted put.0;
+        share = acted.others.0 ∙ played.share;
         reach = (let more = put.1 in let now : (standing q c).reach.plays ≡ length (put_column K n (Play orders)).plays = ap (λ (r : Part). r.reach.plays) acted.part in omega arith);
       }
 
@@ -269,17 +268,17 @@ module _ (scripts : Scripts) (table : FrameTable) (start p q : Pass) (c n : ℕ)
       IsLocalPass scripts table q × ((view_of q).share ≡ (view_of start).share) × IsAll (standing q c) (script_column (plays_of scripts c))
   left_all answer end (K, acted, answered) =
       let plays = plays_of scripts c in
-      let so = fed.local.columns c here in
+      let so = played.local.columns c here in
       let seen = acted.found.reach.plays in
-      let reach = fed.reach in
+      let reach = played.reach in
       let whole : left_column K ≡ script_column plays = departed plays K (found_follows plays (standing p c) K so acted.found) (omega arith) in (
-        acted_local scripts table p q fed.local is c here K (left_column K) acted (subst (Follows (Plays plays)) (sym whole) (whole_follows plays)),
-        acted.others.0 ∙ fed.share,
+        acted_local scripts table p q played.local is c here K (left_column K) acted (subst (Follows (Plays plays)) (sym whole) (whole_follows plays)),
+        acted.others.0 ∙ played.share,
         published_all plays (standing p c) (standing q c) K (left_column K) whole acted.part,
       )
 
--- The shares of feeders.
-pub shares_same : (xs ys : List Feeder) → length ys ≡ length xs → ((i : ℕ) (d : Feeder) → i < length xs → (view_of (get_or ys i d).pass).share ≡ (view_of (get_or xs i d).pass).share) → shares_of ys ≡ shares_of xs
+-- The shares of passes.
+pub shares_same : (xs ys : List ClientPass) → length ys ≡ length xs → ((i : ℕ) (d : ClientPass) → i < length xs → (view_of (get_or ys i d).pass).share ≡ (view_of (get_or xs i d).pass).share) → shares_of ys ≡ shares_of xs
 shares_same [] [] long same = refl
 shares_same [] (y ∷ ys) long same = absurd (omega arith)
 shares_same (x ∷ xs) [] long same = absurd (omega arith)
@@ -288,16 +287,16 @@ shares_same (x ∷ xs) (y ∷ ys) long same =
     let rest = shares_same xs ys (omega arith) (λ i d below. same (suc i) d (omega arith)) in
     omega arith
 
-shares_push : (xs : List Feeder) (x : Feeder) → shares_of (xs ++ x ∷ []) ≡ shares_of xs + (view_of x.pass).share
+shares_push : (xs : List ClientPass) (x : ClientPass) → shares_of (xs ++ x ∷ []) ≡ shares_of xs + (view_of x.pass).share
 shares_push [] x = omega arith
 shares_push (y ∷ xs) x = let rest = shares_push xs x in omega arith
 
--- So many feeders were split off.
-pub record SplitSoFar (scripts : Scripts) (table : FrameTable) (pass : Pass) (feeders : List Feeder) (client : ℕ) : Type 0 where
+-- So many passes were split off.
+pub record SplitSoFar (scripts : Scripts) (table : FrameTable) (pass : Pass) (passes : List ClientPass) (client : ℕ) : Type 0 where
   pub local : IsLocalPass scripts table pass
   pub knows : KnowsAllSeen scripts pass
-  pub feeders_are : All (λ f. IsFeeder scripts table f) feeders
-  pub shares : (view_of pass).share + shares_of feeders ≡ 2 ^ 62
+  pub passes_are : All (λ f. IsClientPass scripts table f) passes
+  pub shares : (view_of pass).share + shares_of passes ≡ 2 ^ 62
   pub enough : 2 ^ (62 - client) ≤ (view_of pass).share
 
 doubled : (k : ℕ) → 2 ^ suc k ≡ 2 * 2 ^ k
@@ -319,45 +318,45 @@ halved client share few enough =
 
 pub split_none : (scripts : Scripts) (table : FrameTable) (pass : Pass) → IsLocalPass scripts table pass → KnowsAllSeen scripts pass → (view_of pass).share ≡ 2 ^ 62 → SplitSoFar scripts table pass [] 0
 split_none scripts table pass local knows share =
-    record { local = local; knows = knows; feeders_are = All-nil (λ f. IsFeeder scripts table f); shares = (omega arith); enough = omega arith }
+    record { local = local; knows = knows; passes_are = All-nil (λ f. IsClientPass scripts table f); shares = (omega arith); enough = omega arith }
 
-pub split_more : (scripts : Scripts) (table : FrameTable) (p q : Pass) (feeders : List Feeder) (after : List Feeder) (client : ℕ) (feeder : Feeder) → client < 16 → client < length scripts →
-    SplitSoFar scripts table p feeders client → IsPassOf table q → view_of q ≡ kept_view (view_of p) → IsPassOf table feeder.pass → view_of feeder.pass ≡ given_view (view_of p) → feeder.client ≡ client → after ≡ feeders ++ feeder ∷ [] →
+pub split_more : (scripts : Scripts) (table : FrameTable) (p q : Pass) (passes : List ClientPass) (after : List ClientPass) (client : ℕ) (own : ClientPass) → client < 16 → client < length scripts →
+    SplitSoFar scripts table p passes client → IsPassOf table q → view_of q ≡ kept_view (view_of p) → IsPassOf table own.pass → view_of own.pass ≡ given_view (view_of p) → own.client ≡ client → after ≡ passes ++ own ∷ [] →
     SplitSoFar scripts table q after (client + 1)
-split_more scripts table p q feeders after client feeder few here far is kept given_is given number pushed =
+split_more scripts table p q passes after client own few here far is kept given_is given number pushed =
     let share = (view_of p).share in
     let half = halved client share (omega arith) far.enough in
     let mine : (view_of q).share ≡ share - share / 2 = ap (λ (v : View). v.share) kept in
-    let theirs : (view_of feeder.pass).share ≡ share / 2 = ap (λ (v : View). v.share) given in
+    let theirs : (view_of own.pass).share ≡ share / 2 = ap (λ (v : View). v.share) given in
     record {
       local = kept_local scripts table p q far.local is kept;
       knows = kept_knows scripts table p q far.local is kept far.knows;
-      feeders_are = subst (All (λ f. IsFeeder scripts table f)) (sym pushed)
-          (All-push (λ f. IsFeeder scripts table f) feeders feeder far.feeders_are
-          (record { pass = given_local scripts table p feeder.pass far.local given_is given; client = omega arith }));
-      shares = (let all = far.shares in let more = ap shares_of pushed ∙ shares_push feeders feeder in omega arith);
+      passes_are = subst (All (λ f. IsClientPass scripts table f)) (sym pushed)
+          (All-push (λ f. IsClientPass scripts table f) passes own far.passes_are
+          (record { pass = given_local scripts table p own.pass far.local given_is given; client = omega arith }));
+      shares = (let all = far.shares in let more = ap shares_of pushed ∙ shares_push passes own in omega arith);
       enough = (let e = half.1 in omega arith);
     }
 
--- Some feeders were joined, and these are left.
-pub record JoinedSoFar (scripts : Scripts) (table : FrameTable) (pass : Pass) (feeders : List Feeder) (share : ℕ) : Type 0 where
+-- Some passes were joined, and these are left.
+pub record JoinedSoFar (scripts : Scripts) (table : FrameTable) (pass : Pass) (passes : List ClientPass) (share : ℕ) : Type 0 where
   pub local : IsLocalPass scripts table pass
   pub all : (c : ℕ) → c < length scripts → IsAll (standing pass c) (script_column (plays_of scripts c))
-  pub feeders_are : All (λ f. IsFeeder scripts table f) feeders
-  pub shares : (view_of pass).share + shares_of feeders ≡ share
+  pub passes_are : All (λ f. IsClientPass scripts table f) passes
+  pub shares : (view_of pass).share + shares_of passes ≡ share
 
-pub last_of : (scripts : Scripts) (table : FrameTable) (all rest : List Feeder) (feeder : Feeder) → All (λ f. IsFeeder scripts table f) all → all ≡ rest ++ feeder ∷ [] → All (λ f. IsFeeder scripts table f) rest × IsFeeder scripts table feeder
-last_of scripts table all rest feeder are is = All-pop (λ f. IsFeeder scripts table f) all rest (Some feeder) is are
+pub last_of : (scripts : Scripts) (table : FrameTable) (all rest : List ClientPass) (own : ClientPass) → All (λ f. IsClientPass scripts table f) all → all ≡ rest ++ own ∷ [] → All (λ f. IsClientPass scripts table f) rest × IsClientPass scripts table own
+last_of scripts table all rest own are is = All-pop (λ f. IsClientPass scripts table f) all rest (Some own) is are
 
-pub join_more : (scripts : Scripts) (table : FrameTable) (p q : Pass) (all rest : List Feeder) (feeder : Feeder) (share : ℕ) → JoinedSoFar scripts table p all share → all ≡ rest ++ feeder ∷ [] → IsPassOf table q →
-    view_of q ≡ joined_view (view_of p) (view_of feeder.pass) → ((c : ℕ) → c < length (plan_of table) → GrowsTo (standing p c).known (standing q c).known) → JoinedSoFar scripts table q rest share
-join_more scripts table p q all rest feeder share far is of_table joined mine =
-    let parts = last_of scripts table all rest feeder far.feeders_are is in
+pub join_more : (scripts : Scripts) (table : FrameTable) (p q : Pass) (all rest : List ClientPass) (own : ClientPass) (share : ℕ) → JoinedSoFar scripts table p all share → all ≡ rest ++ own ∷ [] → IsPassOf table q →
+    view_of q ≡ joined_view (view_of p) (view_of own.pass) → ((c : ℕ) → c < length (plan_of table) → GrowsTo (standing p c).known (standing q c).known) → JoinedSoFar scripts table q rest share
+join_more scripts table p q all rest own share far is of_table joined mine =
+    let parts = last_of scripts table all rest own far.passes_are is in
     record {
-      local = joined_local scripts table p feeder.pass q far.local parts.1.pass of_table joined;
-      all = joined_all scripts table p feeder.pass q far.local parts.1.pass of_table joined mine far.all;
-      feeders_are = parts.0;
-      shares = (let s = far.shares in let m = ap shares_of is ∙ shares_push rest feeder in let j : (view_of q).share ≡ (view_of p).share + (view_of feeder.pass).share = ap (λ (v : View). v.share) joined in omega arith);
+      local = joined_local scripts table p own.pass q far.local parts.1.pass of_table joined;
+      all = joined_all scripts table p own.pass q far.local parts.1.pass of_table joined mine far.all;
+      passes_are = parts.0;
+      shares = (let s = far.shares in let m = ap shares_of is ∙ shares_push rest own in let j : (view_of q).share ≡ (view_of p).share + (view_of own.pass).share = ap (λ (v : View). v.share) joined in omega arith);
     }
 
 -- The plan, client by client.

@@ -1,26 +1,21 @@
 -- The ticking thread.
-use native.Mathlib.Decide.{ℕ_discrete}
-use mathlib.Core.Logic.{dite}
-use Rattle.std.proofs.Common.{◌≡◌, ℕ, zero, suc, ◌+◌, ◌<◌, ◌≤◌, ◌⊎◌, max, true, List, [], ◌∷◌, ◌++◌, length, map, take, get_or, refl, sym, ap, ap₂, ◌∙◌, subst, inl, inr, ⊎_elim, arith, Some, add-one}
+use Rattle.std.proofs.Common.{◌≡◌, ℕ, zero, suc, ◌+◌, ◌<◌, ◌≤◌, ◌⊎◌, List, [], ◌∷◌, ◌++◌, length, take, refl, sym, ap, ap₂, ◌∙◌, subst, inl, inr, ⊎_elim, arith, Some}
 use Rattle.game_orders.specs.declared.order.Order.{Order}
 use Rattle.game_orders.specs.declared.entry.Entry.{Entry}
-use Rattle.frame_core.specs.Column.{Column, length_of, has_at}
+use Rattle.frame_core.specs.Column.{Column, has_at}
 use Rattle.frame_core.specs.Ready.{or_leave, frame_at}
-use Rattle.frame_core.specs.World.{world_at}
 use Rattle.frame_core.specs.FoldLemmas.{folded_step}
 use Rattle.frame_core.specs.declared.ready.Ready.{Ready}
 use Rattle.frame_core.specs.declared.ready.Ready.TheVariants.{Yes, Over}
 use Rattle.drill_words.specs.Scripts.{plays_of}
 use Rattle.frame_table.specs.declared.pass.Pass.{Pass}
 use Rattle.frame_table.specs.declared.table.FrameTable.{FrameTable}
-use Rattle.frame_table.specs.declared.planned.Planned.TheVariants.{Plays}
 use Rattle.frame_table.specs.Part.{Part}
 use Rattle.frame_table.specs.Word.{whole_of}
-use Rattle.frame_table.specs.Rule.{Follows}
 use Rattle.frame_table.specs.Steps.{IsFound}
-use Rattle.frame_table.specs.Calls.{view_of, standing, plan_of, IsPassOf, HasSeen, TakesSo, MeansReadySeen}
-use Rattle.match_run.specs.Local.{script_column, script_columns, longest, frames_of, IsAll}
-use Rattle.match_run.specs.Passes.{FollowsScript, IsLocalPass, KnowsSeen, KnowsAllSeen, IsStepped}
+use Rattle.frame_table.specs.Calls.{view_of, standing, IsPassOf, HasSeen, TakesSo, MeansReadySeen}
+use Rattle.match_run.specs.Local.{script_column, script_columns, frames_of, IsAll}
+use Rattle.match_run.specs.Passes.{FollowsScript, IsLocalPass, KnowsAllSeen, IsStepped}
 use Rattle.match_run.proofs.Columns.{has_script}
 use Rattle.match_run.proofs.LocalPasses.{Scripts, found_follows, acted_local, acted_knows}
 

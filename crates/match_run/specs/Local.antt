@@ -11,7 +11,7 @@ use Rattle.frame_table.specs.declared.pass.Pass.{Pass}
 use Rattle.frame_table.specs.declared.table.FrameTable.{FrameTable}
 use Rattle.frame_table.specs.Part.{Part}
 use Rattle.frame_table.specs.Word.{whole_of}
-use Rattle.frame_table.specs.Calls.{view_of, standing, IsPassOf}
+use Rattle.frame_table.specs.Calls.{plan_of, view_of, standing, IsPassOf}
 
 -- A client's column at the end of the match: its script's plays, then its departure.
 abbrev pub script_column : List (List Order) → Column
@@ -47,6 +47,7 @@ pub record IsAll (part : Part) (column : Column) : Type 0 where
 pub record IsFilled (scripts : List (List (List Order))) (table : FrameTable) (pass : Pass) : Type 0
   where
     pub of_table : IsPassOf table pass
+    pub clients : length (plan_of table) ≡ length scripts
     pub share : (view_of pass).share ≡ 2 ^ 62
     pub columns : (c : ℕ) → c < length scripts →
         IsAll (standing pass c) (script_column (plays_of scripts c))

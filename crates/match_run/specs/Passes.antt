@@ -1,18 +1,16 @@
 -- What the passes of a local match know while it runs.
-use Rattle.std.specs.Prelude.{◌≡◌, ℕ, ◌+◌, ◌<◌, ◌≤◌, ◌⊎◌, true, List, [], ◌∷◌, length, take}
+use Rattle.std.specs.Prelude.{◌≡◌, ℕ, ◌+◌, ◌<◌, ◌≤◌, ◌⊎◌, List, [], ◌∷◌, length, take}
 use Rattle.game_orders.specs.declared.order.Order.{Order}
 use Rattle.game_orders.specs.declared.entry.Entry.{Entry}
-use Rattle.frame_core.specs.Column.{Column}
 use Rattle.frame_core.specs.World.{world_at}
 use Rattle.drill_words.specs.Scripts.{plays_of}
-use Rattle.frame_table.specs.declared.seen.Seen.{Seen}
 use Rattle.frame_table.specs.declared.planned.Planned.TheVariants.{Plays}
 use Rattle.frame_table.specs.declared.pass.Pass.{Pass}
 use Rattle.frame_table.specs.declared.table.FrameTable.{FrameTable}
 use Rattle.frame_table.specs.Part.{Part}
 use Rattle.frame_table.specs.Steps.{IsWithinPlan}
 use Rattle.frame_table.specs.Calls.{plan_of, view_of, standing, IsPassOf}
-use Rattle.match_run.specs.declared.feeder.Feeder.{Feeder}
+use Rattle.match_run.specs.declared.client_pass.ClientPass.{ClientPass}
 use Rattle.match_run.specs.Local.{script_columns}
 
 -- What a pass has seen of a column that is planned so is of the plan.
@@ -38,16 +36,17 @@ abbrev pub KnowsAllSeen : List (List (List Order)) → Pass → Type 0
 KnowsAllSeen scripts pass =
     (c : ℕ) → c < length scripts → KnowsSeen (plays_of scripts c) (standing pass c)
 
--- A thread that feeds a client of these scripts.
-pub record IsFeeder (scripts : List (List (List Order))) (table : FrameTable) (feeder : Feeder) :
+-- What the thread of a client of these scripts has.
+pub record IsClientPass (scripts : List (List (List Order))) (table : FrameTable)
+    (own : ClientPass) :
     Type 0 where
-  pub pass : IsLocalPass scripts table feeder.pass
-  pub client : feeder.client < length scripts
+  pub pass : IsLocalPass scripts table own.pass
+  pub client : own.client < length scripts
 
--- The shares of all feeders.
-abbrev pub shares_of : List Feeder → ℕ
+-- The shares of all passes.
+abbrev pub shares_of : List ClientPass → ℕ
 shares_of [] = 0
-shares_of (feeder ∷ feeders) = (view_of feeder.pass).share + shares_of feeders
+shares_of (own ∷ passes) = (view_of own.pass).share + shares_of passes
 
 -- The world has made n steps, by the frames of the scripts' columns. At least n frames were played.
 pub record IsStepped {W : Type 0} (after : W → List Entry → W) (clients_of steps : W → ℕ)

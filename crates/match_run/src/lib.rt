@@ -9,13 +9,15 @@
 //! `Scripts`, and on `game_io` for the gate by which a test holds threads.
 #![tactic(auto)]
 
-mod feeder;
-mod feeding;
+mod client_pass;
+mod law;
 mod local_run;
 mod passing;
+mod playing;
 mod running;
 mod ticking;
 
+pub use law::closed_columns_are_the_scripts;
 pub use local_run::LocalRun;
 pub use running::run_local;
 

@@ -1,11 +1,11 @@
-//! The passes of the feeding threads: how they are made, and joined back.
+//! The passes of the clients' threads: how they are made, and joined back.
 ghost use Rattle.std.specs.Prelude.{◌≡◌, ◌<◌, ◌≤◌, ◌+◌, ◌^◌, ℕ, length, All, IfOk};
 ghost use Rattle.drill_words.specs.Scripts.{plays_of};
 ghost use Rattle.frame_table.specs.Calls.{plan_of, view_of, standing};
 ghost use Rattle.match_run.specs.Local.{IsAll, script_column, script_plan};
-ghost use Rattle.match_run.specs.Passes.{IsLocalPass, KnowsAllSeen, IsFeeder, shares_of};
+ghost use Rattle.match_run.specs.Passes.{IsLocalPass, KnowsAllSeen, IsClientPass, shares_of};
 
-use crate::feeder::Feeder;
+use crate::client_pass::ClientPass;
 use base::{List, NoMemory};
 use drill_words::Scripts;
 use frame_table::{FrameTable, Pass, Plan, Planned};
@@ -48,54 +48,54 @@ fn copy_of(alloc: Global, plays: &[Orders]) -> Result<List<Orders>, NoMemory>
     Ok(copy)
 }
 
-/// A feeder for each client. Each has a part of the share of the pass, which keeps the rest.
-pub(crate) fn split_feeders(
+/// A pass for each client. Each has a part of the share of the pass, which keeps the rest.
+pub(crate) fn split_passes(
     alloc: Global,
     table: &FrameTable,
     scripts: &Scripts,
     pass: &mut Pass,
-) -> Result<Vec<Feeder>, NoMemory>
+) -> Result<Vec<ClientPass>, NoMemory>
     requires pass { IsLocalPass scripts.now table.now pass.old }
     requires knows { KnowsAllSeen scripts.now pass.old }
     requires share { (view_of pass.old).share ≡ 2 ^ 62 }
     ensures pass { IsLocalPass scripts.now table.now pass.new }
     ensures knows { KnowsAllSeen scripts.now pass.new }
-    ensures feeders { IfOk result (λ feeders.
-        All (λ f. IsFeeder scripts.now table.now f) feeders.items) }
-    ensures shares { IfOk result (λ feeders.
-        (view_of pass.new).share + shares_of feeders.items ≡ 2 ^ 62) }
+    ensures passes { IfOk result (λ passes.
+        All (λ f. IsClientPass scripts.now table.now f) passes.items) }
+    ensures shares { IfOk result (λ passes.
+        (view_of pass.new).share + shares_of passes.items ≡ 2 ^ 62) }
 {
-    let mut feeders = Vec::new(alloc);
+    let mut passes = Vec::new(alloc);
     for client in 0..scripts.clients() {
         let pass = table.split(pass);
-        feeders.push(Feeder { client, pass })?;
+        passes.push(ClientPass { client, pass })?;
     }
-    Ok(feeders)
+    Ok(passes)
 }
 
-/// Joins the passes of all feeders into the pass, which has seen and knows each whole column.
-pub(crate) fn join_feeders(
+/// Joins the clients' passes into the pass, which has seen and knows each whole column.
+pub(crate) fn join_passes(
     table: &FrameTable,
     scripts: &Scripts,
     pass: &mut Pass,
-    feeders: Vec<Feeder>,
+    passes: Vec<ClientPass>,
 )
     requires pass { IsLocalPass scripts.now table.now pass.old }
     requires all { (c : ℕ) → c < length scripts.now →
         IsAll (standing pass.old c) (script_column (plays_of scripts.now c)) }
-    requires feeders { All (λ f. IsFeeder scripts.now table.now f) feeders.items }
+    requires passes { All (λ f. IsClientPass scripts.now table.now f) passes.items }
     ensures pass { IsLocalPass scripts.now table.now pass.new }
     ensures all { (c : ℕ) → c < length scripts.now →
         IsAll (standing pass.new c) (script_column (plays_of scripts.now c)) }
     ensures share { (view_of pass.new).share
-        ≡ (view_of pass.old).share + shares_of feeders.items }
+        ≡ (view_of pass.old).share + shares_of passes.items }
 {
-    let mut left = feeders;
-    while let Some(feeder) = left.pop() {
-        let Feeder {
+    let mut left = passes;
+    while let Some(own) = left.pop() {
+        let ClientPass {
             client: _,
             pass: other,
-        } = feeder;
+        } = own;
         table.join(pass, other);
     }
 }

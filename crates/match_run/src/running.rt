@@ -3,13 +3,13 @@ ghost use denote.Param.Send.{IsSync};
 ghost use Rattle.drill_words.specs.Scripts.{plays_of};
 ghost use Rattle.frame_table.specs.Calls.{view_of, standing};
 ghost use Rattle.match_run.specs.Local.{IsAll, IsFilled, script_column, frames_of, world_of};
-ghost use Rattle.match_run.specs.Passes.{IsLocalPass, KnowsAllSeen, IsFeeder, IsStepped};
+ghost use Rattle.match_run.specs.Passes.{IsLocalPass, KnowsAllSeen, IsClientPass, IsStepped};
 ghost use Rattle.match_run.specs.Passes.{shares_of};
 
-use crate::feeder::Feeder;
-use crate::feeding::feed_all;
+use crate::client_pass::ClientPass;
 use crate::local_run::LocalRun;
-use crate::passing::{join_feeders, planned_table, split_feeders};
+use crate::passing::{join_passes, planned_table, split_passes};
+use crate::playing::play_all;
 use crate::ticking::tick_all;
 use base::NoMemory;
 use drill_words::Scripts;
@@ -29,7 +29,7 @@ use std::thread::{Threads, join_mut};
 /// The run has the table that it filled: each column is the client's script, left at its end. Its
 /// pass has the whole share, and has seen and knows each whole column. Its world is the one that
 /// was given, stepped by the frames of these columns, as many as the longest script has. Out of
-/// memory is its one error, also where a feeding thread is out of memory. It returns only if its
+/// memory is its one error, also where the thread of a client is. It returns only if its
 /// threads do.
 pub fn run_local<S: Sim, G: Gate + Sync, R: Threads + Wait + Sync>(
     rt: &R,
@@ -47,39 +47,39 @@ pub fn run_local<S: Sim, G: Gate + Sync, R: Threads + Wait + Sync>(
 {
     let mut sim = sim;
     let (table, mut pass) = planned_table(alloc, scripts)?;
-    let mut feeders = split_feeders(alloc, &table, scripts, &mut pass)?;
-    play(
+    let mut passes = split_passes(alloc, &table, scripts, &mut pass)?;
+    run_threads(
         rt,
         &table,
         scripts,
         gate,
-        feeders.as_mut_slice(),
+        passes.as_mut_slice(),
         &mut pass,
         &mut sim,
     )?;
-    join_feeders(&table, scripts, &mut pass, feeders);
+    join_passes(&table, scripts, &mut pass, passes);
     Ok(LocalRun { sim, table, pass })
 }
 
-/// Feeds all columns, and ticks all frames beside it.
-fn play<S: Sim, G: Gate + Sync, R: Threads + Wait + Sync>(
+/// Plays all scripts, and ticks all frames beside it.
+fn run_threads<S: Sim, G: Gate + Sync, R: Threads + Wait + Sync>(
     rt: &R,
     table: &FrameTable,
     scripts: &Scripts,
     gate: &G,
-    feeders: &mut [Feeder],
+    passes: &mut [ClientPass],
     pass: &mut Pass,
     sim: &mut S,
 ) -> Result<(), NoMemory>
     requires pass { IsLocalPass scripts.now table.now pass.old }
     requires knows { KnowsAllSeen scripts.now pass.old }
-    requires feeders { All (λ f. IsFeeder scripts.now table.now f) feeders.old }
+    requires passes { All (λ f. IsClientPass scripts.now table.now f) passes.old }
     requires clients { S.clients_of sim.old ≡ length scripts.now }
     requires fresh { S.steps sim.old ≡ 0 }
     ensures pass { IsLocalPass scripts.now table.now pass.new }
     ensures share { (view_of pass.new).share ≡ (view_of pass.old).share }
-    ensures feeders { All (λ f. IsFeeder scripts.now table.now f) feeders.new }
-    ensures shares { shares_of feeders.new ≡ shares_of feeders.old }
+    ensures passes { All (λ f. IsClientPass scripts.now table.now f) passes.new }
+    ensures shares { shares_of passes.new ≡ shares_of passes.old }
     ensures all { OnOk result ((c : ℕ) → c < length scripts.now →
         IsAll (standing pass.new c) (script_column (plays_of scripts.now c))) }
     ensures world { OnOk result (IsStepped S.after S.clients_of S.steps scripts.now sim.old sim.new
@@ -87,13 +87,13 @@ fn play<S: Sim, G: Gate + Sync, R: Threads + Wait + Sync>(
 {
     let out_of_memory = AtomicBool::new(false);
     let flag = &out_of_memory;
-    let mut feed = ||
-        requires { IsSync R.row × IsSync G.row × All (λ f. IsFeeder scripts.now table.now f)
-            feeders.now }
-        ensures { All (λ f. IsFeeder scripts.entry.now table.entry.now f) feeders.exit.now ×
-            (shares_of feeders.exit.now ≡ shares_of feeders.entry.now) }
-    { feed_all(rt, table, scripts, gate, flag, feeders) };
+    let mut play = ||
+        requires { IsSync R.row × IsSync G.row × All (λ f. IsClientPass scripts.now table.now f)
+            passes.now }
+        ensures { All (λ f. IsClientPass scripts.entry.now table.entry.now f) passes.exit.now ×
+            (shares_of passes.exit.now ≡ shares_of passes.entry.now) }
+    { play_all(rt, table, scripts, gate, flag, passes) };
     let mut tick = || tick_all(rt, table, scripts, flag, pass, sim);
-    let (_fed, ticked) = join_mut(rt, &mut feed, &mut tick);
+    let (_played, ticked) = join_mut(rt, &mut play, &mut tick);
     ticked
 }

@@ -46,7 +46,7 @@ fn two_clients(rt: HostRuntime) -> Result<(), Fail> {
     Ok(())
 }
 
-/// A single thread that feeds both clients would not pass the gate.
+/// A single thread that plays for both clients would not pass the gate.
 #[test]
 fn each_client_has_a_thread(rt: HostRuntime) -> Result<(), Fail> {
     let gate = HoldGate::new();

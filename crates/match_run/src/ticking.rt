@@ -17,7 +17,7 @@ use std::sync::Wait;
 use std::sync::atomic::{AtomicBool, Ordering};
 use std::thread;
 
-/// Ticks each frame that is ready, until the match is over. It fails only where a feeding thread
+/// Ticks each frame that is ready, until the match is over. It fails only where a client's thread
 /// has raised the flag.
 pub(crate) fn tick_all<S: Sim, R: Wait>(
     rt: &R,

@@ -20,3 +20,6 @@ pub use acts::{go_on, pop_head, set_head};
 pub use game_tick::Moving;
 pub use leg::advance_leg;
 pub use towards::{go_towards, move_activity, move_step};
+
+#[cfg(test)]
+mod tests;

@@ -1,7 +1,7 @@
 -- Entries that are read client by client.
-use Rattle.std.specs.Prelude.{◌≡◌, ℕ, suc, ◌+◌, ◌<◌, ◌≤◌, ◌&&◌, not, Bool, true, false}
+use Rattle.std.specs.Prelude.{◌≡◌, ℕ, suc, ◌+◌, ◌<◌, ◌≤◌, Bool, true, false}
 use Rattle.std.specs.Prelude.{List, [], ◌∷◌, ◌++◌, length, take, drop, replicate, Ok, Err}
-use Rattle.std.specs.List.{AllByRecursion, flat_map}
+use Rattle.std.specs.List.{AllByRecursion}
 use Rattle.std.proofs.Common.{refl, sym, ap, subst, ◌∙◌, arith, append_assoc, get_or}
 use Rattle.std.proofs.lemmas.List.{append-nil, drop_more, drop_all, take_more, take_all}
 use Rattle.wire_bytes.specs.Field.{field_bytes}
@@ -9,7 +9,6 @@ use Rattle.wire_bytes.specs.ReadLemmas.{written_is_read}
 use Rattle.game_orders.specs.declared.order.Order.{Order}
 use Rattle.game_orders.specs.declared.entry.Entry.{Entry}
 use Rattle.game_orders.specs.declared.entry.Entry.TheVariants.{Play, Leave}
-use Rattle.game_orders.specs.Entry.{is_play}
 use Rattle.game_orders.specs.OrderBytes.{orders_bytes}
 use Rattle.replay_file.specs.declared.limits.TheConstants.{GREATEST_TAG}
 use Rattle.replay_file.specs.declared.part_fault.PartFault.{PartFault}

@@ -7,7 +7,6 @@ use Rattle.base.specs.Steps.{◌>>=◌}
 use Rattle.wire_bytes.specs.Read.{number_at}
 use Rattle.replay_file.specs.declared.header.Header.{Header}
 use Rattle.replay_file.specs.declared.part.Part.{Part}
-use Rattle.replay_file.specs.declared.part_fault.PartFault.{PartFault}
 use Rattle.replay_file.specs.declared.part_fault.PartFault.TheVariants.{Short, Bad}
 use Rattle.replay_file.specs.declared.replay.Replay.{Replay}
 use Rattle.replay_file.specs.declared.replay_fault.ReplayFault.{ReplayFault}

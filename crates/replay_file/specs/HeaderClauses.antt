@@ -1,5 +1,5 @@
 -- What the bytes that were read for a header are.
-use Rattle.std.specs.Prelude.{◌≡◌, ◌≤◌, ◌<◌, ◌^◌, ℕ, true, List, ◌++◌}
+use Rattle.std.specs.Prelude.{◌≡◌, ◌<◌, ◌^◌, ℕ, true, List, ◌++◌}
 use Rattle.replay_file.specs.declared.header.Header.{Header}
 use Rattle.replay_file.specs.PartRules.{is_known}
 use Rattle.replay_file.specs.FirstFault.{is_client_count}

@@ -17,5 +17,6 @@ pub mod RuleLaws
 pub mod RuleLemmas
 pub mod SoFarLemmas
 pub mod StoreLemmas
+pub mod ValidLemmas
 pub mod ValidReplay
 pub mod WholeLemmas

@@ -1,17 +1,16 @@
 -- A migrated replay is valid, and has the same frames and marks at the same places.
-use Rattle.std.specs.Prelude.{◌≡◌, ℕ, ◌+◌, ◌≤◌, ◌<◌, ◌==◌, Bool, true, false, ◌||◌}
-use Rattle.std.specs.Prelude.{if◌then◌else◌, List, [], ◌∷◌, map}
+use Rattle.std.specs.Prelude.{◌≡◌, ℕ, ◌+◌}
+use Rattle.std.specs.Prelude.{List, [], ◌∷◌, map}
 use Rattle.std.proofs.Common.{refl, ap, arith}
 use Rattle.game_orders.specs.declared.entry.Entry.{Entry}
-use Rattle.game_orders.specs.declared.limits.TheConstants.{MAX_CLIENTS}
-use Rattle.replay_file.specs.declared.limits.TheConstants.{FIRST_VERSION, VERSION}
+use Rattle.replay_file.specs.declared.limits.TheConstants.{VERSION}
 use Rattle.replay_file.specs.declared.part.Part.{Part}
 use Rattle.replay_file.specs.declared.part.Part.TheVariants.{Frame, Mark}
 use Rattle.replay_file.specs.declared.replay.Replay.{Replay}
 use Rattle.replay_file.specs.declared.standing.Standing.{Standing}
 use Rattle.replay_file.specs.EntriesLemmas.{entries_known}
 use Rattle.replay_file.specs.Frames.{frames_of, marks_after, marks_of, marked_anew, migrated}
-use Rattle.replay_file.specs.PartRules.{after_part, most_clients, opening, EachMayFollow}
+use Rattle.replay_file.specs.PartRules.{after_part, opening, EachMayFollow}
 use Rattle.replay_file.specs.SoFarLemmas.{few_frames}
 use Rattle.replay_file.specs.ValidReplay.{IsValidReplay}
 use Rattle.replay_file.specs.WholeLemmas.{few_clients}

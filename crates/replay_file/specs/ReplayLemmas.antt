@@ -1,20 +1,17 @@
 -- Valid replays are read back, and bytes have one reading.
-use Rattle.std.specs.Prelude.{◌≡◌, ◌⊎◌, ℕ, ◌+◌, ◌-◌, ◌<◌, ◌≤◌, nat_lt, Bool, true, false, not}
-use Rattle.std.specs.Prelude.{List, [], ◌∷◌, ◌++◌, length, Option, Some, None, Result, Ok, Err}
-use Rattle.std.specs.List.{AllByRecursion, list_any, fold}
+use Rattle.std.specs.Prelude.{◌≡◌, ℕ, false}
+use Rattle.std.specs.Prelude.{List, [], ◌∷◌, ◌++◌, Option, Some, None, Ok}
+use Rattle.std.specs.List.{AllByRecursion}
 use Rattle.std.proofs.Common.{refl, sym, ap, subst, ◌∙◌, arith, append_assoc}
 use Rattle.std.proofs.lemmas.Bool.{lt-ltb}
 use Rattle.std.proofs.lemmas.List.{append-nil}
 use Rattle.wire_bytes.specs.Field.{field_bytes}
 use Rattle.wire_bytes.specs.ReadLemmas.{written_is_read}
 use Rattle.game_orders.specs.declared.entry.Entry.{Entry}
-use Rattle.game_orders.specs.Entry.{is_play}
 use Rattle.replay_file.specs.declared.part.Part.{Part}
 use Rattle.replay_file.specs.declared.part.Part.TheVariants.{Frame, Mark}
-use Rattle.replay_file.specs.declared.part_fault.PartFault.{PartFault}
 use Rattle.replay_file.specs.declared.standing.Standing.{Standing}
 use Rattle.replay_file.specs.EntriesLemmas.{entries_again}
-use Rattle.replay_file.specs.OrdersLemmas.{all_added}
 use Rattle.replay_file.specs.PartBytes.{part_bytes, parts_bytes, entries_bytes, end_bytes}
 use Rattle.replay_file.specs.PartBytes.{FitsEntry, FitsPart}
 use Rattle.replay_file.specs.PartReading.{PartRead, frame_in, mark_in, part_in, next_in, some_part}

@@ -1,8 +1,8 @@
 -- The rules part by part are the rules of the whole.
-use Rattle.std.specs.Prelude.{◌≡◌, ℕ, zero, suc, ◌+◌, ◌≤◌, ◌<◌, Bool, true, false, not, ◌&&◌}
-use Rattle.std.specs.Prelude.{List, [], ◌∷◌, ◌++◌, length, map, slice_get, Option, Some, None}
+use Rattle.std.specs.Prelude.{◌≡◌, ℕ, zero, suc, ◌+◌, ◌≤◌, Bool, true, false, not}
+use Rattle.std.specs.Prelude.{List, [], ◌∷◌, ◌++◌, length, slice_get, Some}
 use Rattle.std.specs.Prelude.{replicate}
-use Rattle.std.specs.List.{AllByRecursion, list_any}
+use Rattle.std.specs.List.{AllByRecursion}
 use Rattle.std.proofs.Common.{refl, sym, ap, subst, ◌∙◌, arith}
 use Rattle.std.proofs.lemmas.List.{length-map, length-replicate}
 use Rattle.game_orders.specs.declared.entry.Entry.{Entry}
@@ -14,8 +14,8 @@ use Rattle.replay_file.specs.declared.standing.Standing.{Standing}
 use Rattle.replay_file.specs.EntriesLemmas.{stay_length}
 use Rattle.replay_file.specs.Frames.{frames_of}
 use Rattle.replay_file.specs.PartRules.{after_part, departed_in, most_frames, opening, greatest_tag}
-use Rattle.replay_file.specs.PartRules.{EntryFollows, StayDeparted, FrameMayFollow, MayFollow}
-use Rattle.replay_file.specs.PartRules.{EachMayFollow, HasTagsUpTo}
+use Rattle.replay_file.specs.PartRules.{EntryFollows, StayDeparted}
+use Rattle.replay_file.specs.PartRules.{EachMayFollow}
 use Rattle.replay_file.specs.RuleLaws.{StayedAway, DeparturesStay, IsFrameOf, MarksApart, ObeysRules}
 use Rattle.replay_file.specs.RuleLaws.{HasKnownOrders}
 
@@ -245,5 +245,3 @@ pub orders_known_of : (version clients : ℕ) (parts : List Part) →
     EachMayFollow version (opening clients) parts →
     AllByRecursion (HasKnownOrders (greatest_tag version)) parts
 orders_known_of version clients parts follow = known_of_follow version (opening clients) parts follow
-
-pub ruleset rule_laws = (rules_obeyed, orders_known_of, parts_follow)

@@ -1,13 +1,11 @@
 -- The parts of a replay read one by one.
-use Rattle.std.specs.Prelude.{◌≡◌, ℕ, ◌+◌, ◌-◌, ◌*◌, ◌<◌, ◌≤◌, ◌^◌, ◌==◌, Bool, true, false}
+use Rattle.std.specs.Prelude.{◌≡◌, ℕ, ◌-◌, ◌<◌, ◌≤◌, ◌==◌, Bool, true, false}
 use Rattle.std.specs.Prelude.{if◌then◌else◌, List, [], ◌∷◌, ◌++◌, length, Option, Some, None}
-use Rattle.std.specs.Prelude.{Result, Ok, Err}
-use Rattle.std.specs.List.{AllByRecursion}
-use Rattle.std.proofs.Common.{refl, sym, ap, subst, ◌∙◌, arith, append_assoc}
+use Rattle.std.specs.Prelude.{Ok}
+use Rattle.std.proofs.Common.{refl, sym, ap, subst, ◌∙◌, arith}
 use Rattle.std.proofs.lemmas.List.{append-nil, length-append}
 use Rattle.wire_bytes.specs.Field.{field_bytes}
 use Rattle.wire_bytes.specs.FieldLemmas.{field_length}
-use Rattle.game_orders.specs.declared.entry.Entry.{Entry}
 use Rattle.game_orders.specs.declared.limits.TheConstants.{MAX_FRAMES}
 use Rattle.replay_file.specs.declared.limits.TheConstants.{FIRST_VERSION}
 use Rattle.replay_file.specs.declared.part.Part.{Part}
@@ -19,8 +17,8 @@ use Rattle.replay_file.specs.FirstFault.{fault_at, IsFaultInParts}
 use Rattle.replay_file.specs.OrdersLemmas.{all_added}
 use Rattle.replay_file.specs.PartBytes.{part_bytes, parts_bytes, entries_bytes, end_bytes, FitsPart}
 use Rattle.replay_file.specs.PartReading.{PartRead, next_in}
-use Rattle.replay_file.specs.PartRules.{opening, after_part, after_parts, most_frames}
-use Rattle.replay_file.specs.PartRules.{MayFollow, EachMayFollow}
+use Rattle.replay_file.specs.PartRules.{opening, after_part, most_frames}
+use Rattle.replay_file.specs.PartRules.{MayFollow}
 use Rattle.replay_file.specs.ReadClauses.{ReadSoFar, SpellsParts, SpellsNext}
 use Rattle.replay_file.specs.ReplayLemmas.{follow_more, parts_spelled, standing_more}
 

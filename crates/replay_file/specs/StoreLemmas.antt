@@ -1,9 +1,9 @@
 -- Stored parts are read back.
-use Rattle.std.specs.Prelude.{◌≡◌, ℕ, zero, suc, ◌+◌, ◌<◌, ◌≤◌, nat_lt, Bool, true, false}
+use Rattle.std.specs.Prelude.{◌≡◌, ℕ, zero, suc, ◌<◌, ◌≤◌, false}
 use Rattle.std.specs.Prelude.{List, [], ◌∷◌, ◌++◌, length, replicate, Result, Ok, Err, OnOk, OnErr}
-use Rattle.std.specs.List.{AllByRecursion, flat_map}
+use Rattle.std.specs.List.{AllByRecursion}
 use Rattle.std.proofs.Common.{refl, sym, ap, subst, ◌∙◌, arith, append_assoc}
-use Rattle.std.proofs.lemmas.Bool.{le-ltb, lt-ltb}
+use Rattle.std.proofs.lemmas.Bool.{le-ltb}
 use Rattle.std.proofs.lemmas.List.{append-nil, length-append}
 use Rattle.wire_bytes.specs.Field.{field_bytes}
 use Rattle.wire_bytes.specs.FieldLemmas.{field_length}
@@ -15,12 +15,12 @@ use Rattle.replay_file.specs.declared.limits.TheConstants.{GREATEST_TAG}
 use Rattle.replay_file.specs.declared.part.Part.{Part}
 use Rattle.replay_file.specs.declared.part.Part.TheVariants.{Frame, Mark}
 use Rattle.replay_file.specs.declared.part_fault.PartFault.{PartFault}
-use Rattle.replay_file.specs.declared.part_fault.PartFault.TheVariants.{Short, Bad}
+use Rattle.replay_file.specs.declared.part_fault.PartFault.TheVariants.{Short}
 use Rattle.replay_file.specs.EntriesLemmas.{entries_again, entries_known, nobody_stays}
 use Rattle.replay_file.specs.OrdersLemmas.{all_added}
-use Rattle.replay_file.specs.PartReading.{PartRead, entries_after, mark_in}
+use Rattle.replay_file.specs.PartReading.{PartRead, mark_in}
 use Rattle.replay_file.specs.PartStore.{stored_bytes, all_stored, counted_frame, stored_at}
-use Rattle.replay_file.specs.PartStore.{onto_parts, parts_up_to, parts_in, IsSmall, IsStore}
+use Rattle.replay_file.specs.PartStore.{parts_up_to, parts_in, IsSmall, IsStore}
 use Rattle.replay_file.specs.PartBytes.{entries_bytes, FitsEntry, FitsPart}
 
 -- Parts in a row, and what follows them.

@@ -1,21 +1,20 @@
 -- Whole replays: a valid one is read back, and bytes have one answer.
-use Rattle.std.specs.Prelude.{◌≡◌, ◌⊎◌, ℕ, ◌+◌, ◌<◌, ◌≤◌, ◌^◌, ◌==◌, nat_le, Bool, true, false, ◌&&◌}
-use Rattle.std.specs.Prelude.{if◌then◌else◌, not, List, [], ◌∷◌, ◌++◌, length, Option, Some, None}
+use Rattle.std.specs.Prelude.{◌≡◌, ◌⊎◌, ℕ, ◌<◌, ◌≤◌, ◌^◌, ◌==◌, nat_le, Bool, true, false, ◌&&◌}
+use Rattle.std.specs.Prelude.{if◌then◌else◌, List, [], ◌++◌, length, Option, Some, None}
 use Rattle.std.specs.Prelude.{Result, Ok, Err}
 use Rattle.std.specs.List.{AllByRecursion}
 use Rattle.std.proofs.Common.{refl, sym, ap, subst, ◌∙◌, arith, append_assoc, inl, inr}
-use Rattle.std.proofs.lemmas.Bool.{le-ltb}
 use Rattle.std.proofs.lemmas.Bool.Decides.{nat_tests}
 use Rattle.std.proofs.lemmas.List.{append-nil, length-append}
 use Rattle.wire_bytes.specs.Field.{field_bytes}
 use Rattle.wire_bytes.specs.ReadLemmas.{written_is_read}
 use Rattle.game_orders.specs.declared.limits.TheConstants.{MAX_CLIENTS}
 use Rattle.replay_file.specs.declared.header.Header.{Header}
-use Rattle.replay_file.specs.declared.limits.TheConstants.{FIRST_VERSION, MAGIC, VERSION_AT, RULES_AT}
+use Rattle.replay_file.specs.declared.limits.TheConstants.{FIRST_VERSION, MAGIC}
 use Rattle.replay_file.specs.declared.part.Part.{Part}
 use Rattle.replay_file.specs.declared.replay.Replay.{Replay}
 use Rattle.replay_file.specs.declared.replay_fault.ReplayFault.{ReplayFault}
-use Rattle.replay_file.specs.declared.replay_fault.ReplayFault.TheVariants.{BadMagic, Torn, NoMemory}
+use Rattle.replay_file.specs.declared.replay_fault.ReplayFault.TheVariants.{NoMemory}
 use Rattle.replay_file.specs.declared.standing.Standing.{Standing}
 use Rattle.replay_file.specs.FirstFault.{HeaderRead, version_at, is_client_count, header_at, fault_at}
 use Rattle.replay_file.specs.FirstFault.{IsFaultInParts, IsFaultAfter, IsFirstFault, IsReadFault}

@@ -5,26 +5,23 @@ ghost use Rattle.replay_file.specs.declared.replay_fault.ReplayFault.{ReplayFaul
 ghost use Rattle.replay_file.specs.FirstFault.{IsFirstFault, Spells};
 ghost use Rattle.replay_file.specs.Frames.{frames_of, marks_of, migrated};
 ghost use Rattle.replay_file.specs.MigratedLemmas.{anew};
-ghost use Rattle.replay_file.specs.PartRules.{EachMayFollow, greatest_tag, most_frames, opening};
+ghost use Rattle.replay_file.specs.PartRules.{greatest_tag, is_known, most_clients, most_frames};
 ghost use Rattle.replay_file.specs.RuleLaws.{HasKnownOrders, ObeysRules};
 ghost use Rattle.replay_file.specs.ValidReplay.{IsValidReplay};
 
-/// A law of the rules: parts of which each may follow those before it are, as a whole, at most so
-/// many frames, each with one entry for each client and a play, in which who has departed stays
-/// departed, and marks of which none stands directly after another, and all orders are of the
-/// version; and such parts may follow one another. The call does nothing.
-#[tactic(auto, using(crate::specs::RuleLemmas::rule_laws))]
+/// A law of the rules: a valid replay has, as a whole, at most so many frames, each with one entry
+/// for each client and a play, in which who has departed stays departed, and marks of which none
+/// stands directly after another, and all its orders are of its version; and a replay of a known
+/// version and so many clients of which this holds is valid. The call does nothing.
+#[tactic(auto, using(crate::specs::ValidLemmas::rule_laws))]
 pub fn the_rules_are_these()
-    ensures whole { (version clients : ℕ) (r : Replay) →
-        EachMayFollow version (opening clients) r.parts →
-        ObeysRules clients (most_frames version) r.parts }
-    ensures orders { (version clients : ℕ) (r : Replay) →
-        EachMayFollow version (opening clients) r.parts →
-        AllByRecursion (HasKnownOrders (greatest_tag version)) r.parts }
-    ensures back { (version clients : ℕ) (r : Replay) →
-        ObeysRules clients (most_frames version) r.parts →
-        AllByRecursion (HasKnownOrders (greatest_tag version)) r.parts →
-        EachMayFollow version (opening clients) r.parts }
+    ensures whole { (r : Replay) → IsValidReplay r →
+        ObeysRules r.clients (most_frames r.version) r.parts }
+    ensures orders { (r : Replay) → IsValidReplay r →
+        AllByRecursion (HasKnownOrders (greatest_tag r.version)) r.parts }
+    ensures back { (r : Replay) → is_known r.version ≡ true → 1 ≤ r.clients →
+        r.clients ≤ most_clients r.version → ObeysRules r.clients (most_frames r.version) r.parts →
+        AllByRecursion (HasKnownOrders (greatest_tag r.version)) r.parts → IsValidReplay r }
 {}
 
 /// A law of replays as bytes: bytes spell at most one replay. The call does nothing.

@@ -1,3 +1,5 @@
+use game_orders::MAX_CLIENTS;
+
 /// The first four bytes of a replay, `LSRP`, as a number, the lowest byte first.
 pub(crate) const MAGIC: u32 = 0x5052_534c;
 
@@ -5,7 +7,7 @@ pub(crate) const MAGIC: u32 = 0x5052_534c;
 pub const VERSION: u16 = 2;
 
 /// The first version, which is still read: with fewer clients and frames, without the order Pace,
-/// and with marks of [`FIRST_VERSION`]'s own hash, which has no pace.
+/// and with marks by a hash of its own, without the pace.
 pub const FIRST_VERSION: u16 = 1;
 
 /// The greatest number of clients in the first version.
@@ -30,4 +32,4 @@ pub(crate) const RULES_AT: u64 = 6;
 pub(crate) const CLIENTS_AT: u64 = 18;
 
 /// The room for one flag for each client.
-pub(crate) const CLIENT_ROOM: usize = 16;
+pub(crate) const CLIENT_ROOM: usize = MAX_CLIENTS as usize;

@@ -1,4 +1,5 @@
 ghost use Rattle.std.specs.Prelude.{◌≡◌, []};
+ghost use Rattle.replay_file.specs.declared.limits.TheConstants.{VERSION};
 
 use crate::limits::VERSION;
 use crate::parts::Parts;
@@ -23,7 +24,7 @@ impl Replay {
     /// A replay of the version that is written, without parts.
     pub fn new(alloc: Global, rules: u64, seed: u32, clients: u8) -> Replay
         ensures { result ≡ record {
-          version = 2;
+          version = VERSION;
           rules = rules;
           seed = seed;
           clients = clients;

@@ -1,5 +1,6 @@
 ghost use Rattle.std.specs.Prelude.{◌≡◌};
 
+use crate::limits::{RULES_AT, VERSION_AT};
 use base::NoMemory;
 use thiserror::Error;
 
@@ -67,11 +68,11 @@ impl ReplayFault {
     {
         match self {
             ReplayFault::BadMagic => Some(0),
-            ReplayFault::BadVersion => Some(4),
+            ReplayFault::BadVersion => Some(VERSION_AT),
             ReplayFault::Torn { at }
             | ReplayFault::BadRecord { at }
             | ReplayFault::TrailingBytes { at } => Some(*at),
-            ReplayFault::OtherRules { .. } => Some(6),
+            ReplayFault::OtherRules { .. } => Some(RULES_AT),
             ReplayFault::NoMemory => None,
         }
     }

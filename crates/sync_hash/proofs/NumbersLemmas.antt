@@ -1,15 +1,14 @@
 -- The numbers of actors by rising id, and what a change at a place makes of them.
 use Rattle.std.proofs.Common.{◌≡◌, ℕ, zero, suc, ◌+◌, ◌<◌, ◌≤◌, ◌==◌, Bool, true, false, List, [], ◌∷◌, length}
-use Rattle.std.proofs.Common.{refl, sym, ap, subst, ◌∙◌, ◌⊎◌, inl, inr, get_or, set, arith, if◌then◌else◌, slice_get, Some, None}
-use Rattle.std.specs.List.{insert, remove, prefix_len, sum_by}
+use Rattle.std.proofs.Common.{refl, sym, ap, subst, ◌∙◌, ◌⊎◌, inl, inr, get_or, set, arith}
+use Rattle.std.specs.List.{insert, remove}
 use Rattle.std.specs.List.Sorted.{IsNonDecreasingBy}
 use Rattle.std.specs.Prelude.{nat_lt}
 use Rattle.std.proofs.lemmas.List.Sums.{sum_by-cons}
-use Rattle.std.proofs.lemmas.List.Edits.{length-insert}
 use Rattle.game_model.specs.declared.limits.TheConstants.{MAX_ACTORS}
 use Rattle.std.proofs.lemmas.Bool.Decides.{nat_tests}
 use Rattle.sync_hash.specs.declared.actor_number.ActorNumber.{ActorNumber}
-use Rattle.sync_hash.specs.Kept.{RiseFrom, has_id, is_at, is_of, number_in, numbers_sum, place_for}
+use Rattle.sync_hash.specs.Kept.{RiseFrom, has_id, is_at, number_in, numbers_sum, place_for}
 use Rattle.sync_hash.specs.Kept.{with_number, without_number}
 
 -- Ids that rise from a number on rise from a lower one on.

@@ -3,7 +3,7 @@ use Rattle.std.proofs.Common.{◌≡◌, ℕ, ◌+◌, ◌%◌, ◌^◌, length,
 use Rattle.game_model.specs.declared.world.World.{World}
 use Rattle.game_model.specs.World.{head_of}
 use Rattle.sync_hash.specs.Fnv.{fnv_of}
-use Rattle.sync_hash.specs.HashedBytes.{header_bytes, header_bytes_1, parts_after_header}
+use Rattle.sync_hash.specs.HashedBytes.{header_bytes, header_bytes_1}
 use Rattle.sync_hash.specs.KeptLemmas.{parts_sum}
 use Rattle.sync_hash.specs.WorldHash.{hash_of, hash_of_1}
 use Rattle.sync_hash.specs.Kept.{parts_number}

@@ -1,6 +1,6 @@
 -- The bytes of a world that are hashed: a list of bytes for the header, for each actor, and for each
 -- cell with ore.
-use Rattle.std.specs.Prelude.{ℕ, ◌+◌, ◌*◌, ◌/◌, ◌%◌, ◌==◌, Bool, if◌then◌else◌, List, [], ◌∷◌, ◌++◌}
+use Rattle.std.specs.Prelude.{ℕ, ◌+◌, ◌/◌, ◌%◌, ◌==◌, Bool, if◌then◌else◌, List, [], ◌∷◌, ◌++◌}
 use Rattle.std.specs.Prelude.{length, map, Option, Some, None}
 use Rattle.std.specs.List.{zip, flat_map}
 use Rattle.wire_bytes.specs.Field.{field_bytes}
@@ -12,7 +12,6 @@ use Rattle.game_model.specs.declared.actor.Leg.{Leg}
 use Rattle.game_model.specs.declared.builds.Build.{Build}
 use Rattle.game_model.specs.declared.world.Head.{Head}
 use Rattle.game_model.specs.declared.world.World.{World}
-use Rattle.game_model.specs.Grid.{Grid}
 use Rattle.game_model.specs.World.{head_of}
 
 -- A departure flag as a byte.

@@ -1,5 +1,5 @@
 -- What a hasher keeps: a number for each actor and for each cell.
-use Rattle.std.specs.Prelude.{◌≡◌, ℕ, ◌+◌, ◌-◌, ◌*◌, ◌/◌, ◌%◌, ◌^◌, ◌==◌, ◌≤◌, nat_lt, min, Bool, true}
+use Rattle.std.specs.Prelude.{◌≡◌, ℕ, ◌+◌, ◌-◌, ◌*◌, ◌%◌, ◌^◌, ◌==◌, ◌≤◌, nat_lt, min, Bool}
 use Rattle.std.specs.Prelude.{false, not, if◌then◌else◌, List, [], ◌∷◌, fold, length, map, Option, Some, None, slice_get}
 use Rattle.std.specs.List.{filter, sum_by, list_any, prefix_len}
 use Rattle.world_units.specs.declared.cell.CPos.{CPos}

@@ -1,16 +1,14 @@
 -- What is kept of a world stays that of the world as it changes, and gives its hash.
-use Rattle.std.proofs.Common.{◌≡◌, ℕ, zero, suc, ◌+◌, ◌*◌, ◌/◌, ◌%◌, ◌^◌, ◌<◌, ◌≤◌, ◌==◌, Bool, true, false, List}
-use Rattle.std.proofs.Common.{[], ◌∷◌, ◌++◌, length, map, refl, sym, ap, ap₂, subst, ◌∙◌, arith, if◌then◌else◌}
+use Rattle.std.proofs.Common.{◌≡◌, ℕ, zero, suc, ◌+◌, ◌%◌, ◌^◌, ◌<◌, ◌==◌, Bool, true, false, List}
+use Rattle.std.proofs.Common.{[], ◌∷◌, ◌++◌, length, map, refl, sym, ap, ap₂, ◌∙◌, arith}
 use Rattle.std.specs.Prelude.{nat_lt, not, slice_set}
 use Rattle.std.specs.List.{All, AllPairs, filter, sum_by}
 use Rattle.std.proofs.lemmas.Bool.Decides.{nat_tests}
 use Rattle.std.proofs.lemmas.List.{length-map}
 use Rattle.std.proofs.lemmas.Nat.{mod-mul-add, div-mul-add}
-use Rattle.std.proofs.lemmas.List.Elements.{All-head, All-tail, All-cons}
+use Rattle.std.proofs.lemmas.List.Elements.{All-head, All-tail}
 use Rattle.std.proofs.lemmas.List.Sums.{sum_by-cons, sum_by-append}
 use Rattle.game_model.specs.declared.actor.Actor.{Actor}
-use Rattle.game_model.specs.declared.limits.TheConstants.{MAX_ACTORS}
-use Rattle.game_model.specs.declared.world.Head.{Head}
 use Rattle.game_model.specs.declared.world.World.{World}
 use Rattle.game_model.specs.StartLemmas.{pairs_head, pairs_tail}
 use Rattle.game_model.specs.Grid.{place_of}
@@ -22,7 +20,7 @@ use Rattle.sync_hash.specs.HashedBytes.{actor_bytes, cell_at, header_bytes, ore_
 use Rattle.sync_hash.specs.HashedBytes.{parts_after_header}
 use Rattle.sync_hash.specs.WorldHash.{hash_of}
 use Rattle.sync_hash.specs.Kept.{Kept, IsKeptOf, actor_number, cell_number, cell_numbers, hash_with, kept_of}
-use Rattle.sync_hash.specs.Kept.{numbered, numbers_of, numbers_sum, sum_of, with_number, with_numbers}
+use Rattle.sync_hash.specs.Kept.{numbered, numbers_of, numbers_sum, with_number, with_numbers}
 use Rattle.sync_hash.specs.Kept.{without_number}
 
 -- A number below those of the actors that follow stays the first.

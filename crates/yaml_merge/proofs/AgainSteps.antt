@@ -1,6 +1,6 @@
 -- An `Inherits` directly after one that names the same parent changes nothing.
-use Rattle.std.proofs.Common.{◌≡◌, ℕ, zero, suc, ◌+◌, ◌-◌, ◌<◌, ◌≤◌, Bool, true, false, cond, ltb, eqb}
-use Rattle.std.proofs.Common.{List, [], ◌∷◌, ◌++◌, refl, sym, ap, ◌∙◌, arith, subst, Option, Some}
+use Rattle.std.proofs.Common.{◌≡◌, ℕ, zero, suc, ◌-◌, ◌≤◌, Bool, true, false, cond, ltb, eqb}
+use Rattle.std.proofs.Common.{List, [], ◌∷◌, ◌++◌, refl, sym, ap, ◌∙◌, subst, Option, Some}
 use Rattle.std.proofs.Common.{None, Ok, Err, Bor}
 use Rattle.std.proofs.lemmas.Bool.{ltb-false}
 use Rattle.std.specs.Result.{IfOk}
@@ -10,14 +10,13 @@ use Rattle.yaml_lines.specs.declared.forest.Forest.TheViews.{out-Node}
 use Rattle.yaml_lines.specs.declared.place.Place.{Place}
 use Rattle.yaml_lines.specs.declared.TheConstants.{MAX_LEVELS}
 use Rattle.yaml_lines.specs.Trees.{Trees, none, trees_of}
-use Rattle.yaml_merge.specs.declared.fault.MergeFault.{MergeFault}
 use Rattle.yaml_merge.specs.declared.fault.MergeFault.TheVariants.{Cycle, TooLarge, TooDeep}
 use Rattle.yaml_merge.specs.declared.resolved.Resolved.{Resolved}
 use Rattle.yaml_merge.specs.declared.TheConstants.{MAX_LIST_NODES}
 use Rattle.yaml_merge.specs.Kept.{IsClear, Repeats}
 use Rattle.yaml_merge.specs.Merging.{count, levels, merged_into}
 use Rattle.yaml_merge.specs.Resolving.{Outcome, inherits, parent_of, in_path, within, inherited}
-use Rattle.yaml_merge.specs.Resolving.{inherit_step, resolved_list, parents, taken_in}
+use Rattle.yaml_merge.specs.Resolving.{inherit_step, parents, taken_in}
 use Rattle.yaml_merge.specs.Settled.{IsSettled}
 use Rattle.yaml_merge.proofs.KeptSteps.{took_inherits}
 use Rattle.yaml_merge.proofs.SettledSteps.{resolved_list_settled}

@@ -1,15 +1,14 @@
 -- Lists in which each key stands once, at all depths.
 use Rattle.std.proofs.Common.{◌≡◌, ℕ, ◌+◌, ◌<◌, ◌≤◌, arith, true, false, List, [], ◌∷◌, length, take, drop, get_or}
 use Rattle.std.proofs.Common.{refl, sym, ap, ◌∙◌, subst, Option, Some, None, cond, map}
-use Rattle.std.specs.Prelude.{is_some, MatchOption}
+use Rattle.std.specs.Prelude.{is_some}
 use Rattle.std.specs.Str.{bytes_eq}
 use Rattle.yaml_lines.specs.declared.forest.Node.{Node}
 use Rattle.yaml_lines.specs.declared.forest.Forest.{Forest}
-use Rattle.yaml_lines.specs.declared.forest.Forest.TheViews.{out-Node, out-Forest}
+use Rattle.yaml_lines.specs.declared.forest.Forest.TheViews.{out-Node}
 use Rattle.yaml_lines.specs.declared.place.Place.{Place}
 use Rattle.yaml_lines.specs.Trees.{Trees, none, more, trees_of, trees_of_nodes}
-use Rattle.yaml_lines.proofs.TreeSteps.{trees_out}
-use Rattle.yaml_merge.specs.Places.{Stands, place_in}
+use Rattle.yaml_merge.specs.Places.{place_in}
 use Rattle.yaml_merge.specs.Merging.{Lacks, merged_into, merged_files}
 use Rattle.yaml_merge.specs.Resolving.{added}
 use Rattle.yaml_merge.specs.Laws.{followed_by}

@@ -1,5 +1,5 @@
 -- What a change of a list that grows leaves whole.
-use Rattle.std.proofs.Common.{◌≡◌, ℕ, zero, suc, ◌+◌, ◌-◌, ◌<◌, ◌≤◌, true, false, cond, List, [], ◌∷◌, ◌++◌}
+use Rattle.std.proofs.Common.{◌≡◌, ℕ, zero, suc, ◌+◌, ◌-◌, ◌<◌, true, false, cond, List, [], ◌∷◌, ◌++◌}
 use Rattle.std.proofs.Common.{length, get_or, set, refl, sym, ap, ◌∙◌, arith, subst, Global}
 use Rattle.std.proofs.Common.{Option, Some, None}
 use Rattle.std.specs.HashMap.{HashMap, get}
@@ -10,10 +10,10 @@ use Rattle.yaml_lines.specs.Trees.{Trees, none, more}
 use Rattle.yaml_merge.specs.declared.growing_list.Slot.{Slot}
 use Rattle.yaml_merge.specs.declared.index.Index.{Index}
 use Rattle.yaml_merge.specs.declared.hashers.Hashers.{Hashers}
-use Rattle.yaml_merge.specs.Places.{children_from, emptied}
+use Rattle.yaml_merge.specs.Places.{emptied}
 use Rattle.yaml_merge.specs.Merging.{Lacks, count, children_at, joined, newer_value, without}
 use Rattle.yaml_merge.specs.Resolving.{added}
-use Rattle.yaml_merge.specs.Slots.{standing, holds, LacksKey, StandsAt, IsFound, IsWhole, Finds, Forgets}
+use Rattle.yaml_merge.specs.Slots.{standing, LacksKey, StandsAt, IsFound, IsWhole, Finds, Forgets}
 use Rattle.yaml_merge.specs.Slots.{NoneLeft}
 use Rattle.yaml_merge.proofs.PlaceLaws.{stands_children, emptied_stands, put_joined, added_joined}
 use Rattle.yaml_merge.proofs.PlaceLaws.{without_at, lacks_children, joined_below}

@@ -1,10 +1,9 @@
 -- Removals at the top level, by flags.
 use Rattle.std.proofs.Common.{◌≡◌, ℕ, zero, suc, ◌+◌, ◌<◌, Bool, true, false, cond, List, [], ◌∷◌}
 use Rattle.std.proofs.Common.{◌++◌, length, drop, get_or, set, replicate, refl, sym, ap, ◌∙◌, subst}
-use Rattle.std.proofs.Common.{Some, None, Ok, Err, arith, length-append}
+use Rattle.std.proofs.Common.{Some, None, Err, arith, length-append}
 use Rattle.std.proofs.lemmas.Bool.{cond-true, cond-false}
 use Rattle.std.proofs.lemmas.Slice.Eq.{bytes_eq-Decides}
-use Rattle.std.specs.Str.{bytes_eq}
 use Rattle.base.specs.Steps.{◌>>=◌}
 use Rattle.yaml_lines.specs.declared.forest.Node.{Node}
 use Rattle.yaml_lines.specs.declared.forest.Forest.TheViews.{out-Node}
@@ -15,7 +14,7 @@ use Rattle.yaml_merge.specs.declared.fault.MergeFault.TheVariants.{NothingToRemo
 use Rattle.yaml_merge.specs.Places.{Stands, width}
 use Rattle.yaml_merge.specs.Merging.{Lacks, without, with_first}
 use Rattle.yaml_merge.specs.Removing.{TakesFlag, left_by}
-use Rattle.yaml_merge.specs.Resolving.{Outcome, removes, removed, added, removed_tops}
+use Rattle.yaml_merge.specs.Resolving.{removes, removed, added, removed_tops}
 use Rattle.yaml_merge.specs.Settled.{IsOnce}
 use Rattle.yaml_merge.proofs.NodeSteps.{added_last, nodes_from}
 use Rattle.yaml_merge.proofs.SettledSteps.{either}

@@ -30,22 +30,27 @@ slot kept at = unwrap_or (slice_get kept at) None
 -- No kept node of a height below this has its name in the path.
 abbrev pub IsClear : Trees → List (Option Resolved) → ℕ → List (List ℕ) → Type 0
 IsClear tops kept height path =
-    (at : ℕ) → (held : Resolved) → slot kept at ≡ Some held → held.height < height → in_path (key_from at tops) path ≡ false
+    (at : ℕ) → (held : Resolved) → slot kept at ≡ Some held → held.height < height →
+    in_path (key_from at tops) path ≡ false
 
 -- In every path that is clear and may get `height` more names, the outcome is this list.
-abbrev pub Gives : Trees → List (Option Resolved) → (height : ℕ) → (ℕ → List (List ℕ) → Outcome) → Trees → Type 0
+abbrev pub Gives : Trees → List (Option Resolved) → (height : ℕ) → (ℕ → List (List ℕ) → Outcome) →
+    Trees → Type 0
 Gives tops kept height outcome list =
-    (free : ℕ) → (path : List (List ℕ)) → height ≤ free → IsClear tops kept height path → outcome free path ≡ Ok list
+    (free : ℕ) → (path : List (List ℕ)) → height ≤ free → IsClear tops kept height path →
+    outcome free path ≡ Ok list
 
 -- The resolving of the top-level node at a place, whose name the path gets.
 abbrev pub resolved_at : Trees → ℕ → ℕ → List (List ℕ) → Outcome
 resolved_at tops at free path =
-    resolved_list free (children_from at tops) (MAX_LEVELS - 1) tops (path ++ key_from at tops ∷ []) none
+    resolved_list free (children_from at tops) (MAX_LEVELS - 1) tops
+    (path ++ key_from at tops ∷ []) none
 
 -- What is kept is what resolving gives.
 abbrev pub AreKept : Trees → List (Option Resolved) → Type 0
 AreKept tops kept =
-    (at : ℕ) → (held : Resolved) → slot kept at ≡ Some held → Gives tops kept held.height (resolved_at tops at) (trees_of held.children)
+    (at : ℕ) → (held : Resolved) → slot kept at ≡ Some held →
+    Gives tops kept held.height (resolved_at tops at) (trees_of held.children)
 
 -- The nodes that are kept stay kept, if perhaps as another list.
 abbrev pub StayKept : (old new : List (Option Resolved)) → Type 0
@@ -58,7 +63,8 @@ AreKeptBefore end tops kept =
 
 -- Resolving stops at a fault, or at a parent that nothing kept serves for, and whose own fault is
 -- that of the outcome.
-abbrev pub Stops : Trees → List (Option Resolved) → (free : ℕ) → List (List ℕ) → Stop → Outcome → Type 0
+abbrev pub Stops : Trees → List (Option Resolved) → (free : ℕ) → List (List ℕ) → Stop → Outcome →
+    Type 0
 Stops tops kept free path (Fault fault) outcome = IsFault NoMemory fault outcome
 Stops tops kept free path (Parent at) outcome =
     (at < width tops) × (0 < free)
@@ -66,9 +72,12 @@ Stops tops kept free path (Parent at) outcome =
     × ((fault : MergeFault) → resolved_at tops at (free - 1) path ≡ Err fault → outcome ≡ Err fault)
 
 -- A top-level node that is to be kept next, with what resolving makes of it.
-pub record IsNext (tops : Trees) (kept : List (Option Resolved)) (at : ℕ) (made : Resolved) : Type 0 where
+pub record IsNext (tops : Trees) (kept : List (Option Resolved)) (at : ℕ)
+    (made : Resolved) : Type 0 where
   pub place : at < width tops
-  pub gives : Gives tops kept made.height (λ free path. resolved_list free (children_from at tops) (MAX_LEVELS - 1) tops path none) (trees_of made.children)
+  pub gives : Gives tops kept made.height
+      (λ free path. resolved_list free (children_from at tops) (MAX_LEVELS - 1) tops path none)
+      (trees_of made.children)
   pub lower : (held : Resolved) → slot kept at ≡ Some held → made.height < held.height
 
 -- How much higher the kept nodes could be: a node that isn't kept weighs more than any that is.

@@ -21,7 +21,8 @@ joined key value place below (more first old at children rest) =
 -- The children that the list has under a key.
 abbrev pub children_at : List ℕ → Trees → Trees
 children_at key none = none
-children_at key (more first value place children rest) = if bytes_eq first key then children else children_at key rest
+children_at key (more first value place children rest) =
+    if bytes_eq first key then children else children_at key rest
 
 -- No node of the list has this key.
 abbrev pub Lacks : List ℕ → Trees → Type 0
@@ -31,7 +32,8 @@ Lacks key (more first value place children rest) = (bytes_eq first key ≡ false
 -- The nodes of the first list taken in order into the second.
 abbrev pub merged_into : Trees → Trees → Trees
 merged_into none old = old
-merged_into (more key value place children rest) old = merged_into rest (joined key value place (merged_into children) old)
+merged_into (more key value place children rest) old =
+    merged_into rest (joined key value place (merged_into children) old)
 
 -- All files, in order, as one list.
 abbrev pub merged_files : List Trees → Trees → Trees
@@ -46,7 +48,8 @@ with_first key value place children (Some rest) = Some (more key value place chi
 abbrev pub without : List ℕ → Trees → Option Trees
 without key none = None
 without key (more first value place children rest) =
-    if bytes_eq first key then Some rest else with_first first value place children (without key rest)
+    if bytes_eq first key then Some rest
+    else with_first first value place children (without key rest)
 
 -- How many nodes a list has at all depths, and how many levels.
 abbrev pub count : Trees → ℕ

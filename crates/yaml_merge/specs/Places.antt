@@ -20,7 +20,8 @@ keys_of (more key value place children rest) = key ∷ keys_of rest
 abbrev pub Stands : List ℕ → ℕ → Trees → Type 0
 Stands key at none = ⊥
 Stands key zero (more first value place children rest) = bytes_eq first key ≡ true
-Stands key (suc at) (more first value place children rest) = (bytes_eq first key ≡ false) × Stands key at rest
+Stands key (suc at) (more first value place children rest) =
+    (bytes_eq first key ≡ false) × Stands key at rest
 
 -- The children of the node at a place.
 abbrev pub children_from : ℕ → Trees → Trees
@@ -33,24 +34,29 @@ children_from (suc at) (more key value place children rest) = children_from at r
 abbrev pub emptied_at : ℕ → Trees → Trees
 emptied_at at none = none
 emptied_at zero (more key value place children rest) = more key value place none rest
-emptied_at (suc at) (more key value place children rest) = more key value place children (emptied_at at rest)
+emptied_at (suc at) (more key value place children rest) =
+    more key value place children (emptied_at at rest)
 
 abbrev pub emptied : List ℕ → Trees → Trees
 emptied key none = none
 emptied key (more first value place children rest) =
-    if bytes_eq first key then more first value place none rest else more first value place children (emptied key rest)
+    if bytes_eq first key then more first value place none rest
+    else more first value place children (emptied key rest)
 
 -- The list with a newer value, a new place and other children for the node at a place.
 abbrev pub put_at : ℕ → List ℕ → Place → Trees → Trees → Trees
 put_at at value place below none = none
-put_at zero value place below (more key old last children rest) = more key (newer_value old value) place below rest
-put_at (suc at) value place below (more key old last children rest) = more key old last children (put_at at value place below rest)
+put_at zero value place below (more key old last children rest) =
+    more key (newer_value old value) place below rest
+put_at (suc at) value place below (more key old last children rest) =
+    more key old last children (put_at at value place below rest)
 
 -- The list without the node at a place.
 abbrev pub removed_from : ℕ → Trees → Trees
 removed_from at none = none
 removed_from zero (more key value place children rest) = rest
-removed_from (suc at) (more key value place children rest) = more key value place children (removed_from at rest)
+removed_from (suc at) (more key value place children rest) =
+    more key value place children (removed_from at rest)
 
 -- The place of the first node with this key.
 abbrev pub place_in : List ℕ → Trees → Option ℕ

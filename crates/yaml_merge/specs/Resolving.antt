@@ -27,7 +27,8 @@ removes (byte ∷ rest) = byte == 45
 abbrev pub parent_of : List ℕ → Trees → Option Trees
 parent_of name none = None
 parent_of name (more key value place children rest) =
-    if removes name then None else (if bytes_eq key name then Some children else parent_of name rest)
+    if removes name then None
+    else (if bytes_eq key name then Some children else parent_of name rest)
 
 -- The name stands in the path.
 abbrev pub in_path : List ℕ → List (List ℕ) → Bool
@@ -43,7 +44,8 @@ within limit place list = if nat_lt limit (count list) then Err (TooLarge place)
 
 -- The resolved children of a parent merged into a list whose nodes may take up `room` levels.
 unfoldable pub inherited : ℕ → Place → Trees → Trees → Outcome
-inherited room place list parent = if nat_lt room (levels parent) then Err (TooDeep place) else Ok (merged_into parent list)
+inherited room place list parent =
+    if nat_lt room (levels parent) then Err (TooDeep place) else Ok (merged_into parent list)
 
 abbrev pub removed : Place → Option Trees → Outcome
 removed place None = Err (NothingToRemove place)
@@ -51,7 +53,8 @@ removed place (Some list) = Ok list
 
 -- One `Inherits` node, for the children of the parent that it names, if there is one. The path may
 -- get `free` more names.
-abbrev pub inherit_step : (free room : ℕ) → Place → List ℕ → List (List ℕ) → (parents : Trees → Outcome) → Trees → Option Trees → Outcome
+abbrev pub inherit_step : (free room : ℕ) → Place → List ℕ → List (List ℕ) →
+    (parents : Trees → Outcome) → Trees → Option Trees → Outcome
 inherit_step free room place name path parents list None = Err (NoParent place)
 inherit_step free room place name path parents list (Some children) =
     if in_path name path then Err (Cycle place)
@@ -64,7 +67,8 @@ join_step key value place below list =
 
 -- One node of a list that is being resolved: what it inherits or removes, or the node with its
 -- children, of which `below` says how they are resolved.
-unfoldable pub node_step : (free room : ℕ) → (tops : Trees) → List (List ℕ) → (key value : List ℕ) → Place → (parents below : Trees → Outcome) → Trees → Outcome
+unfoldable pub node_step : (free room : ℕ) → (tops : Trees) → List (List ℕ) → (key value : List ℕ) →
+    Place → (parents below : Trees → Outcome) → Trees → Outcome
 node_step free room tops path key value place parents below list =
     if inherits key then inherit_step free room place value path parents list (parent_of value tops)
     else (if removes key then removed place (without (drop 1 key) list)
@@ -72,10 +76,12 @@ node_step free room tops path key value place parents below list =
 
 -- The nodes of a list taken in order into a list that is there: for the resolving of the top-level
 -- nodes `tops`, where the path may get `free` more names and the nodes may take up `room` levels.
-unfoldable pub resolved_list : (free : ℕ) → (list : Trees) → (room : ℕ) → (tops : Trees) → (path : List (List ℕ)) → Trees → Outcome
+unfoldable pub resolved_list : (free : ℕ) → (list : Trees) → (room : ℕ) → (tops : Trees) →
+    (path : List (List ℕ)) → Trees → Outcome
 resolved_list free none room tops path start = Ok start
 resolved_list zero (more key value place children rest) room tops path start =
-    node_step zero room tops path key value place (λ parent. Ok none) (λ old. resolved_list zero children (room - 1) tops path old) start
+    node_step zero room tops path key value place (λ parent. Ok none)
+    (λ old. resolved_list zero children (room - 1) tops path old) start
     >>= within MAX_LIST_NODES place
     >>= λ list. resolved_list zero rest room tops path list
 resolved_list (suc free) (more key value place children rest) room tops path start =
@@ -88,17 +94,21 @@ resolved_list (suc free) (more key value place children rest) room tops path sta
 -- How a parent is resolved for a node whose path may get `free` more names.
 abbrev pub parents : (free : ℕ) → (tops : Trees) → List (List ℕ) → List ℕ → Trees → Outcome
 parents zero tops path name parent = Ok none
-parents (suc free) tops path name parent = resolved_list free parent (MAX_LEVELS - 1) tops (path ++ name ∷ []) none
+parents (suc free) tops path name parent =
+    resolved_list free parent (MAX_LEVELS - 1) tops (path ++ name ∷ []) none
 
 -- One node of a list that is being resolved, with all that is below it.
-unfoldable pub taken_in : (free room : ℕ) → (tops : Trees) → List (List ℕ) → (key value : List ℕ) → Place → Trees → Trees → Outcome
+unfoldable pub taken_in : (free room : ℕ) → (tops : Trees) → List (List ℕ) → (key value : List ℕ) →
+    Place → Trees → Trees → Outcome
 taken_in free room tops path key value place children list =
-    node_step free room tops path key value place (parents free tops path value) (λ old. resolved_list free children (room - 1) tops path old) list
+    node_step free room tops path key value place (parents free tops path value)
+    (λ old. resolved_list free children (room - 1) tops path old) list
 
 -- A node added last.
 abbrev pub added : (key value : List ℕ) → Place → Trees → Trees → Trees
 added key value place children none = more key value place children none
-added key value place children (more first old at others rest) = more first old at others (added key value place children rest)
+added key value place children (more first old at others rest) =
+    more first old at others (added key value place children rest)
 
 -- The top-level nodes that are no removals, each resolved, in order.
 abbrev pub resolved_tops : Trees → Trees → Trees → Outcome
@@ -114,7 +124,8 @@ resolved_tops (more key value place children rest) tops done =
 abbrev pub removed_tops : Trees → Trees → Outcome
 removed_tops none done = Ok done
 removed_tops (more key value place children rest) done =
-    if removes key then removed place (without (drop 1 key) done) >>= (λ next. removed_tops rest next)
+    if removes key
+    then removed place (without (drop 1 key) done) >>= (λ next. removed_tops rest next)
     else removed_tops rest done
 
 -- The resolved forest of some files, or the first fault in the order of resolving.

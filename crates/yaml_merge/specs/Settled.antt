@@ -10,7 +10,8 @@ use Rattle.yaml_merge.specs.Resolving.{inherits, removes}
 abbrev pub IsSettled : Trees → Type 0
 IsSettled none = Unit {0}
 IsSettled (more key value place children rest) =
-    Lacks key rest × (inherits key ≡ false) × (removes key ≡ false) × IsSettled children × IsSettled rest
+    Lacks key rest × (inherits key ≡ false) × (removes key ≡ false)
+    × IsSettled children × IsSettled rest
 
 -- The top level, where `Inherits` is a name like any other: each key stands once in it, none is a
 -- removal, and the lists below it are settled.

@@ -1,5 +1,5 @@
--- A list of nodes as the code holds it while it grows: a slot for each node that was added, in order,
--- of which those of removed nodes are dead.
+-- A list of nodes as the code holds it while it grows: a slot for each node that was added, in
+-- order, of which those of removed nodes are dead.
 use Rattle.std.specs.Prelude.{◌≡◌, ℕ, zero, suc, Bool, true, false, ◌&&◌, List, [], ◌∷◌}
 use Rattle.std.specs.Prelude.{if◌then◌else◌, Option, Some, None, MatchOption}
 use Rattle.std.specs.Str.{bytes_eq}
@@ -15,7 +15,8 @@ use Rattle.yaml_merge.specs.declared.hashers.Hashers.{Hashers}
 abbrev pub standing : List Slot → Trees
 standing [] = none
 standing (slot ∷ rest) =
-    if slot.live then more slot.key slot.value slot.place slot.children (standing rest) else standing rest
+    if slot.live then more slot.key slot.value slot.place slot.children (standing rest)
+    else standing rest
 
 -- The slot has a node with this key.
 abbrev pub holds : List ℕ → Slot → Bool
@@ -40,7 +41,8 @@ IsFound key slots found = MatchOption found (LacksKey key slots) (λ at. StandsA
 abbrev pub IsWhole : List Slot → Type 0
 IsWhole [] = Unit {0}
 IsWhole (slot ∷ rest) =
-    (slot.live ≡ true → LacksKey slot.key rest) × (slot.live ≡ false → slot.children ≡ none) × IsWhole rest
+    (slot.live ≡ true → LacksKey slot.key rest) × (slot.live ≡ false → slot.children ≡ none)
+    × IsWhole rest
 
 -- A list without nodes has no slots.
 abbrev pub NoneLeft : List Slot → ℕ → Type 0
@@ -49,11 +51,13 @@ NoneLeft slots total = total ≡ 0 → slots ≡ []
 -- The index finds each key.
 abbrev pub Finds : Index → List Slot → Type 0
 Finds index slots =
-    MatchOption index.places (Unit {0}) (λ held. (key : List ℕ) → IsFound key slots (get bytes_eq held.value key))
+    MatchOption index.places (Unit {0})
+    (λ held. (key : List ℕ) → IsFound key slots (get bytes_eq held.value key))
 
 -- The index without a key.
 abbrev pub Forgets : List ℕ → (old new : Index) → Type 0
 Forgets key old new =
     MatchOption old.places (new.places ≡ None)
     (λ held. (after : Box (HashMap (List ℕ) ℕ Hashers) Global) × (new.places ≡ Some after)
-    × ((other : List ℕ) → get bytes_eq after.value other ≡ (if bytes_eq key other then None else get bytes_eq held.value other)))
+    × ((other : List ℕ) → get bytes_eq after.value other
+    ≡ (if bytes_eq key other then None else get bytes_eq held.value other)))

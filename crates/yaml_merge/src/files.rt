@@ -1,4 +1,5 @@
-ghost use Rattle.std.specs.Prelude.{◌≡◌, ◌<◌, ◌≤◌, map, length, set, All, IfOk, IfErr, IsSome, OnOk};
+ghost use Rattle.std.specs.Prelude.{◌≡◌, ◌<◌, ◌≤◌, map, length, set, All, IfOk, IfErr, IsSome};
+ghost use Rattle.std.specs.Prelude.{OnOk};
 ghost use Rattle.std.specs.Prelude.{None, Some, Ok};
 ghost use Rattle.base.specs.Steps.{IsFault};
 ghost use Rattle.yaml_lines.specs.Limits.{nodes_in, IsLowForest};
@@ -41,8 +42,10 @@ fn keep_tops(
     requires long { length kept.old.items ≡ width (trees_of tops.now.forest) }
     ensures are_kept { AreKept (trees_of tops.now.forest) kept.new.items }
     ensures long { length kept.new.items ≡ width (trees_of tops.now.forest) }
-    ensures all { OnOk result (AreKeptBefore (width (trees_of tops.now.forest)) (trees_of tops.now.forest) kept.new.items) }
-    ensures fault { IfErr result (λ fault. IsFault NoMemory fault (resolved_tops (trees_of tops.now.forest) (trees_of tops.now.forest) none)) }
+    ensures all { OnOk result (AreKeptBefore (width (trees_of tops.now.forest))
+        (trees_of tops.now.forest) kept.new.items) }
+    ensures fault { IfErr result (λ fault. IsFault NoMemory fault
+        (resolved_tops (trees_of tops.now.forest) (trees_of tops.now.forest) none)) }
 {
     let mut walked = Walked::none(alloc, tops.forest.nodes.len())?;
     let mut total = 0usize;
@@ -73,9 +76,12 @@ fn take_tops(
 ) -> Result<Forest, MergeFault>
     requires are_kept { AreKept (trees_of tops.now.forest) kept.old.items }
     requires long { length kept.old.items ≡ width (trees_of tops.now.forest) }
-    requires all { AreKeptBefore (width (trees_of tops.now.forest)) (trees_of tops.now.forest) kept.old.items }
-    ensures done { IfOk result (λ forest. resolved_tops (trees_of tops.now.forest) (trees_of tops.now.forest) none ≡ Ok (trees_of forest)) }
-    ensures fault { IfErr result (λ fault. IsFault NoMemory fault (resolved_tops (trees_of tops.now.forest) (trees_of tops.now.forest) none)) }
+    requires all { AreKeptBefore (width (trees_of tops.now.forest)) (trees_of tops.now.forest)
+        kept.old.items }
+    ensures done { IfOk result (λ forest. resolved_tops (trees_of tops.now.forest)
+        (trees_of tops.now.forest) none ≡ Ok (trees_of forest)) }
+    ensures fault { IfErr result (λ fault. IsFault NoMemory fault
+        (resolved_tops (trees_of tops.now.forest) (trees_of tops.now.forest) none)) }
 {
     let mut nodes = Vec::new(alloc);
     let mut total = 0usize;
@@ -107,8 +113,10 @@ fn take_at(kept: &mut Vec<Option<Resolved>>, at: usize) -> Resolved
 /// Resolves the top-level nodes that are no removals, in order.
 fn resolve_tops(alloc: Global, hashers: &Hashers, tops: &KeyedList) -> Result<Forest, MergeFault>
     requires distinct { IsDistinct (trees_of tops.now.forest) }
-    ensures done { IfOk result (λ forest. resolved_tops (trees_of tops.now.forest) (trees_of tops.now.forest) none ≡ Ok (trees_of forest)) }
-    ensures fault { IfErr result (λ fault. IsFault NoMemory fault (resolved_tops (trees_of tops.now.forest) (trees_of tops.now.forest) none)) }
+    ensures done { IfOk result (λ forest. resolved_tops (trees_of tops.now.forest)
+        (trees_of tops.now.forest) none ≡ Ok (trees_of forest)) }
+    ensures fault { IfErr result (λ fault. IsFault NoMemory fault
+        (resolved_tops (trees_of tops.now.forest) (trees_of tops.now.forest) none)) }
 {
     let mut kept = vacant(alloc, tops)?;
     keep_tops(alloc, hashers, tops, &mut kept)?;
@@ -170,12 +178,14 @@ fn merged_list(alloc: Global, hashers: &Hashers, files: &[Forest]) -> Result<Key
 /// `MAX_FOREST_NODES` then. `NoMemory` means out of memory, and may come in place of any answer.
 #[tactic(auto, unfolding(crate::specs::Resolving::resolved_files))]
 pub fn resolve(alloc: Global, files: &[Forest]) -> Result<Forest, MergeFault>
-    ensures done { IfOk result (λ forest. resolved_files (map trees_of files.now) ≡ Ok (trees_of forest)) }
+    ensures done { IfOk result (λ forest. resolved_files (map trees_of files.now)
+        ≡ Ok (trees_of forest)) }
     ensures settled { IfOk result IsSettledForest }
     ensures readable { All IsReadableForest files.now → IfOk result IsReadableForest }
     ensures nodes { IfOk result (λ forest. nodes_in forest ≤ MAX_FOREST_NODES) }
     ensures low { All IsLowForest files.now → IfOk result IsLowForest }
-    ensures fault { IfErr result (λ fault. IsFault NoMemory fault (resolved_files (map trees_of files.now))) }
+    ensures fault { IfErr result (λ fault. IsFault NoMemory fault
+        (resolved_files (map trees_of files.now))) }
 {
     let hashers = Hashers::of(files);
     let tops = merged_list(alloc, &hashers, files)?;

@@ -52,7 +52,9 @@ impl Model for GrowingList {
 
     ghost view = { λ list. standing list.slots.items };
 
-    ghost invariant = { λ list. IsWhole list.slots.items × (list.total ≡ count (standing list.slots.items)) × Finds list.index list.slots.items × NoneLeft list.slots.items list.total };
+    ghost invariant = { λ list. IsWhole list.slots.items
+        × (list.total ≡ count (standing list.slots.items)) × Finds list.index list.slots.items
+        × NoneLeft list.slots.items list.total };
 
     ghost size = { count };
 
@@ -157,7 +159,8 @@ impl GrowingList {
         value: &Text,
         place: Place,
     ) -> Result<(), NoMemory>
-        ensures { OnOk result (self.new ≡ joined key.now value.now place (λ below. below) self.old) }
+        ensures { OnOk result
+            (self.new ≡ joined key.now value.now place (λ below. below) self.old) }
     {
         let value = value.copy()?;
         match self.index.find(self.slots.as_slice(), key) {

@@ -2,7 +2,8 @@ ghost use Rattle.std.specs.Prelude.{◌≡◌, ◌++◌, ◌∷◌, [], true, Ma
 ghost use Rattle.std.specs.Prelude.{List, ℕ};
 ghost use Rattle.std.specs.HashMap.{get};
 ghost use Rattle.std.specs.Str.{bytes_eq};
-ghost use Rattle.yaml_merge.specs.Slots.{Finds, Forgets, IsFound, IsWhole, LacksKey, StandsAt, holds};
+ghost use Rattle.yaml_merge.specs.Slots.{Finds, Forgets, IsFound, IsWhole, LacksKey, StandsAt};
+ghost use Rattle.yaml_merge.specs.Slots.{holds};
 ghost use Rattle.yaml_merge.specs.declared.growing_list.Slot.{Slot};
 
 use crate::growing_list::Slot;
@@ -32,7 +33,8 @@ fn is_held(slot: &Slot, key: &str) -> bool
 /// The place of the first slot that holds a key, found by going over all slots.
 #[tactic(auto, using(crate::proofs::IndexSteps::search_steps))]
 fn search(slots: &[Slot], key: &str) -> Option<usize>
-    ensures { MatchOption result (LacksKey key.now slots.now) (λ at. StandsAt key.now at slots.now) }
+    ensures { MatchOption result (LacksKey key.now slots.now)
+        (λ at. StandsAt key.now at slots.now) }
 {
     for (at, slot) in slots.iter().enumerate() {
         if is_held(slot, key) {
@@ -53,7 +55,8 @@ impl Index {
     /// The place of the slot that holds a key.
     pub fn find(&self, slots: &[Slot], key: &Text) -> Option<usize>
         requires { Finds self.now slots.now }
-        ensures { MatchOption result (LacksKey key.now slots.now) (λ at. StandsAt key.now at slots.now) }
+        ensures { MatchOption result (LacksKey key.now slots.now)
+            (λ at. StandsAt key.now at slots.now) }
     {
         match &self.places {
             Some(places) => places.get(key).copied(),
@@ -72,7 +75,8 @@ impl Index {
         requires finds { Finds self.old slots.now }
         requires whole { IsWhole slots.now }
         requires lacks { LacksKey key.now slots.now }
-        ensures added { OnOk result ((slot : Slot) → slot.key ≡ key.now → slot.live ≡ true → Finds self.new (slots.now ++ slot ∷ [])) }
+        ensures added { OnOk result ((slot : Slot) → slot.key ≡ key.now → slot.live ≡ true →
+            Finds self.new (slots.now ++ slot ∷ [])) }
         ensures same { OnErr result (Finds self.new slots.now) }
     {
         match &mut self.places {
@@ -108,7 +112,8 @@ fn places_of(
     slots: &[Slot],
 ) -> Result<HashMap<Text, usize, Hashers>, NoMemory>
     requires { IsWhole slots.now }
-    ensures { IfOk result (λ places. (key : List ℕ) → IsFound key slots.now (get bytes_eq places key)) }
+    ensures { IfOk result (λ places. (key : List ℕ) → IsFound key slots.now
+        (get bytes_eq places key)) }
 {
     let mut places = HashMap::with_hasher(alloc, *hashers);
     for (at, slot) in slots.iter().enumerate() {

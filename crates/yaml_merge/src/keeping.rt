@@ -1,4 +1,5 @@
-ghost use Rattle.std.specs.Prelude.{IsSome, IfSome, ◌≡◌, ◌<◌, ◌≤◌, ◌+◌, ◌-◌, [], get_or, IfOk, IfErr, MatchBool};
+ghost use Rattle.std.specs.Prelude.{IsSome, IfSome, ◌≡◌, ◌<◌, ◌≤◌, ◌+◌, ◌-◌, [], get_or, IfOk};
+ghost use Rattle.std.specs.Prelude.{IfErr, MatchBool};
 ghost use Rattle.std.specs.Prelude.{MatchOption, ⊤, OnOk, length, set, Some, None};
 ghost use Rattle.base.specs.Steps.{IsFault};
 ghost use Rattle.yaml_lines.specs.Trees.{none, trees_of};
@@ -44,9 +45,15 @@ fn resolved_of(alloc: Global, list: GrowingList, height: usize) -> Result<Resolv
 fn resolve_top(alloc: Global, scene: &Scene<'_>, node: &Node) -> Result<Resolved, Stop>
     requires distinct { IsDistinct (trees_of (out-Node node.now).children) }
     requires are_kept { AreKept (trees_of scene.now.tops.now.forest) scene.now.kept.now }
-    ensures done { IfOk result (λ made. Gives (trees_of scene.now.tops.now.forest) scene.now.kept.now made.height (λ free path. resolved_list free (trees_of (out-Node node.now).children) (MAX_LEVELS - 1) (trees_of scene.now.tops.now.forest) path none) (trees_of made.children)) }
+    ensures done { IfOk result (λ made. Gives (trees_of scene.now.tops.now.forest)
+        scene.now.kept.now made.height (λ free path. resolved_list free
+        (trees_of (out-Node node.now).children) (MAX_LEVELS - 1)
+        (trees_of scene.now.tops.now.forest) path none) (trees_of made.children)) }
     ensures bound { IfOk result (λ made. made.height ≤ scene.now.free) }
-    ensures stop { IfErr result (λ stop. Stops (trees_of scene.now.tops.now.forest) scene.now.kept.now scene.now.free scene.now.path.now stop (resolved_list scene.now.free (trees_of (out-Node node.now).children) (MAX_LEVELS - 1) (trees_of scene.now.tops.now.forest) scene.now.path.now none)) }
+    ensures stop { IfErr result (λ stop. Stops (trees_of scene.now.tops.now.forest)
+        scene.now.kept.now scene.now.free scene.now.path.now stop
+        (resolved_list scene.now.free (trees_of (out-Node node.now).children) (MAX_LEVELS - 1)
+        (trees_of scene.now.tops.now.forest) scene.now.path.now none)) }
 {
     if let Some(made) = plain_resolved(alloc, &node.children)? {
         return Ok(made);
@@ -87,7 +94,8 @@ fn next_made(
     requires long { length kept.now ≡ width (trees_of tops.now.forest) }
     requires vacant { slot kept.now root ≡ None }
     ensures next { IfOk result (λ next. IsNext (trees_of tops.now.forest) kept.now next.0 next.1) }
-    ensures fault { IfErr result (λ fault. IsFault NoMemory fault (resolved_at (trees_of tops.now.forest) root (MAX_PATH - 1) [])) }
+    ensures fault { IfErr result (λ fault. IsFault NoMemory fault
+        (resolved_at (trees_of tops.now.forest) root (MAX_PATH - 1) [])) }
 {
     let mut at = root;
     let mut free = MAX_PATH - 1;
@@ -117,7 +125,8 @@ fn next_made(
 
 /// What is kept of the node at a place.
 pub fn held_at(kept: &[Option<Resolved>], at: usize) -> Option<&Resolved>
-    ensures { MatchOption result (slot kept.now at ≡ None) (λ held. slot kept.now at ≡ Some held.now) }
+    ensures { MatchOption result (slot kept.now at ≡ None)
+        (λ held. slot kept.now at ≡ Some held.now) }
 {
     match kept.get(at) {
         Some(Some(held)) => Some(held),
@@ -178,7 +187,8 @@ pub fn keep(
     ensures long { length kept.new.items ≡ width (trees_of tops.now.forest) }
     ensures kept { OnOk result (IsSome (slot kept.new.items root)) }
     ensures stay { StayKept kept.old.items kept.new.items }
-    ensures fault { IfErr result (λ fault. IsFault NoMemory fault (resolved_at (trees_of tops.now.forest) root (MAX_PATH - 1) [])) }
+    ensures fault { IfErr result (λ fault. IsFault NoMemory fault
+        (resolved_at (trees_of tops.now.forest) root (MAX_PATH - 1) [])) }
 {
     'vacant: while !is_kept(kept.as_slice(), root) {
         let (at, made) = next_made(alloc, hashers, tops, kept.as_slice(), root)?;

@@ -63,7 +63,8 @@ fn names_of(
     hashers: &Hashers,
     nodes: &[Node],
 ) -> Result<HashMap<Text, usize, Hashers>, NoMemory>
-    ensures { IfOk result (λ names. (name : List ℕ) → get bytes_eq names name ≡ place_in name (trees_of_nodes nodes.now)) }
+    ensures { IfOk result (λ names. (name : List ℕ) → get bytes_eq names name
+        ≡ place_in name (trees_of_nodes nodes.now)) }
 {
     let mut names = HashMap::with_hasher(alloc, *hashers);
     for (at, node) in nodes.iter().enumerate() {

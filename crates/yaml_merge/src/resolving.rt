@@ -21,8 +21,10 @@ use yaml_lines::{Forest, Node};
 
 /// What is kept of the node at a place, where the path may get as many names as it adds.
 fn served<'a>(scene: &Scene<'a>, at: usize) -> Option<&'a Resolved>
-    ensures { MatchOption result ((held : Resolved) → slot scene.now.kept.now at ≡ Some held → scene.now.free ≤ held.height)
-        (λ parent. (slot scene.now.kept.now at ≡ Some parent.now) × (parent.now.height + 1 ≤ scene.now.free)) }
+    ensures { MatchOption result ((held : Resolved) → slot scene.now.kept.now at ≡ Some held →
+        scene.now.free ≤ held.height)
+        (λ parent. (slot scene.now.kept.now at ≡ Some parent.now)
+        × (parent.now.height + 1 ≤ scene.now.free)) }
 {
     match held_at(scene.kept, at) {
         Some(parent) => {
@@ -46,10 +48,19 @@ fn inherit_node(
     high: &mut usize,
 ) -> Result<GrowingList, Stop>
     requires are_kept { AreKept (trees_of scene.now.tops.now.forest) scene.now.kept.now }
-    ensures taken { IfOk result (Gives (trees_of scene.now.tops.now.forest) scene.now.kept.now high.new (λ free path. inherit_step free room (out-Node node.now).place (out-Node node.now).value path (parents free (trees_of scene.now.tops.now.forest) path (out-Node node.now).value) list (parent_of (out-Node node.now).value (trees_of scene.now.tops.now.forest)))) }
+    ensures taken { IfOk result (Gives (trees_of scene.now.tops.now.forest) scene.now.kept.now
+        high.new (λ free path. inherit_step free room (out-Node node.now).place
+        (out-Node node.now).value path (parents free (trees_of scene.now.tops.now.forest) path
+        (out-Node node.now).value) list (parent_of (out-Node node.now).value
+        (trees_of scene.now.tops.now.forest)))) }
     ensures rises { high.old ≤ high.new }
     ensures bound { high.old ≤ scene.now.free → high.new ≤ scene.now.free }
-    ensures stop { IfErr result (λ stop. Stops (trees_of scene.now.tops.now.forest) scene.now.kept.now scene.now.free scene.now.path.now stop (inherit_step scene.now.free room (out-Node node.now).place (out-Node node.now).value scene.now.path.now (parents scene.now.free (trees_of scene.now.tops.now.forest) scene.now.path.now (out-Node node.now).value) list (parent_of (out-Node node.now).value (trees_of scene.now.tops.now.forest)))) }
+    ensures stop { IfErr result (λ stop. Stops (trees_of scene.now.tops.now.forest)
+        scene.now.kept.now scene.now.free scene.now.path.now stop
+        (inherit_step scene.now.free room (out-Node node.now).place (out-Node node.now).value
+        scene.now.path.now (parents scene.now.free (trees_of scene.now.tops.now.forest)
+        scene.now.path.now (out-Node node.now).value) list
+        (parent_of (out-Node node.now).value (trees_of scene.now.tops.now.forest)))) }
 {
     let place = node.place;
     let name = node.value.as_str();
@@ -85,10 +96,18 @@ fn join_node(
     high: &mut usize,
 ) -> Result<GrowingList, Stop>
     requires are_kept { AreKept (trees_of scene.now.tops.now.forest) scene.now.kept.now }
-    ensures taken { IfOk result (Gives (trees_of scene.now.tops.now.forest) scene.now.kept.now high.new (λ free path. join_step (out-Node node.now).key (out-Node node.now).value (out-Node node.now).place (λ old. resolved_list free (trees_of (out-Node node.now).children) (room - 1) (trees_of scene.now.tops.now.forest) path old) list)) }
+    ensures taken { IfOk result (Gives (trees_of scene.now.tops.now.forest) scene.now.kept.now
+        high.new (λ free path. join_step (out-Node node.now).key (out-Node node.now).value
+        (out-Node node.now).place (λ old. resolved_list free (trees_of (out-Node node.now).children)
+        (room - 1) (trees_of scene.now.tops.now.forest) path old) list)) }
     ensures rises { high.old ≤ high.new }
     ensures bound { high.old ≤ scene.now.free → high.new ≤ scene.now.free }
-    ensures stop { high.old ≤ scene.now.free → IfErr result (λ stop. Stops (trees_of scene.now.tops.now.forest) scene.now.kept.now scene.now.free scene.now.path.now stop (join_step (out-Node node.now).key (out-Node node.now).value (out-Node node.now).place (λ old. resolved_list scene.now.free (trees_of (out-Node node.now).children) (room - 1) (trees_of scene.now.tops.now.forest) scene.now.path.now old) list)) }
+    ensures stop { high.old ≤ scene.now.free → IfErr result
+        (λ stop. Stops (trees_of scene.now.tops.now.forest) scene.now.kept.now scene.now.free
+        scene.now.path.now stop (join_step (out-Node node.now).key (out-Node node.now).value
+        (out-Node node.now).place (λ old. resolved_list scene.now.free
+        (trees_of (out-Node node.now).children) (room - 1) (trees_of scene.now.tops.now.forest)
+        scene.now.path.now old) list)) }
 {
     let mut list = list;
     if is_leaf(&node.children) {
@@ -120,10 +139,17 @@ fn take_in(
     high: &mut usize,
 ) -> Result<GrowingList, Stop>
     requires are_kept { AreKept (trees_of scene.now.tops.now.forest) scene.now.kept.now }
-    ensures taken { IfOk result (Gives (trees_of scene.now.tops.now.forest) scene.now.kept.now high.new (λ free path. taken_in free room (trees_of scene.now.tops.now.forest) path (out-Node node.now).key (out-Node node.now).value (out-Node node.now).place (trees_of (out-Node node.now).children) list)) }
+    ensures taken { IfOk result (Gives (trees_of scene.now.tops.now.forest) scene.now.kept.now
+        high.new (λ free path. taken_in free room (trees_of scene.now.tops.now.forest) path
+        (out-Node node.now).key (out-Node node.now).value (out-Node node.now).place
+        (trees_of (out-Node node.now).children) list)) }
     ensures rises { high.old ≤ high.new }
     ensures bound { high.old ≤ scene.now.free → high.new ≤ scene.now.free }
-    ensures stop { high.old ≤ scene.now.free → IfErr result (λ stop. Stops (trees_of scene.now.tops.now.forest) scene.now.kept.now scene.now.free scene.now.path.now stop (taken_in scene.now.free room (trees_of scene.now.tops.now.forest) scene.now.path.now (out-Node node.now).key (out-Node node.now).value (out-Node node.now).place (trees_of (out-Node node.now).children) list)) }
+    ensures stop { high.old ≤ scene.now.free → IfErr result
+        (λ stop. Stops (trees_of scene.now.tops.now.forest) scene.now.kept.now scene.now.free
+        scene.now.path.now stop (taken_in scene.now.free room (trees_of scene.now.tops.now.forest)
+        scene.now.path.now (out-Node node.now).key (out-Node node.now).value
+        (out-Node node.now).place (trees_of (out-Node node.now).children) list)) }
 {
     let key = node.key.as_str();
     if inherits(key.as_bytes()) {
@@ -164,10 +190,15 @@ pub fn resolve_list(
     high: &mut usize,
 ) -> Result<GrowingList, Stop>
     requires are_kept { AreKept (trees_of scene.now.tops.now.forest) scene.now.kept.now }
-    ensures done { IfOk result (Gives (trees_of scene.now.tops.now.forest) scene.now.kept.now high.new (λ free path. resolved_list free (trees_of list.now) room (trees_of scene.now.tops.now.forest) path start)) }
+    ensures done { IfOk result (Gives (trees_of scene.now.tops.now.forest) scene.now.kept.now
+        high.new (λ free path. resolved_list free (trees_of list.now) room
+        (trees_of scene.now.tops.now.forest) path start)) }
     ensures rises { high.old ≤ high.new }
     ensures bound { high.old ≤ scene.now.free → high.new ≤ scene.now.free }
-    ensures stop { high.old ≤ scene.now.free → IfErr result (λ stop. Stops (trees_of scene.now.tops.now.forest) scene.now.kept.now scene.now.free scene.now.path.now stop (resolved_list scene.now.free (trees_of list.now) room (trees_of scene.now.tops.now.forest) scene.now.path.now start)) }
+    ensures stop { high.old ≤ scene.now.free → IfErr result
+        (λ stop. Stops (trees_of scene.now.tops.now.forest) scene.now.kept.now scene.now.free
+        scene.now.path.now stop (resolved_list scene.now.free (trees_of list.now) room
+        (trees_of scene.now.tops.now.forest) scene.now.path.now start)) }
 {
     let mut done = start;
     let mut before: Option<&Node> = None;

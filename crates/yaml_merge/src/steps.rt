@@ -43,7 +43,8 @@ pub fn removes(key: &[u8]) -> bool
 
 /// The key that a removal removes.
 pub fn removal(key: &str) -> Option<&str>
-    ensures { MatchOption result (removes key.now ≡ false) (λ removed. (removes key.now ≡ true) × (removed.now ≡ drop 1 key.now)) }
+    ensures { MatchOption result (removes key.now ≡ false) (λ removed. (removes key.now ≡ true)
+        × (removed.now ≡ drop 1 key.now)) }
 {
     key.strip_prefix('-')
 }
@@ -81,7 +82,8 @@ pub fn remove(
     list: GrowingList,
 ) -> Result<GrowingList, MergeFault>
     ensures left { IfOk result (λ level. removed place (without key.now list) ≡ Ok level) }
-    ensures fault { IfErr result (λ fault. IsFault NoMemory fault (removed place (without key.now list))) }
+    ensures fault { IfErr result (λ fault. IsFault NoMemory fault
+        (removed place (without key.now list))) }
 {
     let key = removal.ending(alloc, key)?;
     let mut list = list;
@@ -102,8 +104,10 @@ pub fn inherit(
     list: GrowingList,
     parent: &Resolved,
 ) -> Result<GrowingList, MergeFault>
-    ensures taken { IfOk result (λ level. inherited room place list (trees_of parent.now.children) ≡ Ok level) }
-    ensures fault { IfErr result (λ fault. IsFault NoMemory fault (inherited room place list (trees_of parent.now.children))) }
+    ensures taken { IfOk result (λ level. inherited room place list (trees_of parent.now.children)
+        ≡ Ok level) }
+    ensures fault { IfErr result (λ fault. IsFault NoMemory fault
+        (inherited room place list (trees_of parent.now.children))) }
 {
     if !has_levels(&parent.children, room) {
         return Err(MergeFault::TooDeep { place });

@@ -43,8 +43,8 @@ impl Walked {
     }
 
     /// The places of the parents of a top-level node in the order of resolving: each comes before
-    /// the nodes that inherit it, unless they inherit each other. What was walked over before is left
-    /// out.
+    /// the nodes that inherit it, unless they inherit each other. What was walked over before is
+    /// left out.
     pub fn parents_first(
         &mut self,
         alloc: Global,

@@ -1,5 +1,5 @@
 use Rattle.std.proofs.Common.{◌∙◌, arith}
-use Rattle.match_run.proofs.LocalPasses.{plan_more, plan_whole}
+use Rattle.match_run.proofs.LocalPasses.{plan_more}
 use Rattle.match_run.proofs.passing.plan_of.Goals as goal
 
 pub loop-c-preserved : goal.loop-c-preserved

@@ -1,4 +1,3 @@
-use Rattle.std.proofs.Common.{◌∙◌}
 use Rattle.match_run.proofs.LocalPasses.{first_local, first_knows}
 use Rattle.match_run.proofs.passing.planned_table.Goals as goal
 

@@ -1,4 +1,4 @@
-use Rattle.std.proofs.Common.{◌≡◌, sym, refl}
+use Rattle.std.proofs.Common.{refl}
 use Rattle.sync_hash.specs.HashedBytes.{actor_bytes}
 use Rattle.sync_hash.proofs.HeaderLemmas.{fnv_from-append}
 use Rattle.sync_hash.proofs.actor_bytes.write_actor.Goals as goal

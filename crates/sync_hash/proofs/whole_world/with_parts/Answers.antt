@@ -1,6 +1,3 @@
-use Rattle.std.proofs.Common.{◌≡◌}
-use Rattle.std.specs.List.{sum_by}
-use Rattle.sync_hash.specs.Kept.{actor_number, cell_numbers}
 use Rattle.sync_hash.proofs.SumLemmas.{mod_parts}
 use Rattle.sync_hash.proofs.whole_world.with_parts.Goals as goal
 

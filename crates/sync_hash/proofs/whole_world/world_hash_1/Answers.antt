@@ -1,4 +1,3 @@
-use Rattle.std.proofs.Common.{◌≡◌}
 use Rattle.sync_hash.proofs.SumLemmas.{world_hash_1_is}
 use Rattle.sync_hash.proofs.whole_world.world_hash_1.Goals as goal
 

@@ -1,4 +1,4 @@
-use Rattle.std.proofs.Common.{rules, map, sym, ◌∙◌, subst}
+use Rattle.std.proofs.Common.{rules, map, sym, subst}
 use Rattle.yaml_lines.specs.Trees.{none, trees_of}
 use Rattle.yaml_merge.specs.Settled.{IsDistinct}
 use Rattle.yaml_merge.specs.Resolving.{resolved_files}

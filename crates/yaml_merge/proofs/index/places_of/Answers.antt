@@ -1,4 +1,4 @@
-use Rattle.std.proofs.Common.{arith, cond, ap, sym, subst, ◌∙◌, ◌+◌, Some}
+use Rattle.std.proofs.Common.{cond, ap, sym, subst, ◌∙◌, ◌+◌, Some}
 use Rattle.std.specs.HashMap.{get}
 use Rattle.std.specs.Str.{bytes_eq}
 use Rattle.yaml_merge.proofs.IndexSteps.{FindsUpTo, finds_live, finds_dead}

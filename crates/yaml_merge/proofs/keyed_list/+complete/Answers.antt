@@ -1,4 +1,4 @@
-use Rattle.std.proofs.Common.{◌≡◌, ◌∙◌, ◌++◌, ◌∷◌, [], ap, sym, arith}
+use Rattle.std.proofs.Common.{◌∙◌, ap, sym}
 use Rattle.yaml_lines.specs.Trees.{trees_of_nodes}
 use Rattle.yaml_merge.specs.Resolving.{added}
 use Rattle.yaml_merge.proofs.NodeSteps.{added_last, node_made}

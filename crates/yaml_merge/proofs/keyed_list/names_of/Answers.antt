@@ -1,9 +1,9 @@
-use Rattle.std.proofs.Common.{arith, cond, ap, sym, subst, ◌∙◌, ◌≡◌, ◌+◌, Some, true, false}
+use Rattle.std.proofs.Common.{cond, ap, sym, ◌∙◌, ◌≡◌, Some, true, false}
 use Rattle.std.specs.HashMap.{get}
 use Rattle.std.specs.Prelude.{is_some}
 use Rattle.std.specs.Str.{bytes_eq}
 use Rattle.yaml_lines.specs.declared.forest.Forest.TheViews.{out-Node}
-use Rattle.yaml_merge.proofs.NodeSteps.{NamesUpTo, names_new, names_old}
+use Rattle.yaml_merge.proofs.NodeSteps.{names_new, names_old}
 use Rattle.yaml_merge.proofs.keyed_list.names_of.Goals as goal
 
 pub loop-at-preserved : goal.loop-at-preserved

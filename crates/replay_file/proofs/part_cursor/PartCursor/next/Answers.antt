@@ -1,4 +1,4 @@
-use Rattle.std.proofs.Common.{arith, sym, ◌∙◌, ◌≡◌, [], ◌<◌, length}
+use Rattle.std.proofs.Common.{arith, sym, ◌∙◌, ◌≡◌, []}
 use Rattle.replay_file.specs.StoreLemmas.{none_left, never_bad, part_taken}
 use Rattle.replay_file.proofs.part_cursor.PartCursor.next.Goals as goal
 

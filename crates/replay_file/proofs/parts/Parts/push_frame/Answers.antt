@@ -1,8 +1,4 @@
-use Rattle.std.proofs.Common.{arith, [], ◌∷◌, ◌++◌, ◌≡◌, List}
-use Rattle.std.specs.Prelude.{OnOk}
-use Rattle.replay_file.specs.declared.part.Part.{Part}
-use Rattle.replay_file.specs.declared.part.Part.TheVariants.{Frame, Mark}
-use Rattle.replay_file.specs.PartStore.{parts_in}
+use Rattle.replay_file.specs.declared.part.Part.TheVariants.{Frame}
 use Rattle.replay_file.specs.StoreLemmas.{store_after, parts_after}
 use Rattle.replay_file.proofs.parts.Parts.push_frame.Goals as goal
 

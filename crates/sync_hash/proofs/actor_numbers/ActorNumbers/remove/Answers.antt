@@ -1,7 +1,7 @@
-use Rattle.std.proofs.Common.{◌≡◌, ◌+◌, ◌≤◌, ◌∙◌, length, sym, ap, subst, arith}
+use Rattle.std.proofs.Common.{◌≡◌, ◌∙◌, sym, ap, subst, arith}
 use Rattle.std.proofs.lemmas.List.Edits.{length-remove}
 use Rattle.sync_hash.specs.declared.actor_number.ActorNumber.{ActorNumber}
-use Rattle.sync_hash.specs.Kept.{RiseFrom, number_in, numbers_sum, without_number}
+use Rattle.sync_hash.specs.Kept.{RiseFrom, number_in}
 use Rattle.sync_hash.proofs.NumbersLemmas.{Absent, Present, absent_at, present_at, rise_without, sum_without}
 use Rattle.sync_hash.proofs.actor_numbers.ActorNumbers.remove.Goals as goal
 

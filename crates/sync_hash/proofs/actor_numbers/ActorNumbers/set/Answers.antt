@@ -1,9 +1,9 @@
-use Rattle.std.proofs.Common.{◌≡◌, ℕ, ◌+◌, ◌<◌, ◌≤◌, ◌∙◌, List, length, length-set, sym, ap, subst, arith}
+use Rattle.std.proofs.Common.{◌≡◌, ℕ, ◌<◌, ◌≤◌, ◌∙◌, List, length, length-set, sym, ap, subst, arith}
 use Rattle.std.proofs.lemmas.List.Edits.{length-insert}
 use Rattle.std.specs.List.{insert}
 use Rattle.game_model.specs.declared.limits.TheConstants.{MAX_ACTORS}
 use Rattle.sync_hash.specs.declared.actor_number.ActorNumber.{ActorNumber}
-use Rattle.sync_hash.specs.Kept.{RiseFrom, number_in, numbers_sum, with_number}
+use Rattle.sync_hash.specs.Kept.{RiseFrom, number_in, with_number}
 use Rattle.sync_hash.proofs.NumbersLemmas.{Absent, Present, absent_at, present_at, has_room, rise_with, sum_with}
 use Rattle.sync_hash.proofs.actor_numbers.ActorNumbers.set.Goals as goal
 

@@ -1,4 +1,4 @@
-use Rattle.std.proofs.Common.{◌≡◌, ◌+◌, ◌≤◌, ◌∙◌, sym, ap, arith, drop, drop-cons, add-one, length, slice_index_or}
+use Rattle.std.proofs.Common.{arith}
 use Rattle.std.proofs.lemmas.Grind.{common_steps}
 use Rattle.sync_hash.proofs.NumbersLemmas.{length_with}
 use Rattle.sync_hash.proofs.actor_numbers.ActorNumbers.set_all.Goals as goal

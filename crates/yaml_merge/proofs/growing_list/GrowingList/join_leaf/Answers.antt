@@ -1,10 +1,9 @@
-use Rattle.std.proofs.Common.{◌≡◌, ◌≤◌, ◌++◌, ◌∷◌, [], ◌∙◌, ap, sym, subst, refl, arith, Some, true}
+use Rattle.std.proofs.Common.{◌≡◌, ◌++◌, ◌∷◌, [], ◌∙◌, ap, sym, subst, refl, arith, true}
 use Rattle.yaml_merge.specs.declared.growing_list.Slot.{Slot}
-use Rattle.yaml_merge.specs.Merging.{count, without, newer_value}
+use Rattle.yaml_merge.specs.Merging.{count, newer_value}
 use Rattle.yaml_merge.specs.Slots.{LacksKey, Finds}
-use Rattle.yaml_merge.proofs.PlaceLaws.{lacks_children, emptied_lacks, without_none}
-use Rattle.yaml_merge.proofs.GrowingSteps.{is_at, at_within, below_less, taken_whole, taken_children}
-use Rattle.yaml_merge.proofs.GrowingSteps.{taken_left, lacks_list, filled_whole, filled_joined}
+use Rattle.yaml_merge.proofs.GrowingSteps.{is_at, at_within}
+use Rattle.yaml_merge.proofs.GrowingSteps.{filled_whole}
 use Rattle.yaml_merge.proofs.GrowingSteps.{added_whole, filled_leaf, added_leaf}
 use Rattle.yaml_merge.proofs.growing_list.GrowingList.join_leaf.Goals as goal
 

@@ -1,10 +1,9 @@
-use Rattle.std.proofs.Common.{◌≡◌, ◌≤◌, ◌+◌, ◌-◌, set, ◌++◌, ◌∷◌, [], ◌∙◌, ap, sym, subst, refl, arith, Some, false}
+use Rattle.std.proofs.Common.{◌+◌, ◌-◌, set, ◌∙◌, ap, sym, refl, arith, Some, false}
 use Rattle.yaml_merge.specs.declared.growing_list.Slot.{Slot}
-use Rattle.yaml_merge.specs.Merging.{count, without, newer_value}
-use Rattle.yaml_merge.specs.Slots.{LacksKey, Finds}
-use Rattle.yaml_merge.proofs.PlaceLaws.{lacks_children, emptied_lacks, without_none}
-use Rattle.yaml_merge.proofs.GrowingSteps.{is_at, at_within, below_less, taken_whole, taken_children}
-use Rattle.yaml_merge.proofs.GrowingSteps.{taken_left, lacks_list, filled_whole, filled_joined}
+use Rattle.yaml_merge.specs.Merging.{count}
+use Rattle.yaml_merge.proofs.PlaceLaws.{without_none}
+use Rattle.yaml_merge.proofs.GrowingSteps.{is_at, at_within, below_less}
+use Rattle.yaml_merge.proofs.GrowingSteps.{lacks_list}
 use Rattle.yaml_merge.proofs.GrowingSteps.{IsDropped, gone_whole, gone_list}
 use Rattle.yaml_merge.proofs.growing_list.GrowingList.remove.Goals.{in-Some-1, in-None-1}
 use Rattle.yaml_merge.proofs.growing_list.GrowingList.remove.Goals as goal

@@ -1,11 +1,8 @@
-use Rattle.std.proofs.Common.{◌≡◌, ◌≤◌, ◌++◌, ◌∷◌, [], ◌∙◌, ap, sym, subst, refl, arith, Some}
-use Rattle.yaml_merge.specs.declared.growing_list.Slot.{Slot}
-use Rattle.yaml_merge.specs.Merging.{count, without, newer_value}
-use Rattle.yaml_merge.specs.Slots.{LacksKey, Finds}
-use Rattle.yaml_merge.proofs.PlaceLaws.{lacks_children, emptied_lacks, without_none}
+use Rattle.std.proofs.Common.{◌∙◌, ap, arith}
+use Rattle.yaml_merge.specs.Merging.{count}
+use Rattle.yaml_merge.proofs.PlaceLaws.{lacks_children, emptied_lacks}
 use Rattle.yaml_merge.proofs.GrowingSteps.{is_at, at_within, below_less, taken_whole, taken_children}
-use Rattle.yaml_merge.proofs.GrowingSteps.{taken_left, lacks_list, filled_whole, filled_joined}
-use Rattle.yaml_merge.proofs.GrowingSteps.{added_whole, added_list}
+use Rattle.yaml_merge.proofs.GrowingSteps.{taken_left, lacks_list}
 use Rattle.yaml_merge.proofs.growing_list.GrowingList.take.Goals as goal
 
 pub index_mut-slot-requires : goal.index_mut-slot-requires

@@ -1,4 +1,4 @@
-use Rattle.std.proofs.Common.{arith, cond, ap, sym, subst, ◌∙◌, ◌≡◌, List, ℕ, length, Some}
+use Rattle.std.proofs.Common.{cond, ap, subst, ◌∙◌, List, ℕ, length, Some}
 use Rattle.std.specs.HashMap.{get}
 use Rattle.std.specs.Prelude.{MatchOption}
 use Rattle.std.specs.Str.{bytes_eq}

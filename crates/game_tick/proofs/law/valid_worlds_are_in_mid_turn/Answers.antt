@@ -1,0 +1,5 @@
+use Rattle.game_tick.specs.TurnLemmas.{mid_from_valid}
+use Rattle.game_tick.proofs.law.valid_worlds_are_in_mid_turn.Goals as goal
+
+pub returns : goal.returns
+returns c = λ setup least most draws w valid. mid_from_valid setup least most draws w valid
