@@ -1,0 +1,5 @@
+pub mod Ranking
+pub mod Outwards
+pub mod NearestLaw
+pub mod RefineryLaw
+pub mod Rows
