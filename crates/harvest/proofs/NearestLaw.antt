@@ -1,5 +1,5 @@
 -- The definition of the nearest ore is the least rank of the cells with ore.
-use Rattle.std.proofs.Common.{◌≡◌, ◌≢◌, ℕ, zero, suc, ◌+◌, ◌*◌, ◌/◌, ◌%◌, ◌<◌, ◌≤◌, ◌⊎◌, eqb, nat_lt, Bool, true, false, cond, List, [], ◌∷◌, map, Option, Some, None, inl, inr, refl, sym, subst, ap, ap₂, ◌∙◌, arith}
+use Rattle.std.proofs.Common.{◌≡◌, ℕ, zero, suc, ◌+◌, ◌*◌, ◌/◌, ◌%◌, ◌<◌, ◌≤◌, ◌⊎◌, nat_lt, Bool, true, false, map, Option, Some, None, inl, inr, refl, sym, subst, ap, ap₂, ◌∙◌, arith}
 use Rattle.std.specs.List.{filter, fold, range_with_len}
 use Rattle.std.proofs.Math.Nat.{div-add-mod, mod-lt, div-lt_iff_lt-mul}
 use Rattle.std.proofs.lemmas.Bool.Decides.{eqb_tells, nat_tests}
@@ -8,7 +8,7 @@ use Rattle.world_units.specs.declared.cell.CPos.{CPos}
 use Rattle.world_units.specs.Cells.{dist_sq_of}
 use Rattle.game_model.specs.Grid.{Grid, IsOn, place_of}
 use Rattle.game_model.specs.OreRows.{has_ore}
-use Rattle.game_tick.specs.Nearest.{lesser_by, first_least, cell_of, cells_of, ore_at, nearest_ore}
+use Rattle.game_tick.specs.Nearest.{lesser_by, first_least, cell_of, ore_at, nearest_ore}
 use Rattle.harvest.specs.Ranks.{rank_of, IsRich, IsLeast, IsNearestOre}
 use Rattle.harvest.proofs.Ranking.{small_area}
 

@@ -1,10 +1,10 @@
 -- The search outwards from a cell: columns within a row, and rows.
-use Rattle.std.proofs.Common.{◌≡◌, ◌≢◌, ℕ, ◌+◌, ◌-◌, ◌*◌, ◌<◌, ◌≤◌, ◌⊎◌, eqb, true, false, is_some, nat_lt, Option, Some, None, inl, inr, refl, sym, subst, ap, ap₂, ◌∙◌, arith}
+use Rattle.std.proofs.Common.{◌≡◌, ◌≢◌, ℕ, ◌+◌, ◌*◌, ◌<◌, ◌≤◌, ◌⊎◌, eqb, true, false, is_some, nat_lt, Option, Some, None, inl, inr, sym, ap, ap₂, ◌∙◌, arith}
 use Rattle.std.proofs.Math.Nat.{mul-le-mul}
 use Rattle.std.proofs.lemmas.Bool.Decides.{eqb_tells, nat_tests}
 use Rattle.world_units.specs.declared.cell.CPos.{CPos}
 use Rattle.world_units.specs.Cells.{apart, square, dist_sq_of}
-use Rattle.game_model.specs.Grid.{Grid, IsOn, place_of}
+use Rattle.game_model.specs.Grid.{Grid, place_of}
 use Rattle.harvest.specs.Ranks.{rank_of, IsRich, IsLeast, IsRichIn, IsAside, IsLeft, IsRight, IsAbove, IsBelow, IsBeyond, IsWithin, IsThis, nearer_by}
 use Rattle.harvest.proofs.Ranking.{least_same, place_below}
 

@@ -1,5 +1,5 @@
 -- A pass over the actors finds the nearest refinery.
-use Rattle.std.proofs.Common.{◌≡◌, ℕ, zero, suc, ◌+◌, ◌≤◌, ◌⊎◌, Bool, true, false, cond, List, [], ◌∷◌, drop, length, Option, Some, None, slice_get, inl, inr, refl, sym, subst, ap, ◌∙◌, arith}
+use Rattle.std.proofs.Common.{◌≡◌, ℕ, zero, suc, ◌≤◌, ◌⊎◌, Bool, true, false, List, [], ◌∷◌, drop, length, Option, Some, None, slice_get, inl, inr, refl, sym, subst, arith}
 use Rattle.std.specs.List.{filter, fold}
 use Rattle.world_units.specs.Cells.{dist_sq_of}
 use Rattle.rule_traits.specs.declared.kind.Kind.{Kind}
@@ -42,3 +42,10 @@ pass_ends rules a [] zero best all = refl
 pass_ends rules a [] (suc i) best all = refl
 pass_ends rules a (x ∷ actors) zero best all = absurd (omega (arith, all))
 pass_ends rules a (x ∷ actors) (suc i) best all = pass_ends rules a actors i best (omega (arith, all))
+
+-- past the end
+pub pass_none : (rules : List Kind) (a : Actor) (actors : List Actor) (i j : ℕ) (best : Option Actor) → j ≡ suc i → None ≡ slice_get actors i → best_after rules a best (drop j actors) ≡ best_after rules a best (drop i actors)
+pass_none rules a [] zero j best next none = rw next refl
+pass_none rules a [] (suc i) j best next none = rw next refl
+pass_none rules a (x ∷ actors) zero j best next none = absurd (cc)
+pass_none rules a (x ∷ actors) (suc i) j best next none = rw next (pass_none rules a actors i (suc i) best refl none)

@@ -1,3 +1,2 @@
 pub mod Ranks
 pub mod Refineries
-pub mod Steps

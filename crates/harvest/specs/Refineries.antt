@@ -1,5 +1,5 @@
 -- The nearest refinery by a pass over the actors.
-use Rattle.std.specs.Prelude.{ℕ, if◌then◌else◌, List, [], ◌∷◌, Option, Some, None}
+use Rattle.std.specs.Prelude.{if◌then◌else◌, List, [], ◌∷◌, Option, Some, None}
 use Rattle.world_units.specs.Cells.{dist_sq_of}
 use Rattle.rule_traits.specs.declared.kind.Kind.{Kind}
 use Rattle.game_model.specs.declared.actor.Actor.{Actor}

@@ -1,4 +1,4 @@
-use Rattle.std.proofs.Common.{◌≡◌, ◌<◌, sym, ◌∙◌, arith}
+use Rattle.std.proofs.Common.{◌<◌, sym, ◌∙◌, arith}
 use Rattle.harvest.proofs.Outwards.{rows_found_some}
 use Rattle.harvest.proofs.search.find_ore.Goals as goal
 

@@ -1,4 +1,3 @@
-use Rattle.std.proofs.Common.{◌≡◌, ℕ, ◌≤◌}
 use Rattle.harvest.specs.Ranks.{IsLeast, IsWithin}
 use Rattle.harvest.proofs.search.find_ore.Given as goal
 

@@ -1,4 +1,4 @@
-use Rattle.std.proofs.Common.{◌≡◌, ◌<◌, sym, ◌∙◌, arith}
+use Rattle.std.proofs.Common.{◌<◌, arith}
 use Rattle.game_tick.specs.Nearest.{nearest_ore}
 use Rattle.harvest.proofs.NearestLaw.{nearest_is_least}
 use Rattle.harvest.proofs.Ranking.{one_least}
