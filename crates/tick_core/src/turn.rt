@@ -20,7 +20,7 @@ pub(crate) struct Aim {
 
 /// Whether a step leaves the actor as it is: it has nothing to load, to build, to go or to do.
 fn is_idle(a: &Actor) -> bool {
-    a.body.reload == 0 && a.body.builds.is_empty() && a.body.leg.is_none() && a.body.acts.is_empty()
+    a.body.reload == 0 && a.body.builds.is_empty() && a.body.leg.is_none() && a.body.acts.head().is_none()
 }
 
 /// What the step of an actor may change beside the actor itself.
