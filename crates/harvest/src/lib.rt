@@ -5,11 +5,9 @@
 
 mod refinery;
 mod search;
-mod steps;
 
 pub use refinery::nearest_refinery;
 pub use search::nearest_ore;
-pub use steps::harvest_step;
 
 #[cfg(test)]
 mod tests;

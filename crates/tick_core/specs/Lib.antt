@@ -5,3 +5,5 @@ pub mod Live
 pub mod Idle
 pub mod Touched
 pub mod Scene
+pub mod Telling
+pub mod Ordered

@@ -1,16 +1,24 @@
-ghost use Rattle.std.specs.Prelude.{◌≡◌, ◌-◌, ◌^◌, ◌<◌, IsSome};
+ghost use Rattle.std.specs.Prelude.{◌≡◌, ◌-◌, ◌^◌, ◌<◌, IfSome, IsSome, IsSomeAnd};
+ghost use Rattle.activities.specs.declared.activity.Activity.TheVariants.{Attack, Move};
 ghost use Rattle.game_model.specs.ActorChanges.{changed_at};
-ghost use Rattle.game_model.specs.World.{living_of};
-ghost use Rattle.game_tick.specs.Turn.{after_step, reloaded, with_build, with_reload, with_way};
+ghost use Rattle.game_model.specs.Grid.{HasSize};
+ghost use Rattle.game_model.specs.World.{actor_of, living_of};
+ghost use Rattle.game_tick.specs.Turn.{reloaded, with_build, with_reload, with_way};
+ghost use Rattle.grid_routes.specs.Routing.{IsSameSize};
+ghost use Rattle.harvest.specs.Steps.{harvested_by_id, HasWay, IsHarvested};
+ghost use Rattle.motion.specs.Ground.{FitsMap, built_in, setup_in};
+ghost use Rattle.tick_core.specs.Scene.{DoesFirst, IsGathering, prepared};
 
+use crate::living::living;
 use crate::scene::Scene;
 use activities::Activity;
 use actor_table::ActorTable;
 use combat::attack_step;
-use game_model::Ground;
-use harvest::harvest_step;
+use game_model::{Ground, Ore, Purse};
+use grid_routes::Router;
 use motion::{advance_leg, move_activity};
 use production::build_step;
+use world_units::CPos;
 
 /// One turn less until the actor of an id, if it is there, can fire again.
 fn reload(t: &mut ActorTable, id: u32)
@@ -20,32 +28,37 @@ fn reload(t: &mut ActorTable, id: u32)
     let Some(a) = t.get(id) else {
         return;
     };
-    if a.body.reload == 0 {
-        return;
-    }
     let mut body = a.body.copy();
-    body.reload -= 1;
+    body.reload = body.reload.saturating_sub(1);
     t.swap_body(id, &mut body);
 }
 
+/// The step of a harvester.
+fn harvest(
+    t: &mut ActorTable,
+    r: &mut Router,
+    g: &Ground,
+    ore: &mut Ore,
+    purse: &mut Purse,
+    id: u32,
+)
+    requires fits { FitsMap g.now.map.now (built_in g.now) t.old r.old }
+    requires ore { HasSize g.now.map.now.width g.now.map.now.height ore.old }
+    requires way { IfSome (actor_of t.old.actors id) (HasWay g.now.map.now) }
+    ensures harvested { IsHarvested t.old t.new ore.new purse.new (harvested_by_id (setup_in g.now) (built_in g.now) (record { actors = t.old.actors; ore = ore.old; cash = purse.old }) (actor_of t.old.actors id)) }
+    ensures router { IsSameSize r.old r.new }
+{
+}
+
 impl Scene {
-    /// The step of the actor of an id: nothing where it lives no more.
-    pub(crate) fn step(&mut self, id: u32)
-        requires drawn { self.old.world.drawn < 2 ^ 64 - 1 }
-        ensures { self.new ≡ record self.old { world = after_step self.old.setup self.old.world id } }
+    /// The first two parts of the step of the actor of an id, if it lives: it reloads, and its
+    /// first build goes on.
+    pub(crate) fn prepare(&mut self, id: u32)
+        ensures { self.new ≡ record self.old { world = prepared self.old.setup self.old.world id } }
     {
-        if self.lives(id) {
+        if living(&self.table, id).is_some() {
             self.reload(id);
             self.build(id);
-            self.go_on(id);
-        }
-    }
-
-    /// Whether the actor of an id is there and has health left.
-    fn lives(&self, id: u32) -> bool {
-        match self.table.get(id) {
-            Some(a) => a.body.health > 0,
-            None => false,
         }
     }
 
@@ -57,13 +70,15 @@ impl Scene {
         reload(&mut self.table, id);
     }
 
-    /// The step of the first build of the actor.
+    /// The step of the first build of the actor, if it lives.
     fn build(&mut self, id: u32)
-        requires lives { IsSome (living_of self.old.world.actors id) }
         ensures { self.new ≡ record self.old {
           world = with_build self.old.setup self.old.world (living_of self.old.world.actors id);
         } }
     {
+        let Some(_) = living(&self.table, id) else {
+            return;
+        };
         let ground = Ground {
             rules: &self.rules,
             map: &self.map,
@@ -72,53 +87,108 @@ impl Scene {
         build_step(&mut self.table, &ground, &mut self.head.next_id, id);
     }
 
-    /// The actor goes on with its leg, or with what it is to do.
-    fn go_on(&mut self, id: u32)
-        requires lives { IsSome (living_of self.old.world.actors id) }
+    /// The last part of the step of the actor of an id, if it lives: it goes on with its leg, or
+    /// with what it is to do.
+    pub(crate) fn go_on(&mut self, id: u32)
         requires drawn { self.old.world.drawn < 2 ^ 64 - 1 }
         ensures { self.new ≡ record self.old {
           world = with_way self.old.setup self.old.world (living_of self.old.world.actors id);
         } }
     {
-        let Some(a) = self.table.get(id) else {
+        let Some(a) = living(&self.table, id) else {
             return;
         };
         if a.body.leg.is_some() {
-            advance_leg(&mut self.table, &self.rules, id);
+            self.advance(id);
             return;
         }
         let Some(first) = a.body.acts.head() else {
             return;
         };
-        let first = *first;
-        self.act(id, first);
+        match *first {
+            Activity::Move { goal, waits } => self.walk(id, goal, waits),
+            Activity::Attack { target, waits } => self.fight(id, target, waits),
+            first @ (Activity::Harvest { .. } | Activity::Deliver { .. }) => self.gather(id, first),
+        }
     }
 
-    /// The step of the first activity of the actor.
-    fn act(&mut self, id: u32, first: Activity) {
+    /// The actor goes on with its leg.
+    fn advance(&mut self, id: u32)
+        requires leg { IsSomeAnd (living_of self.old.world.actors id) (λ a. IsSome a.body.leg) }
+        ensures { self.new ≡ record self.old {
+          world = with_way self.old.setup self.old.world (living_of self.old.world.actors id);
+        } }
+    {
+        advance_leg(&mut self.table, &self.rules, id);
+    }
+
+    /// The actor's first activity is a Move.
+    fn walk(&mut self, id: u32, goal: CPos, waits: u8)
+        requires first { IsSomeAnd (living_of self.old.world.actors id) (DoesFirst (Move goal waits)) }
+        ensures { self.new ≡ record self.old {
+          world = with_way self.old.setup self.old.world (living_of self.old.world.actors id);
+        } }
+    {
         let ground = Ground {
             rules: &self.rules,
             map: &self.map,
             blocks: &self.blocks,
         };
-        match first {
-            Activity::Move { goal, waits } => {
-                move_activity(&mut self.table, &mut self.router, &ground, id, goal, waits);
-            }
-            Activity::Attack { .. } => {
-                attack_step(&mut self.table, &mut self.router, &ground, &mut self.dice, id);
-                self.head.drawn = self.dice.drawn();
-            }
-            Activity::Harvest { .. } | Activity::Deliver { .. } => {
-                harvest_step(
-                    &mut self.table,
-                    &mut self.router,
-                    &ground,
-                    &mut self.ore,
-                    &mut self.head.cash,
-                    id,
-                );
-            }
-        }
+        move_activity(
+            &mut self.table,
+            &mut self.router,
+            &ground,
+            id,
+            goal,
+            waits,
+        );
+    }
+
+    /// The actor's first activity is an Attack.
+    fn fight(&mut self, id: u32, target: u32, waits: u8)
+        requires first { IsSomeAnd (living_of self.old.world.actors id) (DoesFirst (Attack target waits)) }
+        requires drawn { self.old.world.drawn < 2 ^ 64 - 1 }
+        ensures { self.new ≡ record self.old {
+          world = with_way self.old.setup self.old.world (living_of self.old.world.actors id);
+        } }
+    {
+        let _ = (target, waits);
+        let ground = Ground {
+            rules: &self.rules,
+            map: &self.map,
+            blocks: &self.blocks,
+        };
+        attack_step(
+            &mut self.table,
+            &mut self.router,
+            &ground,
+            &mut self.dice,
+            id,
+        );
+        self.head.drawn = self.dice.drawn();
+    }
+
+    /// The actor's first activity is a Harvest or a Deliver.
+    fn gather(&mut self, id: u32, first: Activity)
+        requires first { IsSomeAnd (living_of self.old.world.actors id) (DoesFirst first) }
+        requires gathers { IsGathering first }
+        ensures { self.new ≡ record self.old {
+          world = with_way self.old.setup self.old.world (living_of self.old.world.actors id);
+        } }
+    {
+        let _ = first;
+        let ground = Ground {
+            rules: &self.rules,
+            map: &self.map,
+            blocks: &self.blocks,
+        };
+        harvest(
+            &mut self.table,
+            &mut self.router,
+            &ground,
+            &mut self.ore,
+            &mut self.head.cash,
+            id,
+        );
     }
 }

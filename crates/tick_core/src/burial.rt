@@ -5,7 +5,7 @@ ghost use Rattle.game_model.specs.Grid.{IsOn};
 ghost use Rattle.game_model.specs.World.{is_alive};
 ghost use Rattle.game_tick.specs.Turn.{buried};
 ghost use Rattle.sync_hash.specs.Kept.{numbered};
-ghost use Rattle.tick_core.specs.Burial.{with_cleared, without_dead};
+ghost use Rattle.tick_core.specs.Burial.{without_dead};
 
 use crate::blocks::is_building;
 use crate::live::LiveWorld;

@@ -29,11 +29,11 @@ impl Model for Game {
 
     ghost Value = { GameState };
 
-    ghost view = { λ game. record { setup = game.live.scene.setup; world = game.live.scene.world; steps = game.steps } };
+    ghost view = { λ game. record { setup = game.live.setup; world = game.live.world; steps = game.steps } };
 
     ghost invariant = { λ game. IsGame (record {
-      setup = game.live.scene.setup;
-      world = game.live.scene.world;
+      setup = game.live.setup;
+      world = game.live.world;
       steps =
           game.steps;
     }) };

@@ -16,6 +16,7 @@ mod departures;
 mod filling;
 mod game;
 mod live;
+mod living;
 mod maker;
 mod opening;
 mod orders;

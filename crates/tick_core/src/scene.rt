@@ -43,11 +43,12 @@ impl Model for Scene {
 }
 
 impl Scene {
-    ghost use Rattle.std.specs.Prelude.{◌≡◌, IfOk, length};
+    ghost use Rattle.std.specs.Prelude.{◌≡◌, ◌+◌, ◌<◌, ◌^◌, IfOk, length};
     ghost use Rattle.game_model.specs.Tick.{with_departures};
     ghost use Rattle.game_model.specs.World.{clients_of};
     ghost use Rattle.game_tick.specs.Turn.{buried};
     ghost use Rattle.game_model.specs.ValidMap.{IsSetup};
+    ghost use Rattle.tick_core.specs.Scene.{IsActing};
     ghost use Rattle.game_model.specs.ValidWorld.{IsValidWorld};
 
     /// An opening world, with the memory for all that ticks want. Out of memory is the only error.
@@ -95,12 +96,35 @@ impl Scene {
         Ok(self.head.world_with(actors, ore))
     }
 
+    /// The number of clients.
+    pub(crate) fn clients(&self) -> u8
+        ensures { result ≡ clients_of self.now.world }
+    {
+        self.head.cash.clients()
+    }
+
+    /// What holds of the world at all times: it stands on a valid setup, and is one in mid-turn.
+    pub(crate) fn known(&self)
+        ensures stands { IsSetup self.now.setup }
+        ensures acting { IsActing self.now.setup self.now.world }
+    {
+        let _tick = self.head.tick;
+    }
+
     /// Each client whose entry is a Leave becomes gone.
     pub(crate) fn let_depart(&mut self, f: &Frame)
         requires { length f.now ≡ clients_of self.old.world }
         ensures { self.new ≡ (record self.old { world = with_departures self.old.world f.now }) }
     {
         apply_departures(&mut self.head.gone, f);
+    }
+
+    /// One turn more.
+    pub(crate) fn count_turn(&mut self)
+        requires { self.old.world.tick + 1 < 2 ^ 32 }
+        ensures { self.new ≡ (record self.old { world = record self.old.world { tick = self.old.world.tick + 1 } }) }
+    {
+        self.head.tick += 1;
     }
 
     /// Removes the actors without health, and the blocks of the buildings among them.

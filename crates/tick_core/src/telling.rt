@@ -1,4 +1,4 @@
-ghost use Rattle.std.specs.Prelude.{◌≡◌, ◌&&◌, is_some};
+ghost use Rattle.std.specs.Prelude.{◌≡◌, ◌&&◌, [], is_some};
 ghost use Rattle.std.specs.Option.{option_copied};
 ghost use Rattle.game_model.specs.ActorChanges.{changed_at};
 ghost use Rattle.game_model.specs.ValidWorld.{gathers};
@@ -7,6 +7,7 @@ ghost use Rattle.game_tick.specs.Acts.{acts_after, with_acts};
 ghost use Rattle.game_tick.specs.Kinds.{kind_of};
 ghost use Rattle.game_tick.specs.Orders.{attacking, harvesting, is_target, moving, stopping, told, with_order};
 ghost use Rattle.rule_traits.specs.Rules.{moves};
+ghost use Rattle.tick_core.specs.Ordered.{IsReady};
 
 use crate::burial::is_alive;
 use crate::scene::Scene;
@@ -114,6 +115,7 @@ fn is_on(map: &Map, cell: CPos) -> bool {
 impl Scene {
     /// A client's order to move to a cell, given to the actor of an id.
     pub(crate) fn order_move(&mut self, client: u8, id: u32, cell: CPos, queued: bool)
+        requires ready { IsReady self.old.setup self.old.world self.old.world }
         ensures { self.new ≡ (record self.old { world = with_order self.old.setup self.old.world client id (moving self.old.setup cell queued) }) }
     {
         let Some(a) = own_of(&self.table, client, id) else {
@@ -130,6 +132,7 @@ impl Scene {
 
     /// A client's order to attack the actor `target`, given to the actor of an id.
     pub(crate) fn order_attack(&mut self, client: u8, id: u32, target: u32, queued: bool)
+        requires ready { IsReady self.old.setup self.old.world self.old.world }
         ensures { self.new ≡ (record self.old { world = with_order self.old.setup self.old.world client id (attacking self.old.setup self.old.world.actors target queued) }) }
     {
         let Some(a) = own_of(&self.table, client, id) else {
@@ -143,6 +146,7 @@ impl Scene {
 
     /// A client's order to harvest a cell, given to the actor of an id.
     pub(crate) fn order_harvest(&mut self, client: u8, id: u32, cell: CPos, queued: bool)
+        requires ready { IsReady self.old.setup self.old.world self.old.world }
         ensures { self.new ≡ (record self.old { world = with_order self.old.setup self.old.world client id (harvesting self.old.setup cell queued) }) }
     {
         let Some(a) = own_of(&self.table, client, id) else {
@@ -160,6 +164,7 @@ impl Scene {
 
     /// A client's order to do nothing more, given to the actor of an id.
     pub(crate) fn order_stop(&mut self, client: u8, id: u32)
+        requires ready { IsReady self.old.setup self.old.world self.old.world }
         ensures { self.new ≡ (record self.old { world = with_order self.old.setup self.old.world client id stopping }) }
     {
         if own_of(&self.table, client, id).is_some() {

@@ -2,15 +2,17 @@ ghost use Rattle.std.specs.Prelude.{◌≡◌, ◌+◌, ◌*◌, ◌<◌, ◌^�
 ghost use Rattle.game_model.specs.Tick.{with_departures};
 ghost use Rattle.game_model.specs.World.{clients_of};
 ghost use Rattle.game_tick.specs.Orders.{after_order, after_orders};
+ghost use Rattle.tick_core.specs.Ordered.{IsReady, subject_of};
 ghost use Rattle.game_tick.specs.Tick.{after_entry, after_turns, tick_of, with_orders};
 
-use crate::departures::apply_departures;
 use crate::live::LiveWorld;
-use crate::turn::tell_actor;
+use crate::turn::tell_actors;
 use game_orders::{Entry, Frame, Order, Orders};
 
 /// The actor to which an order is given, if it is given to one.
-fn actor_of(order: &Order) -> Option<u32> {
+fn subject_of(order: &Order) -> Option<u32>
+    ensures { result ≡ subject_of order.now }
+{
     match order {
         Order::Move { actor, .. }
         | Order::Attack { actor, .. }
@@ -29,12 +31,21 @@ impl LiveWorld {
         requires whole { length f.now ≡ clients_of self.old.world }
         requires more { self.old.world.tick + self.old.world.pace < 2 ^ 32 }
         requires draws { self.old.world.drawn + 2 ^ 16 < 2 ^ 64 }
+        requires ready { IsReady self.old.setup self.old.world self.old.world }
         ensures { self.new ≡ (record self.old { world = tick_of self.old.setup self.old.world f.now }) }
     {
         let turns = self.scene.head.pace;
         self.let_depart(f);
         self.apply_plays(f);
         self.run_turns(turns);
+    }
+
+    /// The number of clients.
+    pub(crate) fn clients(&self) -> u8
+        ensures { result ≡ clients_of self.now.world }
+    {
+        let _hasher = &self.hasher;
+        self.scene.clients()
     }
 
     /// Each client whose entry is a Leave becomes gone.
@@ -47,10 +58,12 @@ impl LiveWorld {
 
     /// Applies the orders of the plays by rising client.
     fn apply_plays(&mut self, f: &Frame)
-        requires { length f.now ≡ clients_of self.old.world }
-        ensures { self.new ≡ (record self.old { world = with_orders self.old.setup self.old.world f.now }) }
+        requires whole { length f.now ≡ clients_of self.old.world }
+        requires ready { IsReady self.old.setup self.old.world self.old.world }
+        ensures world { self.new ≡ (record self.old { world = with_orders self.old.setup self.old.world f.now }) }
+        ensures ready { IsReady self.old.setup self.old.world self.new.world }
     {
-        for c in 0..self.scene.head.cash.clients() {
+        for c in 0..self.clients() {
             if let Some(entry) = f.get(usize::from(c)) {
                 self.apply_entry(c, entry);
             }
@@ -59,7 +72,8 @@ impl LiveWorld {
 
     /// Applies the orders of one client's entry.
     fn apply_entry(&mut self, client: u8, entry: &Entry)
-        requires { client < clients_of self.old.world }
+        requires client { client < clients_of self.old.world }
+        requires ready { IsReady self.old.setup self.old.world self.old.world }
         ensures { self.new ≡ (record self.old { world = after_entry self.old.setup self.old.world client entry.now }) }
     {
         match entry {
@@ -70,7 +84,8 @@ impl LiveWorld {
 
     /// Applies the orders of a client, first to last.
     fn apply_orders(&mut self, client: u8, orders: &Orders)
-        requires { client < clients_of self.old.world }
+        requires client { client < clients_of self.old.world }
+        requires ready { IsReady self.old.setup self.old.world self.old.world }
         ensures { self.new ≡ (record self.old { world = after_orders self.old.setup self.old.world client orders.now }) }
     {
         for i in 0..orders.len() {
@@ -82,13 +97,13 @@ impl LiveWorld {
 
     /// Applies one order of a client, and tells the hasher of the actor to which it is given.
     fn apply_order(&mut self, client: u8, order: &Order)
-        requires { client < clients_of self.old.world }
+        requires client { client < clients_of self.old.world }
+        requires ready { IsReady self.old.setup self.old.world self.old.world }
         ensures { self.new ≡ (record self.old { world = after_order self.old.setup self.old.world client order.now }) }
     {
         self.scene.apply_order(client, order);
-        if let Some(id) = actor_of(order) {
-            tell_actor(&self.scene.table, &mut self.hasher, id);
-        }
+        let subject = subject_of(order);
+        tell_actors(&self.scene.table, &mut self.hasher, subject, None, None);
     }
 
     /// Runs so many turns.

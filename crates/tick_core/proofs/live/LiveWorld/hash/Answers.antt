@@ -1,5 +1,4 @@
 use Rattle.std.proofs.Common.{◌∙◌, ap}
-use Rattle.game_model.specs.World.{world_with}
 use Rattle.sync_hash.specs.KeptLemmas.{kept_hash}
 use Rattle.sync_hash.specs.WorldHash.{hash_of}
 use Rattle.tick_core.specs.Live.{Standing}
@@ -8,5 +7,5 @@ use Rattle.tick_core.proofs.live.LiveWorld.hash.Goals as goal
 pub returns : goal.returns
 returns c =
     let live = c.self.inside in
-    c.hash.ensures ∙ kept_hash live.hasher (world_with live.head live.table.actors live.ore) c.self.invariant.numbers
+    c.hash.ensures ∙ kept_hash live.hasher live.scene.world c.self.invariant
     ∙ ap (λ (s : Standing). hash_of s.world) c.self.view_is
