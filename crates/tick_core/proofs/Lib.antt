@@ -6,3 +6,4 @@ pub mod SceneLemmas
 pub mod OrderLemmas
 pub mod StepLemmas
 pub mod TellLemmas
+pub mod BusyLemmas

@@ -2,6 +2,7 @@
 use Rattle.std.proofs.Common.{◌≡◌, ◌≢◌, ℕ, suc, ◌<◌, eqb, Bool, true, false, cond, List, [], ◌∷◌, length, get_or, Option, Some, None, inl, inr, refl, sym, subst, ◌∙◌, arith}
 use Rattle.std.specs.Prelude.{if◌then◌else◌}
 use Rattle.std.specs.List.{AllPairs}
+use Rattle.std.proofs.lemmas.Bool.{cond_both}
 use Rattle.std.proofs.lemmas.Bool.Decides.{eqb_tells}
 use Rattle.game_model.specs.declared.actor.Actor.{Actor}
 use Rattle.game_model.specs.World.{actor_of, is_alive, living_of}
@@ -60,5 +61,4 @@ living_actor actors id a rise lives = living_by actors id a (actor_of actors id)
 
 -- What holds of both choices holds of the one that is taken.
 pub by_if : {R : Type 0} (P : R → Type 0) (b : Bool) (x y : R) → P x → P y → P (if b then x else y)
-by_if P true x y yes no = yes
-by_if P false x y yes no = no
+by_if P b x y left right = cond_both b x y P (λ e. left) (λ e. right)

@@ -1,6 +1,6 @@
 -- An order changes at most the actor to which it is given, and leaves kinds and cells.
 use Rattle.std.proofs.Common.{◌≡◌, ℕ, ◌+◌, Bool, true, false, cond, List, [], ◌∷◌, map, Option, Some, None, inl, inr, refl, sym, ap, ap₂, subst, ◌∙◌, arith}
-use Rattle.std.specs.Prelude.{if◌then◌else◌, is_some, ◌⊎◌, ◌&&◌, ◌||◌, ◌*◌}
+use Rattle.std.specs.Prelude.{◌==◌, if◌then◌else◌, is_some, ◌⊎◌, ◌&&◌, ◌||◌, ◌*◌}
 use Rattle.std.specs.List.{range_with_len}
 use Rattle.std.proofs.lemmas.Bool.Decides.{eqb_tells}
 use Rattle.twister.specs.Place.{Place}
@@ -29,13 +29,15 @@ use Rattle.game_tick.specs.Turn.{blocks_of, dice_of}
 use Rattle.game_tick.specs.TurnLemmas.{mid_from_valid}
 use Rattle.actor_table.specs.Table.{Table}
 use Rattle.grid_routes.specs.Routing.{Routing}
+use Rattle.sync_hash.specs.declared.actor_number.ActorNumber.{ActorNumber}
+use Rattle.sync_hash.specs.Kept.{numbered}
 use Rattle.tick_core.specs.Ordered.{IsChange, IsReady, KeepsShape, subject_of}
 use Rattle.tick_core.specs.Scene.{IsScene}
-use Rattle.tick_core.specs.Touched.{SameBut, is_among}
+use Rattle.tick_core.specs.Touched.{KeptBut, SameBut, is_among}
 use Rattle.tick_core.specs.Telling.{with_some}
 use Rattle.tick_core.proofs.LifeLemmas.{by_if}
 use Rattle.tick_core.proofs.SceneLemmas.{same_size, scene_with}
-use Rattle.tick_core.proofs.TouchedLemmas.{same_all, same_changed}
+use Rattle.tick_core.proofs.TouchedLemmas.{kept_from, same_all, same_changed, same_grows}
 
 own_id :
     (actors : List Actor) (client id : ℕ) (a : Actor) → own_of actors client id ≡ Some a → a.id ≡ id
@@ -199,3 +201,21 @@ pub order_not :
     Some a ≡ own_of actors client id → doing.fits (kind_of rules a.kind) a ≡ false →
     actors ≡ changed_if rules actors doing (own_of actors client id)
 order_not rules actors doing client id a owned fits = rw (← owned) (rw fits refl)
+
+-- The table with these actors.
+abbrev pub with_actors : Table → List Actor → Table
+with_actors t actors = record t { actors = actors }
+
+-- The world after a deal.
+abbrev pub with_deal : World → List Actor → List ℕ → World
+with_deal w actors cash = record w { actors = actors; cash = cash }
+
+-- After an order the numbers are right, but for the actor to which it was given.
+pub order_told :
+    (setup : Setup) (w : World) (client : ℕ) (order : Order) (kept : List ActorNumber) → kept ≡ map numbered w.actors →
+    KeptBut (with_some (subject_of order) []) kept (after_order setup w client order).actors
+order_told setup w client order kept is =
+    let new : List Actor = (after_order setup w client order).actors in
+    let ids : List ℕ = with_some (subject_of order) [] in
+    subst (λ k. KeptBut ids k new) (sym is)
+    (kept_from ids w.actors new (same_grows ids w.actors new (change_same (subject_of order) w.actors new (order_change setup w client order))))

@@ -1,6 +1,6 @@
 -- How a tick goes on from one client of a frame to the next, and from one order to the next.
 use Rattle.std.proofs.Common.{◌≡◌, ℕ, zero, suc, ◌+◌, Bool, true, List, [], ◌∷◌, length, drop, take}
-use Rattle.std.proofs.Common.{refl, ap, ap₂, sym, ◌<◌, ◌≤◌, ◌-◌, ◌^◌, ◌∙◌, add-one, arith}
+use Rattle.std.proofs.Common.{refl, ap, ap₂, sym, ◌<◌, ◌≤◌, ◌-◌, ◌*◌, ◌^◌, ◌∙◌, add-one, arith}
 use Rattle.std.proofs.Math.ListN.{set}
 use Rattle.std.proofs.lemmas.List.{length-set}
 use Rattle.std.specs.Prelude.{Some, slice_get}
@@ -66,14 +66,14 @@ entry_next setup w c frame entry at =
     rw (drop_at frame c entry at) (ap (λ n. after_entries setup (c + 1) (after_entry setup w c entry) (drop n frame)) (add-one c))
 
 -- Past the end nothing is left.
-drop_past : {A : Type 0} (xs : List A) (n : ℕ) → length xs ≤ n → drop n xs ≡ []
+pub drop_past : {A : Type 0} (xs : List A) (n : ℕ) → length xs ≤ n → drop n xs ≡ []
 drop_past [] zero past = refl
 drop_past [] (suc n) past = refl
 drop_past (x ∷ xs) zero past = absurd (omega arith)
 drop_past (x ∷ xs) (suc n) past = drop_past xs n (omega arith)
 
 -- What stands on the same, with this world.
-abbrev the_standing : Setup → World → Standing
+abbrev pub the_standing : Setup → World → Standing
 the_standing setup world = record { setup = setup; world = world }
 
 -- The first orders of a client were applied.

@@ -60,6 +60,6 @@ impl LiveWorld {
     pub(crate) fn hash(&self) -> u64
         ensures { result ≡ hash_of self.now.world }
     {
-        self.hasher.hash(&self.scene.head)
+        self.scene.hash(&self.hasher)
     }
 }

@@ -11,6 +11,7 @@ use rule_traits::Rules;
 use std::alloc::Global;
 use std::marker::Model;
 use std::rc::Rc;
+use sync_hash::Hasher;
 use twister::Twister;
 
 /// A world in which actors act, and what it stands on.
@@ -48,6 +49,8 @@ impl Scene {
     ghost use Rattle.game_model.specs.World.{clients_of};
     ghost use Rattle.game_tick.specs.Turn.{buried};
     ghost use Rattle.game_model.specs.ValidMap.{IsSetup};
+    ghost use Rattle.sync_hash.specs.Kept.{IsKeptOf};
+    ghost use Rattle.sync_hash.specs.WorldHash.{hash_of};
     ghost use Rattle.tick_core.specs.Scene.{IsActing};
     ghost use Rattle.game_model.specs.ValidWorld.{IsValidWorld};
 
@@ -85,6 +88,28 @@ impl Scene {
             router,
             dice,
         })
+    }
+
+    /// The hash of the world, of which this is kept.
+    pub(crate) fn hash(&self, hasher: &Hasher) -> u64
+        requires { IsKeptOf hasher.now self.now.world.actors self.now.world.ore }
+        ensures { result ≡ hash_of self.now.world }
+    {
+        hasher.hash(&self.head)
+    }
+
+    /// How many random words were drawn so far.
+    pub(crate) fn drawn(&self) -> u64
+        ensures { result ≡ self.now.world.drawn }
+    {
+        self.head.drawn
+    }
+
+    /// The id of the next actor.
+    pub(crate) fn next_id(&self) -> u32
+        ensures { result ≡ self.now.world.next_id }
+    {
+        self.head.next_id
     }
 
     /// The world as it is now. Out of memory is the only error.

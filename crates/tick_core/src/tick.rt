@@ -6,7 +6,6 @@ ghost use Rattle.tick_core.specs.Ordered.{IsReady, subject_of};
 ghost use Rattle.game_tick.specs.Tick.{after_entry, after_turns, tick_of, with_orders};
 
 use crate::live::LiveWorld;
-use crate::turn::tell_actors;
 use game_orders::{Entry, Frame, Order, Orders};
 
 /// The actor to which an order is given, if it is given to one.
@@ -103,7 +102,7 @@ impl LiveWorld {
     {
         self.scene.apply_order(client, order);
         let subject = subject_of(order);
-        tell_actors(&self.scene.table, &mut self.hasher, subject, None, None);
+        self.scene.tell(&mut self.hasher, subject, None, None);
     }
 
     /// Runs so many turns.

@@ -1,14 +1,17 @@
-ghost use Rattle.std.specs.Prelude.{◌≡◌, ◌+◌, ◌-◌, ◌≤◌, ◌<◌, ◌^◌, [], true, if◌then◌else◌, map, IfSome, IsSome, None};
+ghost use Rattle.std.specs.Prelude.{◌≡◌, ◌==◌, ◌+◌, ◌-◌, ◌≤◌, ◌<◌, ◌^◌, [], true, false, if◌then◌else◌, length, map, slice_get, IfSome, None};
 ghost use Rattle.game_model.specs.Grid.{IsOn};
-ghost use Rattle.game_model.specs.World.{living_of};
+ghost use Rattle.game_model.specs.ValidMap.{IsSetup};
+ghost use Rattle.game_model.specs.World.{ids_of, living_of};
 ghost use Rattle.game_model.specs.declared.limits.TheConstants.{MAX_ACTORS};
-ghost use Rattle.game_tick.specs.Turn.{after_step, after_turn};
+ghost use Rattle.game_tick.specs.Turn.{after_step, after_steps, after_turn};
 ghost use Rattle.sync_hash.specs.Kept.{numbered};
+ghost use Rattle.tick_core.specs.Scene.{IsActing};
 ghost use Rattle.tick_core.specs.Telling.{HasPlaceFor, IsIdleNow, cell_of, target_of, told_of, told_ore, with_some};
 ghost use Rattle.tick_core.specs.Touched.{KeptBut};
 
 use crate::live::LiveWorld;
 use crate::living::living;
+use crate::scene::Scene;
 use activities::Activity;
 use actor_table::ActorTable;
 use game_model::{Actor, Ore};
@@ -73,7 +76,7 @@ fn tell_actor(table: &ActorTable, hasher: &mut Hasher, id: Option<u32>)
 
 /// Tells the hasher of the actors of these ids, as far as they are there: the numbers of all others
 /// are right.
-pub(crate) fn tell_actors(
+fn tell_actors(
     table: &ActorTable,
     hasher: &mut Hasher,
     id: Option<u32>,
@@ -92,11 +95,11 @@ pub(crate) fn tell_actors(
     tell_actor(table, hasher, added);
 }
 
-/// The id, where something has changed.
-fn if_changed(changed: bool, id: Option<u32>) -> Option<u32>
-    ensures { result ≡ (if changed then id else None) }
+/// The id, where these differ.
+fn if_changed(before: u64, after: u64, id: Option<u32>) -> Option<u32>
+    ensures { result ≡ (if before == after then None else id) }
 {
-    if changed { id } else { None }
+    if before == after { None } else { id }
 }
 
 /// Tells the hasher of the ore of a cell of the map.
@@ -111,6 +114,69 @@ fn tell_ore(ore: &Ore, hasher: &mut Hasher, cell: Option<CPos>)
     }
 }
 
+impl Scene {
+    /// The number of actors.
+    fn actors(&self) -> usize
+        ensures value { result ≡ length self.now.world.actors }
+        ensures limit { result ≤ MAX_ACTORS }
+    {
+        self.table.len()
+    }
+
+    /// The id at a place.
+    fn nth(&self, i: usize) -> Option<u32>
+        ensures { result ≡ slice_get (ids_of self.now.world.actors) i }
+    {
+        self.table.nth(i)
+    }
+
+    /// What the last part of the step of the actor of an id may change beside the actor itself.
+    fn aim(&self, id: u32) -> Aim
+        ensures target { result.target ≡ target_of (living_of self.now.world.actors id) }
+        ensures cell { result.cell ≡ cell_of (living_of self.now.world.actors id) }
+    {
+        aim_of(&self.table, id)
+    }
+
+    /// Whether the actor of an id lives and a step changes it.
+    fn is_busy(&self, id: u32) -> bool
+        ensures { result ≡ false → IfSome (living_of self.now.world.actors id) IsIdleNow }
+    {
+        match living(&self.table, id) {
+            Some(a) => !is_idle(a),
+            None => false,
+        }
+    }
+
+    /// Tells the hasher of the actors of these ids, as far as they are there: the numbers of all
+    /// others are right.
+    pub(crate) fn tell(
+        &self,
+        hasher: &mut Hasher,
+        id: Option<u32>,
+        target: Option<u32>,
+        added: Option<u32>,
+    )
+        requires { KeptBut (with_some id (with_some target (with_some added []))) hasher.old.actors self.now.world.actors }
+        ensures numbers { hasher.new.actors ≡ map numbered self.now.world.actors }
+        ensures cells { hasher.new.cells ≡ hasher.old.cells }
+        ensures width { hasher.new.width ≡ hasher.old.width }
+        ensures height { hasher.new.height ≡ hasher.old.height }
+    {
+        tell_actors(&self.table, hasher, id, target, added);
+    }
+
+    /// Tells the hasher of the ore of a cell of the map.
+    fn tell_ore(&self, hasher: &mut Hasher, cell: Option<CPos>)
+        requires on_map { IfSome cell (IsOn self.now.world.ore.width self.now.world.ore.height) }
+        requires width { hasher.old.width ≡ self.now.world.ore.width }
+        requires height { hasher.old.height ≡ self.now.world.ore.height }
+        ensures { hasher.new ≡ told_ore hasher.old self.now.world.ore cell }
+    {
+        tell_ore(&self.ore, hasher, cell);
+    }
+}
+
 impl LiveWorld {
     /// Runs a turn: each actor that is there at its start makes its step, by rising id; then the
     /// burial, and the turn is counted.
@@ -120,13 +186,22 @@ impl LiveWorld {
         ensures world { self.new ≡ (record self.old { world = after_turn self.old.setup self.old.world }) }
         ensures drawn { self.new.world.drawn ≤ self.old.world.drawn + MAX_ACTORS }
     {
-        for i in 0..self.scene.table.len() {
-            if let Some(id) = self.scene.table.nth(i) {
+        self.step_all();
+        self.bury();
+        self.count_turn();
+    }
+
+    /// Each actor that is there makes its step, by rising id.
+    fn step_all(&mut self)
+        requires { self.old.world.drawn + 2 ^ 12 < 2 ^ 64 }
+        ensures world { self.new ≡ (record self.old { world = after_steps self.old.setup self.old.world (ids_of self.old.world.actors) }) }
+        ensures few { length self.old.world.actors ≤ MAX_ACTORS }
+    {
+        for i in 0..self.scene.actors() {
+            if let Some(id) = self.scene.nth(i) {
                 self.step_actor(id);
             }
         }
-        self.bury();
-        self.count_turn();
     }
 
     /// One turn more.
@@ -140,30 +215,33 @@ impl LiveWorld {
     /// The step of the actor of an id, of which the hasher is told.
     fn step_actor(&mut self, id: u32)
         requires { self.old.world.drawn < 2 ^ 64 - 1 }
-        ensures { self.new ≡ (record self.old { world = after_step self.old.setup self.old.world id }) }
+        ensures world { self.new ≡ (record self.old { world = after_step self.old.setup self.old.world id }) }
+        ensures stands { IsSetup self.old.setup }
+        ensures acting { IsActing self.old.setup self.old.world }
     {
-        let Some(a) = living(&self.scene.table, id) else {
-            return;
-        };
-        if !is_idle(a) {
+        self.scene.known();
+        if self.scene.is_busy(id) {
             self.step_busy(id);
         }
     }
 
-    /// The step of the actor of an id, which lives, with the telling.
+    /// The step of the actor of an id by its parts, and the telling.
     fn step_busy(&mut self, id: u32)
-        requires lives { IsSome (living_of self.old.world.actors id) }
-        requires drawn { self.old.world.drawn < 2 ^ 64 - 1 }
+        requires { self.old.world.drawn < 2 ^ 64 - 1 }
         ensures { self.new ≡ (record self.old { world = after_step self.old.setup self.old.world id }) }
     {
-        let next_id = self.scene.head.next_id;
-        let drawn = self.scene.head.drawn;
+        self.scene.known();
+        let next_id = self.scene.next_id();
+        let drawn = self.scene.drawn();
         self.scene.prepare(id);
-        let aim = aim_of(&self.scene.table, id);
+        self.scene.known();
+        let aim = self.scene.aim(id);
         self.scene.go_on(id);
-        let target = if_changed(self.scene.head.drawn != drawn, aim.target);
-        let added = if_changed(self.scene.head.next_id != next_id, Some(next_id));
-        tell_actors(&self.scene.table, &mut self.hasher, Some(id), target, added);
-        tell_ore(&self.scene.ore, &mut self.hasher, aim.cell);
+        let target = if_changed(drawn, self.scene.drawn(), aim.target);
+        let new_id = self.scene.next_id();
+        let added = if_changed(u64::from(next_id), u64::from(new_id), Some(next_id));
+        self.scene.known();
+        self.scene.tell(&mut self.hasher, Some(id), target, added);
+        self.scene.tell_ore(&mut self.hasher, aim.cell);
     }
 }

@@ -7,12 +7,14 @@ use Rattle.tick_core.proofs.game.GameSim.step.Goals as goal
 pub tick-requires-clause-more : goal.tick-requires-clause-more
 tick-requires-clause-more c =
     let valid = c.self.invariant.valid in
-    omega (arith, valid.most_tick, valid.pace.most, c.requires.more)
+    let few = rw (← c.self.view_is) at c.requires.more in
+    omega (arith, valid.most_tick, valid.pace.most, few)
 
 pub tick-requires-clause-draws : goal.tick-requires-clause-draws
 tick-requires-clause-draws c =
     let valid = c.self.invariant.valid in
-    omega (arith, valid.drawn, c.requires.more)
+    let few = rw (← c.self.view_is) at c.requires.more in
+    omega (arith, valid.drawn, few)
 
 pub tick-requires-clause-ready : goal.tick-requires-clause-ready
 tick-requires-clause-ready c =

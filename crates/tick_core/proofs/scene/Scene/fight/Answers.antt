@@ -20,7 +20,7 @@ invariant_of-self c =
     let does : IsSomeAnd (living_of w.actors c.args.id) (DoesFirst (Attack c.args.target c.args.waits)) =
     subst (λ (x : Standing). IsSomeAnd (living_of x.world.actors c.args.id) (DoesFirst (Attack c.args.target c.args.waits))) (sym c.self.view_is) c.requires.first in
     let done = rw (c.deref.ensures, c.deref-2.ensures) at c.attack_step.ensures.fought in
-    rw c.drawn.ensures
+    rw c.drawn-self-inside.ensures
     (way_scene setup w _ s.table c.attack_step.new.t s.blocks s.router c.attack_step.new.r s.dice c.attack_step.new.dice c.args.id c.self.invariant
     (fight_is setup w s.table c.attack_step.new.t s.blocks s.router s.dice c.attack_step.new.dice c.args.id c.args.target c.args.waits c.self.invariant does refl done)
     (ap (λ (t : Table). t.width) done.actors) (ap (λ (t : Table). t.height) done.actors) c.attack_step.ensures.router
@@ -34,6 +34,6 @@ returns c =
     let does : IsSomeAnd (living_of w.actors c.args.id) (DoesFirst (Attack c.args.target c.args.waits)) =
     subst (λ (x : Standing). IsSomeAnd (living_of x.world.actors c.args.id) (DoesFirst (Attack c.args.target c.args.waits))) (sym c.self.view_is) c.requires.first in
     let done = rw (c.deref.ensures, c.deref-2.ensures) at c.attack_step.ensures.fought in
-    rw (← c.self.view_is, c.drawn.ensures)
+    rw (← c.self.view_is, c.drawn-self-inside.ensures)
     (ap (λ (x : World). record { setup = setup; world = x })
     (fight_is setup w s.table c.attack_step.new.t s.blocks s.router s.dice c.attack_step.new.dice c.args.id c.args.target c.args.waits c.self.invariant does refl done))
