@@ -403,3 +403,9 @@ pub idle_whole :
     (s : Standing) (id : ℕ) → IsActing s.setup s.world → IfSome (living_of s.world.actors id) IsIdleNow →
     s ≡ record s { world = after_step s.setup s.world id }
 idle_whole s id acting idle = idle_by s id (living_of s.world.actors id) refl acting.actors.ready.rise idle
+
+-- Where nothing stands the list has ended.
+pub slice_none : {A : Type 0} (xs : List A) (i : ℕ) → slice_get xs i ≡ None → length xs ≤ i
+slice_none [] i none = omega arith
+slice_none (x ∷ xs) zero none = absurd cc
+slice_none (x ∷ xs) (suc i) none = let more = slice_none xs i none in omega (arith, more)

@@ -7,3 +7,4 @@ pub mod OrderLemmas
 pub mod StepLemmas
 pub mod TellLemmas
 pub mod BusyLemmas
+pub mod BlocksLemmas

@@ -1,8 +1,8 @@
-ghost use Rattle.std.specs.Prelude.{◌≡◌, IfOk};
+ghost use Rattle.std.specs.Prelude.{◌≡◌, true, if◌then◌else◌, IfOk};
 ghost use Rattle.std.specs.List.{All};
 ghost use Rattle.game_model.specs.declared.actor.Actor.{Actor as TheActor};
 ghost use Rattle.game_model.specs.Buildings.{is_building};
-ghost use Rattle.game_model.specs.Grid.{IsOn};
+ghost use Rattle.game_model.specs.Grid.{IsOn, with_cell};
 ghost use Rattle.game_tick.specs.Turn.{blocks_of};
 
 use base::NoMemory;
@@ -32,9 +32,17 @@ pub(crate) fn blocks_of(
 {
     let mut blocks = Blocks::create(alloc, map.width, map.height)?;
     for a in actors {
-        if is_building(rules, a) {
-            blocks.set(a.cell, true);
-        }
+        mark(&mut blocks, rules, a);
     }
     Ok(blocks)
+}
+
+/// Marks the cell of an actor that is a building.
+fn mark(blocks: &mut Blocks, rules: &Rules, a: &Actor)
+    requires { IsOn blocks.old.width blocks.old.height a.now.cell }
+    ensures { blocks.new ≡ (if is_building rules.now a.now then with_cell blocks.old a.now.cell true else blocks.old) }
+{
+    if is_building(rules, a) {
+        blocks.set(a.cell, true);
+    }
 }
