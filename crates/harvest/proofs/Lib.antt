@@ -3,3 +3,4 @@ pub mod Outwards
 pub mod NearestLaw
 pub mod RefineryLaw
 pub mod Rows
+pub mod StepCases

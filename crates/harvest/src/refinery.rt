@@ -37,7 +37,8 @@ fn better_of<'a>(
     best: Option<&'a Actor>,
     other: &'a Actor,
 ) -> Option<&'a Actor>
-    ensures { option_copied result ≡ better_of rules.now a.now (option_copied best.entry) other.now }
+    ensures { option_copied result
+        ≡ better_of rules.now a.now (option_copied best.entry) other.now }
 {
     if !is_refinery_for(rules, a, other) {
         return best;
