@@ -66,7 +66,7 @@ blocks_put setup old new p v on is others =
     let width : ℕ = setup.map.width in
     ap (the_grid setup)
     (put (λ place. has_building setup.rules old (cell_of width place)) (λ place. has_building setup.rules new (cell_of width place)) 0 (width * setup.map.height) (place_of width p) v
-    (let room : p.y * width + p.x < setup.map.height * width = mul-add-lt p.y width p.x setup.map.height on.row on.column in let swap : setup.map.height * width ≡ width * setup.map.height = grind arith in omega (arith, room, swap))
+    (mul-add-lt p.y width p.x setup.map.height on.row on.column)
     (ap (has_building setup.rules new) (ap (cell_of width) (let e : 0 + place_of width p ≡ place_of width p = omega arith in e) ∙ cell_again width p on.column) ∙ is)
     (λ j other. others (cell_of width j) (λ same. other (sym (place_again width j (omega (arith, on.column))) ∙ ap (place_of width) same ∙ (let e : place_of width p ≡ 0 + place_of width p = omega arith in e)))))
 
@@ -161,3 +161,77 @@ marked_next setup actors i a blocks new at on is next =
     ∙ ap (λ (g : Grid Bool). if is_building setup.rules a then with_cell g a.cell true else g) is
     ∙ marked_by setup (take i actors) a (is_building setup.rules a) refl on
     ∙ ap (blocks_of setup) (sym (ap (λ n. take n actors) (add-one i) ∙ take_at actors i a at))
+
+-- One more dead actor is gone.
+abbrev clears : List Kind → Actor → Bool
+clears rules a = not (is_alive a) && is_building rules a
+
+cleared_by :
+    (setup : Setup) (front : List Actor) (a : Actor) (back : List Actor) (building : Bool) → is_building setup.rules a ≡ building →
+    IsOn setup.map.width setup.map.height a.cell → All (λ (x : Actor). x.cell ≢ a.cell) front →
+    All (λ (x : Actor). x.cell ≢ a.cell) back →
+    (if building then with_cell (blocks_of setup (front ++ a ∷ back)) a.cell false else blocks_of setup (front ++ a ∷ back))
+    ≡ blocks_of setup (front ++ back)
+cleared_by setup front a back true is on before after =
+    blocks_put setup (front ++ a ∷ back) (front ++ back) a.cell false on
+    (has_joined setup.rules front back a.cell
+    ∙ ap₂ (λ (b c : Bool). b || c) (has_none setup.rules front a.cell before) (has_none setup.rules back a.cell after))
+    (λ q other.
+    has_joined setup.rules front back q
+    ∙ sym (has_joined setup.rules front (a ∷ back) q
+    ∙ ap (λ b. has_building setup.rules front q || (b || has_building setup.rules back q)) (ap₂ (λ (b c : Bool). b && c) is (apart_cells a.cell q other))))
+cleared_by setup front a back false is on before after =
+    sym (blocks_same setup (front ++ a ∷ back) (front ++ back) (λ q.
+    has_joined setup.rules front back q
+    ∙ sym (has_joined setup.rules front (a ∷ back) q
+    ∙ ap (λ b. has_building setup.rules front q || ((b && same_cell a.cell q) || has_building setup.rules back q)) is)))
+
+cleared_life :
+    (setup : Setup) (actors : List Actor) (i : ℕ) (a : Actor) (alive : Bool) → is_alive a ≡ alive → slice_get actors i ≡ Some a →
+    IsOn setup.map.width setup.map.height a.cell → AllPairs (λ (x y : Actor). x.cell ≢ y.cell) actors →
+    (if not alive && is_building setup.rules a then with_cell (blocks_of setup (buried_up_to actors i)) a.cell false else blocks_of setup (buried_up_to actors i))
+    ≡ blocks_of setup (filter is_alive (take i actors ++ a ∷ []) ++ drop (suc i) actors)
+cleared_life setup actors i a true life at on apart =
+    let front : List Actor = filter is_alive (take i actors) in
+    let back : List Actor = drop (suc i) actors in
+    let one : filter is_alive (a ∷ []) ≡ a ∷ [] = rw life refl in
+    ap (λ l. blocks_of setup (front ++ l)) (drop_at actors i a at)
+    ∙ ap (blocks_of setup) (sym (ap (λ l. l ++ back) (filter-append is_alive (take i actors) (a ∷ []) ∙ ap (λ r. front ++ r) one) ∙ append_assoc front (a ∷ []) back))
+cleared_life setup actors i a false life at on apart =
+    let front : List Actor = filter is_alive (take i actors) in
+    let back : List Actor = drop (suc i) actors in
+    let one : filter is_alive (a ∷ []) ≡ [] = rw life refl in
+    let R : Actor → Actor → Type 0 = λ x y. x.cell ≢ y.cell in
+    let within : i < length actors = slice_get_within actors i a at in
+    let here : a ≡ get_or actors i a = sym (get_or_from_slice_get actors i a a at) in
+    ap (λ (l : List Actor). if is_building setup.rules a then with_cell (blocks_of setup (front ++ l)) a.cell false else blocks_of setup (front ++ l)) (drop_at actors i a at)
+    ∙ cleared_by setup front a back (is_building setup.rules a) refl on
+    (All-filter is_alive (λ (x : Actor). x.cell ≢ a.cell) (take i actors) (earlier R actors i a within here apart))
+    (λ k d inside same. later R actors i a within here apart k d inside (sym same))
+    ∙ ap (blocks_of setup) (sym (ap (λ l. l ++ back) (filter-append is_alive (take i actors) (a ∷ []) ∙ ap (λ r. front ++ r) one ∙ append-nil front)))
+
+pub cleared_next :
+    (setup : Setup) (actors : List Actor) (i : ℕ) (a : Actor) (blocks new : Grid Bool) → slice_get actors i ≡ Some a →
+    IsOn setup.map.width setup.map.height a.cell → AllPairs (λ (x y : Actor). x.cell ≢ y.cell) actors →
+    blocks ≡ blocks_of setup (buried_up_to actors i) →
+    new ≡ (if not (is_alive a) && is_building setup.rules a then with_cell blocks a.cell false else blocks) →
+    new ≡ blocks_of setup (buried_up_to actors (i + 1))
+cleared_next setup actors i a blocks new at on apart is next =
+    next
+    ∙ ap (λ (g : Grid Bool). if not (is_alive a) && is_building setup.rules a then with_cell g a.cell false else g) is
+    ∙ cleared_life setup actors i a (is_alive a) refl at on apart
+    ∙ ap (λ l. blocks_of setup (filter is_alive l ++ drop (suc i) actors)) (sym (take_at actors i a at))
+    ∙ ap (λ n. blocks_of setup (buried_up_to actors n)) (sym (add-one i))
+
+taken : {A : Type 0} (xs : List A) (n : ℕ) → length xs ≤ n → take n xs ≡ xs
+taken [] zero past = refl
+taken [] (suc n) past = refl
+taken (x ∷ xs) zero past = absurd (omega (arith, past))
+taken (x ∷ xs) (suc n) past = ap (λ l. x ∷ l) (taken xs n (omega (arith, past)))
+
+pub cleared_all :
+    (setup : Setup) (actors : List Actor) (i : ℕ) (blocks : Grid Bool) → length actors ≤ i →
+    blocks ≡ blocks_of setup (buried_up_to actors i) → blocks ≡ blocks_of setup (filter is_alive actors)
+cleared_all setup actors i blocks past is =
+    is ∙ ap₂ (λ (l r : List Actor). blocks_of setup (filter is_alive l ++ r)) (taken actors i past) (drop_past actors i past)
+    ∙ ap (blocks_of setup) (append-nil (filter is_alive actors))

@@ -28,7 +28,7 @@ use Rattle.game_tick.specs.KeepsLemmas.{dead_stay, step_keeps, steps_keep}
 use Rattle.game_tick.specs.IdleLemmas.{idle_stays}
 use Rattle.game_tick.specs.Kinds.{kind_of}
 use Rattle.game_tick.specs.Nearest.{nearest_ore, ore_at}
-use Rattle.game_tick.specs.Turn.{after_first, after_step, after_steps, after_turn, after_way, blocks_of, harvest_of, reloaded, with_build, with_reload, with_way}
+use Rattle.game_tick.specs.Turn.{after_first, after_step, after_steps, after_turn, after_way, blocks_of, buried, harvest_of, reloaded, with_build, with_reload, with_way}
 use Rattle.game_tick.specs.TurnLemmas.{length-ids_of, living_steps}
 use Rattle.game_tick.specs.SoundLemmas.{body_of}
 use Rattle.motion.specs.ChangeLemmas.{changed_as}
@@ -409,3 +409,24 @@ pub slice_none : {A : Type 0} (xs : List A) (i : ℕ) → slice_get xs i ≡ Non
 slice_none [] i none = omega arith
 slice_none (x ∷ xs) zero none = absurd cc
 slice_none (x ∷ xs) (suc i) none = let more = slice_none xs i none in omega (arith, more)
+
+abbrev counted : World → World
+counted w = record w { tick = w.tick + 1 }
+
+-- A turn: all steps, the burial, and the count.
+pub turn_whole :
+    (s a b d : Standing) → a ≡ record s { world = after_steps s.setup s.world (ids_of s.world.actors) } →
+    b ≡ record a { world = buried a.world } →
+    d ≡ record b { world = record b.world { tick = b.world.tick + 1 } } →
+    d ≡ record s { world = after_turn s.setup s.world }
+unfolding after_turn
+turn_whole s a b d a_is b_is d_is =
+    d_is ∙ ap (λ (x : Standing). the_standing x.setup (counted x.world)) b_is
+    ∙ ap (λ (x : Standing). the_standing x.setup (counted (buried x.world))) a_is
+
+pub same_tick :
+    (s a b : Standing) → a ≡ record s { world = after_steps s.setup s.world (ids_of s.world.actors) } →
+    b ≡ record a { world = buried a.world } → b.world.tick ≡ s.world.tick
+same_tick s a b a_is b_is =
+    ap (λ (x : Standing). x.world.tick) b_is ∙ ap (λ (x : Standing). x.world.tick) a_is
+    ∙ (steps_keep s.setup s.world (ids_of s.world.actors)).tick

@@ -1,8 +1,8 @@
 -- The parts of a step keep what holds of the parts of a world.
 use Rattle.std.proofs.Common.{◌≡◌, ℕ, ◌+◌, ◌<◌, ◌≤◌, Bool, true, false, cond, List, [], ◌∷◌, Option, Some, None, refl, sym, ap, ap₂, subst, ◌∙◌, arith}
 use Rattle.std.specs.Prelude.{slice_get, IsSomeAnd, IsSome, IfSome, ◌==◌, if◌then◌else◌}
-use Rattle.std.specs.List.{All, AllPairs}
-use Rattle.std.proofs.lemmas.List.Elements.{All-head}
+use Rattle.std.specs.List.{All, AllPairs, filter}
+use Rattle.std.proofs.lemmas.List.Elements.{All-filter, All-head}
 use Rattle.twister.specs.Place.{Place}
 use Rattle.world_units.specs.declared.cell.CPos.{CPos}
 use Rattle.world_units.specs.declared.direction.TheConstants.{DIRECTIONS}
@@ -15,6 +15,7 @@ use Rattle.game_model.specs.declared.actor.Leg.{Leg}
 use Rattle.game_model.specs.declared.world.World.{World}
 use Rattle.game_model.specs.Grid.{Grid, IsOn}
 use Rattle.game_model.specs.Setup.{Setup}
+use Rattle.game_model.specs.ValidTickLemmas.{filter_ready}
 use Rattle.game_model.specs.ValidWorld.{IsActivityOf, IsLegOf}
 use Rattle.game_model.specs.World.{actor_of, clients_of, is_alive, living_of}
 use Rattle.game_tick.specs.ActorsLemmas.{build_blocks, reload_blocks, way_blocks}
@@ -23,10 +24,10 @@ use Rattle.game_tick.specs.Building.{Built, after_build}
 use Rattle.game_tick.specs.ChangesLemmas.{id_of_living}
 use Rattle.game_tick.specs.Harvesting.{Harvested}
 use Rattle.game_tick.specs.Kinds.{kind_of}
-use Rattle.game_tick.specs.MidTurn.{IsMidTurn}
+use Rattle.game_tick.specs.MidTurn.{IsHurt, IsMidTurn}
 use Rattle.game_tick.specs.Moving.{after_leg}
 use Rattle.game_tick.specs.SoundLemmas.{body_of}
-use Rattle.game_tick.specs.Turn.{after_activity, after_first, after_way, blocks_of, dice_of, harvest_of, with_build, with_harvested, with_reload, with_way}
+use Rattle.game_tick.specs.Turn.{after_activity, after_first, after_way, blocks_of, buried, dice_of, harvest_of, with_build, with_harvested, with_reload, with_way}
 use Rattle.game_tick.specs.TurnLemmas.{build_mid, living_steps, reload_mid, way_mid}
 use Rattle.actor_table.specs.Table.{Table}
 use Rattle.grid_routes.specs.Routing.{IsSameSize, Routing}
@@ -402,3 +403,56 @@ fight_dice setup w table after built dice rolled id thrown is =
     ap (λ (p : Place). p.seed) is.dice ∙ fought_seed setup built dice table.actors (actor_of table.actors id)
     ∙ ap (λ (p : Place). p.seed) thrown in
     ap (λ n. record { seed = n; drawn = rolled.drawn }) seed
+
+-- The burial, where the blocks of the dead are cleared.
+bury_by :
+    (setup : Setup) (w : World) (table after : Table) (built left : Grid Bool) (router : Routing) (dice : Place) →
+    IsScene setup w table built router dice → after.width ≡ table.width → after.height ≡ table.height →
+    left ≡ blocks_of setup (filter is_alive w.actors) → IsScene setup (buried w) after left router dice
+bury_by setup w table after built left router dice is wide high cleared =
+    let mid = is.acting in
+    record {
+      stands = is.stands;
+      acting =
+          record {
+            ore = mid.ore;
+            least_tick = mid.least_tick;
+            most_tick = mid.most_tick;
+            drawn = mid.drawn;
+            pace = mid.pace;
+            clients = mid.clients;
+            cash = mid.cash;
+            actors =
+                record {
+                  ready = filter_ready setup (clients_of w) w.next_id is_alive w.actors mid.actors.ready;
+                  hurt = All-filter is_alive (IsHurt setup.rules) w.actors mid.actors.hurt;
+                };
+          };
+      fits =
+          record {
+            wide = wide ∙ is.fits.wide;
+            high = high ∙ is.fits.high;
+            routes =
+                record {
+                  wide = is.fits.routes.wide;
+                  high = is.fits.routes.high;
+                  terrain = is.fits.routes.terrain;
+                  blocks =
+                      record {
+                        width = ap (λ (g : Grid Bool). g.width) cleared;
+                        height = ap (λ (g : Grid Bool). g.height) cleared;
+                      };
+                };
+          };
+      blocks = cleared;
+      thrown = is.thrown;
+    }
+
+pub bury_scene :
+    (setup : Setup) (w new : World) (table after : Table) (built left : Grid Bool) (router : Routing) (dice : Place) →
+    IsScene setup w table built router dice → new ≡ buried w → after.width ≡ table.width →
+    after.height ≡ table.height → left ≡ blocks_of setup (filter is_alive w.actors) →
+    IsScene setup new after left router dice
+bury_scene setup w new table after built left router dice is same wide high cleared =
+    subst (λ n. IsScene setup n after left router dice) (sym same)
+    (bury_by setup w table after built left router dice is wide high cleared)

@@ -1,12 +1,8 @@
-ghost use Rattle.std.specs.Prelude.{◌≡◌, ◌-◌, ◌^◌, ◌<◌, IfSome, IsSome, IsSomeAnd};
+ghost use Rattle.std.specs.Prelude.{◌≡◌, ◌-◌, ◌^◌, ◌<◌, IsSome, IsSomeAnd};
 ghost use Rattle.activities.specs.declared.activity.Activity.TheVariants.{Attack, Move};
 ghost use Rattle.game_model.specs.ActorChanges.{changed_at};
-ghost use Rattle.game_model.specs.Grid.{HasSize};
-ghost use Rattle.game_model.specs.World.{actor_of, living_of};
+ghost use Rattle.game_model.specs.World.{living_of};
 ghost use Rattle.game_tick.specs.Turn.{reloaded, with_build, with_reload, with_way};
-ghost use Rattle.grid_routes.specs.Routing.{IsSameSize};
-ghost use Rattle.harvest.specs.Steps.{harvested_by_id, HasWay, IsHarvested};
-ghost use Rattle.motion.specs.Ground.{FitsMap, built_in, setup_in};
 ghost use Rattle.tick_core.specs.Scene.{DoesFirst, IsGathering, prepared};
 
 use crate::living::living;
@@ -14,8 +10,8 @@ use crate::scene::Scene;
 use activities::Activity;
 use actor_table::ActorTable;
 use combat::attack_step;
-use game_model::{Ground, Ore, Purse};
-use grid_routes::Router;
+use game_model::Ground;
+use harvest::harvest_step;
 use motion::{advance_leg, move_activity};
 use production::build_step;
 use world_units::CPos;
@@ -31,23 +27,6 @@ fn reload(t: &mut ActorTable, id: u32)
     let mut body = a.body.copy();
     body.reload = body.reload.saturating_sub(1);
     t.swap_body(id, &mut body);
-}
-
-/// The step of a harvester.
-fn harvest(
-    t: &mut ActorTable,
-    r: &mut Router,
-    g: &Ground,
-    ore: &mut Ore,
-    purse: &mut Purse,
-    id: u32,
-)
-    requires fits { FitsMap g.now.map.now (built_in g.now) t.old r.old }
-    requires ore { HasSize g.now.map.now.width g.now.map.now.height ore.old }
-    requires way { IfSome (actor_of t.old.actors id) (HasWay g.now.map.now) }
-    ensures harvested { IsHarvested t.old t.new ore.new purse.new (harvested_by_id (setup_in g.now) (built_in g.now) (record { actors = t.old.actors; ore = ore.old; cash = purse.old }) (actor_of t.old.actors id)) }
-    ensures router { IsSameSize r.old r.new }
-{
 }
 
 impl Scene {
@@ -182,7 +161,7 @@ impl Scene {
             map: &self.map,
             blocks: &self.blocks,
         };
-        harvest(
+        harvest_step(
             &mut self.table,
             &mut self.router,
             &ground,

@@ -1,5 +1,4 @@
-use crate::blocks::{blocks_of, is_building};
-use crate::burial::is_alive;
+use crate::blocks::{blocks_of, clear_dead};
 use crate::departures::apply_departures;
 use crate::filling::filled_table;
 use actor_table::ActorTable;
@@ -156,14 +155,7 @@ impl Scene {
     pub(crate) fn bury(&mut self)
         ensures { self.new ≡ (record self.old { world = buried self.old.world }) }
     {
-        for i in 0..self.table.len() {
-            if let Some(a) = self.table.nth_actor(i)
-                && !is_alive(a)
-                && is_building(&self.rules, a)
-            {
-                self.blocks.set(a.cell, false);
-            }
-        }
+        clear_dead(&self.table, &self.rules, &self.map, &mut self.blocks);
         self.table.bury();
     }
 }
