@@ -21,11 +21,12 @@ rise_from :
     (least : ℕ) (actors : List Actor) → All (λ (a : Actor). least ≤ a.id) actors → IdsRise actors →
     RisesFrom (λ (a : Actor). a.id) least actors
 rise_from least [] above rise = tt
-rise_from least (a ∷ actors) above rise =
-    (All-head (λ (x : Actor). least ≤ x.id) a actors above,
-    rise_from (a.id + 1) actors
-    (λ k d within. let more = rise 0 (suc k) d (omega arith) (omega arith) in omega (arith, more))
-    (λ i j d lt within. rise (suc i) (suc j) d (omega arith) (omega arith)))
+rise_from least (a ∷ actors) above rise = (
+  All-head (λ (x : Actor). least ≤ x.id) a actors above,
+  rise_from (a.id + 1) actors
+      (λ k d within. let more = rise 0 (suc k) d (omega arith) (omega arith) in omega (arith, more))
+      (λ i j d lt within. rise (suc i) (suc j) d (omega arith) (omega arith)),
+)
 
 told_found :
     (ids : List ℕ) (id : ℕ) (kept : Kept) (actors : List Actor) (found : Option Actor) → IdsRise actors →

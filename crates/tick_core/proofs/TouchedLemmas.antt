@@ -22,10 +22,11 @@ same_then ids [] [] new first second = second
 same_then ids [] (b ∷ mid) new first second = absurd first
 same_then ids (a ∷ old) [] new first second = absurd first
 same_then ids (a ∷ old) (b ∷ mid) [] first second = second
-same_then ids (a ∷ old) (b ∷ mid) (c ∷ new) first second =
-    (second.0 ∙ first.0,
-    (λ other. second.1 (ap (is_among ids) first.0 ∙ other) ∙ first.1 other),
-    same_then ids old mid new first.2 second.2)
+same_then ids (a ∷ old) (b ∷ mid) (c ∷ new) first second = (
+  second.0 ∙ first.0,
+  (λ other. second.1 (ap (is_among ids) first.0 ∙ other) ∙ first.1 other),
+  same_then ids old mid new first.2 second.2,
+)
 
 pub same_grows :
     (ids : List ℕ) (old new : List Actor) → SameBut ids old new → GrowsBut ids old new
@@ -43,15 +44,17 @@ pub grows_then :
     GrowsBut ids old new
 grows_then ids [] [] new first second = same_grows ids [] new second
 grows_then ids [] (b ∷ mid) [] first second = absurd second
-grows_then ids [] (b ∷ mid) (c ∷ new) first second =
-    (ap (is_among ids) second.0 ∙ first.0,
-    same_nil ids new (subst (λ l. SameBut ids l new) first.1 second.2))
+grows_then ids [] (b ∷ mid) (c ∷ new) first second = (
+  ap (is_among ids) second.0 ∙ first.0,
+  same_nil ids new (subst (λ l. SameBut ids l new) first.1 second.2),
+)
 grows_then ids (a ∷ old) [] new first second = absurd first
 grows_then ids (a ∷ old) (b ∷ mid) [] first second = second
-grows_then ids (a ∷ old) (b ∷ mid) (c ∷ new) first second =
-    (second.0 ∙ first.0,
-    (λ other. second.1 (ap (is_among ids) first.0 ∙ other) ∙ first.1 other),
-    grows_then ids old mid new first.2 second.2)
+grows_then ids (a ∷ old) (b ∷ mid) (c ∷ new) first second = (
+  second.0 ∙ first.0,
+  (λ other. second.1 (ap (is_among ids) first.0 ∙ other) ∙ first.1 other),
+  grows_then ids old mid new first.2 second.2,
+)
 
 pub same_then_grows :
     (ids : List ℕ) (old mid new : List Actor) → SameBut ids old mid → GrowsBut ids mid new →
@@ -60,10 +63,11 @@ same_then_grows ids [] [] new first second = second
 same_then_grows ids [] (b ∷ mid) new first second = absurd first
 same_then_grows ids (a ∷ old) [] new first second = absurd first
 same_then_grows ids (a ∷ old) (b ∷ mid) [] first second = second
-same_then_grows ids (a ∷ old) (b ∷ mid) (c ∷ new) first second =
-    (second.0 ∙ first.0,
-    (λ other. second.1 (ap (is_among ids) first.0 ∙ other) ∙ first.1 other),
-    same_then_grows ids old mid new first.2 second.2)
+same_then_grows ids (a ∷ old) (b ∷ mid) (c ∷ new) first second = (
+  second.0 ∙ first.0,
+  (λ other. second.1 (ap (is_among ids) first.0 ∙ other) ∙ first.1 other),
+  same_then_grows ids old mid new first.2 second.2,
+)
 
 -- One more comes last.
 pub same_pushed :
@@ -91,10 +95,11 @@ pub kept_from :
 kept_from ids [] [] same = tt
 kept_from ids [] (b ∷ new) same = same
 kept_from ids (a ∷ old) [] same = same
-kept_from ids (a ∷ old) (b ∷ new) same =
-    (sym same.0,
-    (λ other. ap actor_number (sym (same.1 (ap (is_among ids) (sym same.0) ∙ other)))),
-    kept_from ids old new same.2)
+kept_from ids (a ∷ old) (b ∷ new) same = (
+  sym same.0,
+  (λ other. ap actor_number (sym (same.1 (ap (is_among ids) (sym same.0) ∙ other)))),
+  kept_from ids old new same.2,
+)
 
 abbrev the_number : ℕ → ℕ → ActorNumber
 the_number id number = record { id = id; number = number }
@@ -145,10 +150,11 @@ untold id ids [] (a ∷ actors) same none = elim (eqb_tells a.id id) [
 untold id ids (k ∷ kept) [] same none = absurd same
 untold id ids (k ∷ kept) (a ∷ actors) same none = elim (eqb_tells a.id id) [
   | inl here ↦ absurd (let some : Some a ≡ None = rw here.0 at none in cc)
-  | inr there ↦
-      (same.0,
-      (λ other. same.1 (rw there.0 other)),
-      untold id ids kept actors same.2 (rw there.0 at none))
+  | inr there ↦ (
+    same.0,
+    (λ other. same.1 (rw there.0 other)),
+    untold id ids kept actors same.2 (rw there.0 at none),
+  )
 ]
 
 -- The number of an id is told.
@@ -181,10 +187,11 @@ told id ids least (k ∷ kept) (a ∷ actors) c rise same found = elim (eqb_tell
       let rest : actor_of actors id ≡ Some c = rw there.0 at found in
       let above : a.id + 1 ≤ id = found_above (a.id + 1) actors id c rise.1 rest in
       let low : nat_lt k.id id ≡ true = grind (arith, nat_tests, above, same.0) in
-      rw low
-      (same.0,
-      (λ other. same.1 (rw there.0 other)),
-      told id ids (a.id + 1) kept actors c rise.1 same.2 rest)
+      rw low (
+        same.0,
+        (λ other. same.1 (rw there.0 other)),
+        told id ids (a.id + 1) kept actors c rise.1 same.2 rest,
+      )
 ]
 
 -- There is room for the number that is told.

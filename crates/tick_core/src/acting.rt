@@ -113,14 +113,7 @@ impl Scene {
             map: &self.map,
             blocks: &self.blocks,
         };
-        move_activity(
-            &mut self.table,
-            &mut self.router,
-            &ground,
-            id,
-            goal,
-            waits,
-        );
+        move_activity(&mut self.table, &mut self.router, &ground, id, goal, waits);
     }
 
     /// The actor's first activity is an Attack.

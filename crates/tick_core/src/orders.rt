@@ -48,7 +48,14 @@ impl Scene {
         ensures { self.new ≡ (record self.old { world = after_order self.old.setup self.old.world client (Produce id kind) }) }
     {
         let head = &mut self.head;
-        produce(&mut self.table, &mut head.cash, &self.rules, client, id, kind);
+        produce(
+            &mut self.table,
+            &mut head.cash,
+            &self.rules,
+            client,
+            id,
+            kind,
+        );
     }
 
     /// A client's order to take back the last build of the actor of an id.

@@ -138,7 +138,15 @@ fn attack_fits(t: &ActorTable, rules: &Rules, a: &Actor, target: u32) -> bool
 }
 
 /// A client's order to move to a cell, given to the actor of an id.
-fn order_move(t: &mut ActorTable, rules: &Rules, map: &Map, client: u8, id: u32, cell: CPos, queued: bool)
+fn order_move(
+    t: &mut ActorTable,
+    rules: &Rules,
+    map: &Map,
+    client: u8,
+    id: u32,
+    cell: CPos,
+    queued: bool,
+)
     ensures { t.new ≡ record t.old { actors = changed_if rules.now t.old.actors (moving (record { rules = rules.now; map = map.now }) cell queued) (own_of t.old.actors client id) } }
 {
     let Some(a) = own_of(t, client, id) else {
@@ -154,7 +162,15 @@ fn order_move(t: &mut ActorTable, rules: &Rules, map: &Map, client: u8, id: u32,
 }
 
 /// A client's order to harvest a cell, given to the actor of an id.
-fn order_harvest(t: &mut ActorTable, rules: &Rules, map: &Map, client: u8, id: u32, cell: CPos, queued: bool)
+fn order_harvest(
+    t: &mut ActorTable,
+    rules: &Rules,
+    map: &Map,
+    client: u8,
+    id: u32,
+    cell: CPos,
+    queued: bool,
+)
     ensures { t.new ≡ record t.old { actors = changed_if rules.now t.old.actors (harvesting (record { rules = rules.now; map = map.now }) cell queued) (own_of t.old.actors client id) } }
 {
     let Some(a) = own_of(t, client, id) else {
@@ -171,7 +187,15 @@ fn order_harvest(t: &mut ActorTable, rules: &Rules, map: &Map, client: u8, id: u
 }
 
 /// A client's order to attack the actor `target`, given to the actor of an id.
-fn order_attack(t: &mut ActorTable, rules: &Rules, map: &Map, client: u8, id: u32, target: u32, queued: bool)
+fn order_attack(
+    t: &mut ActorTable,
+    rules: &Rules,
+    map: &Map,
+    client: u8,
+    id: u32,
+    target: u32,
+    queued: bool,
+)
     ensures { t.new ≡ record t.old { actors = changed_if rules.now t.old.actors (attacking (record { rules = rules.now; map = map.now }) t.old.actors target queued) (own_of t.old.actors client id) } }
 {
     let _ = map;
@@ -201,7 +225,15 @@ impl Scene {
         requires ready { IsReady self.old.setup self.old.world self.old.world }
         ensures { self.new ≡ (record self.old { world = after_order self.old.setup self.old.world client (Move id cell queued) }) }
     {
-        order_move(&mut self.table, &self.rules, &self.map, client, id, cell, queued);
+        order_move(
+            &mut self.table,
+            &self.rules,
+            &self.map,
+            client,
+            id,
+            cell,
+            queued,
+        );
     }
 
     /// A client's order to attack the actor `target`, given to the actor of an id.
@@ -209,7 +241,15 @@ impl Scene {
         requires ready { IsReady self.old.setup self.old.world self.old.world }
         ensures { self.new ≡ (record self.old { world = after_order self.old.setup self.old.world client (Attack id target queued) }) }
     {
-        order_attack(&mut self.table, &self.rules, &self.map, client, id, target, queued);
+        order_attack(
+            &mut self.table,
+            &self.rules,
+            &self.map,
+            client,
+            id,
+            target,
+            queued,
+        );
     }
 
     /// A client's order to harvest a cell, given to the actor of an id.
@@ -217,7 +257,15 @@ impl Scene {
         requires ready { IsReady self.old.setup self.old.world self.old.world }
         ensures { self.new ≡ (record self.old { world = after_order self.old.setup self.old.world client (Harvest id cell queued) }) }
     {
-        order_harvest(&mut self.table, &self.rules, &self.map, client, id, cell, queued);
+        order_harvest(
+            &mut self.table,
+            &self.rules,
+            &self.map,
+            client,
+            id,
+            cell,
+            queued,
+        );
     }
 
     /// A client's order to do nothing more, given to the actor of an id.
