@@ -828,6 +828,32 @@ blocks_kept setup stepping next_id old new keeps =
     (range_with_len 0 (setup.map.width * setup.map.height))
     (λ place. building_kept setup.rules stepping next_id old new (cell_of setup.map.width place) keeps))
 
+-- No part of a step changes the cells with a building.
+pub reload_blocks :
+    (setup : Setup) (least most draws : ℕ) (w : World) (id : ℕ) (a : Actor) →
+    living_of w.actors id ≡ Some a → IsMidTurn setup least most draws w →
+    blocks_of setup (with_reload w id).actors ≡ blocks_of setup w.actors
+reload_blocks setup least most draws w id a found mid =
+    blocks_kept setup id w.next_id w.actors (with_reload w id).actors
+    (no_more setup.rules id w.next_id w.actors (with_reload w id).actors (reload_keeps setup least most draws w id a found mid))
+
+pub build_blocks :
+    (setup : Setup) (least most draws : ℕ) (w : World) (id : ℕ) (found : Option Actor) →
+    living_of w.actors id ≡ found → IsMidTurn setup least most draws w →
+    blocks_of setup (with_build setup w found).actors ≡ blocks_of setup w.actors
+build_blocks setup least most draws w id found is mid =
+    blocks_kept setup id w.next_id w.actors (with_build setup w found).actors
+    (with_build_keeps setup least most draws w id found is mid)
+
+pub way_blocks :
+    (setup : Setup) (least most draws : ℕ) (w : World) (id : ℕ) (found : Option Actor) →
+    living_of w.actors id ≡ found → IsMapFor setup.rules setup.map →
+    IsMidTurn setup least most draws w →
+    blocks_of setup (with_way setup w found).actors ≡ blocks_of setup w.actors
+way_blocks setup least most draws w id found is map mid =
+    blocks_kept setup id w.next_id w.actors (with_way setup w found).actors
+    (no_more setup.rules id w.next_id w.actors (with_way setup w found).actors (way_keeps setup least most draws w id found is map mid))
+
 -- No step of a turn changes the cells with a building.
 pub step_blocks :
     (setup : Setup) (least most draws : ℕ) (w : World) (id : ℕ) → IsMapFor setup.rules setup.map →

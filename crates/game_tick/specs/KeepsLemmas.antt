@@ -410,7 +410,7 @@ orders_keep setup w client (order ∷ orders) =
     then_keep w (after_order setup w client order) (after_orders setup (after_order setup w client order) client orders) (order_keeps setup w client order)
     (orders_keep setup (after_order setup w client order) client orders)
 
-entry_keeps :
+pub entry_keeps :
     (setup : Setup) (w : World) (client : ℕ) (entry : Entry) → OrdersKeep w (after_entry setup w client entry)
 entry_keeps setup w client (Play orders) = orders_keep setup w client orders
 entry_keeps setup w client Leave = record { seed = refl; cash = same_cash w.cash; gone = refl }

@@ -25,7 +25,7 @@ orders_valid setup least most draws w client (order ∷ orders) valid =
     orders_valid setup least most draws (after_order setup w client order) client orders
     (order_valid setup least most draws w client order valid)
 
-entry_valid :
+pub entry_valid :
     (setup : Setup) (least most draws : ℕ) (w : World) (client : ℕ) (entry : Entry) →
     IsWorldWithin setup least most draws w →
     IsWorldWithin setup least most draws (after_entry setup w client entry)

@@ -197,7 +197,7 @@ leg_or_first setup least most draws w a (Some leg) map mid steps =
 leg_or_first setup least most draws w a None map mid steps =
     first_mid setup least most draws w a a.body.acts refl map mid steps
 
-way_mid :
+pub way_mid :
     (setup : Setup) (least most draws : ℕ) (w : World) (id : ℕ) (found : Option Actor) →
     living_of w.actors id ≡ found → IsMapFor setup.rules setup.map →
     IsMidTurn setup least most draws w →

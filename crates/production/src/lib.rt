@@ -12,7 +12,7 @@ mod needs;
 mod orders;
 
 pub use building::build_step;
-pub use orders::{cancel, pay, produce};
+pub use orders::{cancel, own_of, pay, produce};
 
 #[cfg(test)]
 mod tests;

@@ -17,7 +17,7 @@ use game_model::{Actor, Build, MAX_BUILDS, MAX_CASH, Purse};
 use rule_traits::Rules;
 
 /// The living actor of an id that this client owns. `None` exactly where there is none.
-fn own_of(t: &ActorTable, client: u8, id: u32) -> Option<&Actor>
+pub fn own_of(t: &ActorTable, client: u8, id: u32) -> Option<&Actor>
     ensures own { option_copied result ≡ own_of t.now.actors client id }
     ensures found { IfSome result (λ a. Some a.now ≡ actor_of t.now.actors id) }
 {

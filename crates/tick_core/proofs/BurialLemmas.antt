@@ -28,7 +28,7 @@ earlier R (x ∷ xs) (suc i) a within is pairs =
     All-cons (λ y. R y a) x (take i xs) (subst (R x) (sym is) (pairs 0 (suc i) a (omega arith) within))
     (earlier R xs i a (omega arith) is (pairs_tail R x xs pairs))
 
-later :
+pub later :
     {X : Type 0} (R : X → X → Type 0) (xs : List X) (i : ℕ) (a : X) → i < length xs → a ≡ get_or xs i a →
     AllPairs R xs → All (R a) (drop (suc i) xs)
 later R [] i a within is pairs = absurd (omega arith)
@@ -61,7 +61,7 @@ remove_one front a back below above =
     let rest : filter p (a ∷ back) ≡ back = rw gone last in
     filter-append p front (a ∷ back) ∙ ap₂ (λ (l r : List Actor). l ++ r) first rest
 
-take_at : {A : Type 0} (xs : List A) (n : ℕ) (x : A) → slice_get xs n ≡ Some x → take (suc n) xs ≡ take n xs ++ x ∷ []
+pub take_at : {A : Type 0} (xs : List A) (n : ℕ) (x : A) → slice_get xs n ≡ Some x → take (suc n) xs ≡ take n xs ++ x ∷ []
 take_at [] n x at = absurd cc
 take_at (y ∷ xs) zero x at = let same : y ≡ x = cc in ap (λ z. z ∷ []) same
 take_at (y ∷ xs) (suc n) x at = ap (λ l. y ∷ l) (take_at xs n x at)

@@ -1,6 +1,6 @@
 -- How a tick goes on from one client of a frame to the next, and from one order to the next.
 use Rattle.std.proofs.Common.{◌≡◌, ℕ, zero, suc, ◌+◌, Bool, true, List, [], ◌∷◌, length, drop, take}
-use Rattle.std.proofs.Common.{refl, ap, ap₂, sym, ◌<◌, ◌≤◌, ◌-◌, ◌^◌, ◌∙◌, add-one, arith}
+use Rattle.std.proofs.Common.{refl, ap, ap₂, sym, ◌<◌, ◌≤◌, ◌-◌, ◌*◌, ◌^◌, ◌∙◌, add-one, arith}
 use Rattle.std.proofs.Math.ListN.{set}
 use Rattle.std.proofs.lemmas.List.{length-set}
 use Rattle.std.specs.Prelude.{Some, slice_get}
@@ -8,14 +8,43 @@ use Rattle.game_orders.specs.declared.order.Order.{Order}
 use Rattle.game_orders.specs.declared.entry.Entry.{Entry}
 use Rattle.game_orders.specs.declared.entry.Entry.TheVariants.{Play, Leave}
 use Rattle.game_model.specs.declared.world.World.{World}
-use Rattle.game_model.specs.KeepsLemmas.{order_keeps, entry_keeps, entries_count, tick_keeps}
+use Rattle.game_tick.specs.KeepsLemmas.{entry_keeps}
+use Rattle.game_tick.specs.OwnLemmas.{order_keeps}
 use Rattle.game_model.specs.Setup.{Setup}
 use Rattle.game_model.specs.World.{clients_of}
-use Rattle.game_model.specs.Order.{after_order, after_orders}
-use Rattle.game_model.specs.Tick.{gone_by, gone_after, after_entry, after_entries, after_turn}
-use Rattle.game_model.specs.Tick.{after_turns, with_orders}
+use Rattle.game_tick.specs.Orders.{after_order, after_orders}
+use Rattle.game_model.specs.Tick.{gone_by, gone_after}
+use Rattle.game_tick.specs.Tick.{after_entry, after_entries}
+use Rattle.game_tick.specs.Turn.{after_turn}
+use Rattle.game_tick.specs.Tick.{after_turns, with_orders}
 use Rattle.tick_core.specs.Departures.{departed_by}
+use Rattle.game_tick.specs.KeepsLemmas.{steps_keep}
+use Rattle.game_tick.specs.OrdersLemmas.{order_valid}
+use Rattle.game_tick.specs.TickLemmas.{entry_valid}
+use Rattle.game_model.specs.World.{ids_of}
+use Rattle.game_model.specs.declared.limits.TheConstants.{MAX_ACTORS}
 use Rattle.tick_core.specs.Live.{Standing}
+use Rattle.tick_core.specs.Ordered.{IsReady}
+
+-- A valid world is valid at its own tick and draws.
+pub ready_now : (setup : Setup) (before w : World) → IsReady setup before w → IsReady setup w w
+ready_now setup before w valid =
+    record {
+      ore = valid.ore;
+      least_tick = omega arith;
+      most_tick = omega arith;
+      drawn = omega arith;
+      pace = valid.pace;
+      clients = valid.clients;
+      cash = valid.cash;
+      actors = valid.actors;
+      health = valid.health;
+    }
+
+-- A turn counts one tick, and draws once for each actor at most.
+pub turn_tick : (setup : Setup) (w : World) → (after_turn setup w).tick ≡ w.tick + 1
+unfolding after_turn
+turn_tick setup w = ap (λ n. n + 1) (steps_keep setup w (ids_of w.actors)).tick
 
 -- The element at n begins what is left from n on.
 pub drop_at : {A : Type 0} (xs : List A) (n : ℕ) (x : A) → slice_get xs n ≡ Some x → drop n xs ≡ x ∷ drop (suc n) xs
@@ -37,14 +66,14 @@ entry_next setup w c frame entry at =
     rw (drop_at frame c entry at) (ap (λ n. after_entries setup (c + 1) (after_entry setup w c entry) (drop n frame)) (add-one c))
 
 -- Past the end nothing is left.
-drop_past : {A : Type 0} (xs : List A) (n : ℕ) → length xs ≤ n → drop n xs ≡ []
+pub drop_past : {A : Type 0} (xs : List A) (n : ℕ) → length xs ≤ n → drop n xs ≡ []
 drop_past [] zero past = refl
 drop_past [] (suc n) past = refl
 drop_past (x ∷ xs) zero past = absurd (omega arith)
 drop_past (x ∷ xs) (suc n) past = drop_past xs n (omega arith)
 
 -- What stands on the same, with this world.
-abbrev the_standing : Setup → World → Standing
+abbrev pub the_standing : Setup → World → Standing
 the_standing setup world = record { setup = setup; world = world }
 
 -- The first orders of a client were applied.
@@ -52,6 +81,7 @@ pub record OrderedSoFar (start now : Standing) (client : ℕ) (orders : List Ord
   pub setup : now.setup ≡ start.setup
   pub rest : after_orders now.setup now.world client (drop i orders) ≡ after_orders now.setup start.world client orders
   pub clients : clients_of now.world ≡ clients_of start.world
+  pub ready : IsReady now.setup start.world now.world
 
 pub ordered_next :
     (start now new : Standing) (client i : ℕ) (orders : List Order) (order : Order) → slice_get orders i ≡ Some order →
@@ -62,6 +92,7 @@ ordered_next start now new client i orders order at is far =
       setup = far.setup;
       rest = order_next now.setup now.world client i orders order at ∙ far.rest;
       clients = (order_keeps now.setup now.world client order).cash.clients ∙ far.clients;
+      ready = order_valid now.setup 0 start.world.tick start.world.drawn now.world client order far.ready;
     })
 
 pub ordered_all :
@@ -78,6 +109,7 @@ pub record EnteredSoFar (start now : Standing) (frame : List Entry) (c : ℕ) : 
   pub setup : now.setup ≡ start.setup
   pub rest : after_entries now.setup c now.world (drop c frame) ≡ after_entries now.setup 0 start.world frame
   pub clients : clients_of now.world ≡ clients_of start.world
+  pub ready : IsReady now.setup start.world now.world
 
 pub entered_next :
     (start now new : Standing) (c : ℕ) (frame : List Entry) (entry : Entry) → slice_get frame c ≡ Some entry →
@@ -88,6 +120,7 @@ entered_next start now new c frame entry at is far =
       setup = far.setup;
       rest = entry_next now.setup now.world c frame entry at ∙ far.rest;
       clients = (entry_keeps now.setup now.world c entry).cash.clients ∙ far.clients;
+      ready = entry_valid now.setup 0 start.world.tick start.world.drawn now.world c entry far.ready;
     })
 
 pub entered_all :
@@ -154,16 +187,21 @@ pub record TurnedSoFar (start now : Standing) (turns k : ℕ) : Type 0 where
   pub setup : now.setup ≡ start.setup
   pub rest : after_turns now.setup (turns - k) now.world ≡ after_turns now.setup turns start.world
   pub room : now.world.tick + (turns - k) < 2 ^ 32
+  pub draws : now.world.drawn + 2 ^ 12 * (turns - k) < 2 ^ 64
 
 pub turned_next :
     (start now new : Standing) (turns k : ℕ) → k < turns →
-    new ≡ record now { world = after_turn now.setup now.world } → TurnedSoFar start now turns k →
+    new ≡ record now { world = after_turn now.setup now.world } →
+    new.world.drawn ≤ now.world.drawn + MAX_ACTORS → TurnedSoFar start now turns k →
     TurnedSoFar start new turns (k + 1)
-turned_next start now new turns k below is far =
+turned_next start now new turns k below is few far =
+    let drawn : (after_turn now.setup now.world).drawn ≤ now.world.drawn + MAX_ACTORS = rw is at few in
+    let tick : (after_turn now.setup now.world).tick ≡ now.world.tick + 1 = turn_tick now.setup now.world in
     rw is (record {
       setup = far.setup;
       rest = turn_next now.setup turns k now.world below ∙ far.rest;
-      room = omega (arith, far.room);
+      room = omega (arith, far.room, tick);
+      draws = omega (arith, far.draws, drawn);
     })
 
 pub turned_all :

@@ -7,7 +7,7 @@ use Rattle.game_model.specs.Setup.{Setup}
 use Rattle.game_model.specs.ValidMap.{IsSetup}
 use Rattle.game_model.specs.ValidWorld.{IsValidWorld}
 use Rattle.game_model.specs.World.{start_of, clients_of}
-use Rattle.game_model.specs.Tick.{tick_of}
+use Rattle.game_tick.specs.Tick.{tick_of}
 use Rattle.sync_hash.specs.WorldHash.{hash_of}
 
 -- What a match stands on, a world, and the number of frames that it has been stepped by.

@@ -3,3 +3,7 @@ pub mod Burial
 pub mod Game
 pub mod Live
 pub mod Idle
+pub mod Touched
+pub mod Scene
+pub mod Telling
+pub mod Ordered

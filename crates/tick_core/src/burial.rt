@@ -1,12 +1,17 @@
 ghost use Rattle.std.specs.Prelude.{◌≡◌, false, filter, map};
-ghost use Rattle.game_model.specs.Tick.{buried};
+ghost use Rattle.std.specs.List.{All};
+ghost use Rattle.game_model.specs.declared.actor.Actor.{Actor as TheActor};
+ghost use Rattle.game_model.specs.Grid.{IsOn};
 ghost use Rattle.game_model.specs.World.{is_alive};
+ghost use Rattle.game_tick.specs.Turn.{buried};
 ghost use Rattle.sync_hash.specs.Kept.{numbered};
 ghost use Rattle.tick_core.specs.Burial.{without_dead};
 
+use crate::blocks::is_building;
 use crate::live::LiveWorld;
 use actor_table::ActorTable;
-use game_model::Actor;
+use game_model::{Actor, Blocks};
+use rule_traits::Rules;
 use sync_hash::Hasher;
 
 impl LiveWorld {
@@ -14,17 +19,17 @@ impl LiveWorld {
     pub(crate) fn bury(&mut self)
         ensures { self.new ≡ (record self.old { world = buried self.old.world }) }
     {
-        if !has_dead(&self.table) {
+        if !has_dead(&self.scene.table) {
             return;
         }
-        forget_the_dead(&self.table, &mut self.hasher);
-        self.table.bury();
+        forget_the_dead(&self.scene.table, &mut self.hasher);
+        self.scene.bury();
     }
 }
 
 /// Whether an actor has no health.
 #[tactic(auto, using(crate::proofs::BurialLemmas::alive_next))]
-fn has_dead(table: &ActorTable) -> bool
+pub(crate) fn has_dead(table: &ActorTable) -> bool
     ensures { result ≡ false → filter is_alive table.now.actors ≡ table.now.actors }
 {
     for i in 0..table.len() {
@@ -61,7 +66,7 @@ fn forget_if_dead(hasher: &mut Hasher, actor: &Actor)
 }
 
 /// Whether an actor has health left.
-fn is_alive(actor: &Actor) -> bool
+pub(crate) fn is_alive(actor: &Actor) -> bool
     ensures { result ≡ is_alive actor.now }
 {
     actor.body.health > 0

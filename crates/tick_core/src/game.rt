@@ -92,7 +92,7 @@ impl Sim for Game {
     ghost summary_of = { game_summary };
 
     fn clients(&self) -> u8 {
-        self.live.head.cash.clients()
+        self.live.scene.head.cash.clients()
     }
 
     /// Ticks the world by a frame with one entry for each client, after fewer than `MAX_STEPS`
@@ -115,8 +115,8 @@ impl Sim for Game {
 
     fn summary(&self) -> Summary {
         Summary {
-            actors: self.live.table.len() as u32,
-            cash: self.live.head.cash.copy(),
+            actors: self.live.scene.table.len() as u32,
+            cash: self.live.scene.head.cash.copy(),
         }
     }
 }

@@ -1,25 +1,31 @@
 //! The game that a match runs: a world that is stepped by frames.
 //!
 //! [`Game`] is a `frame_core::Sim` over `game_model::World`, and [`GameMaker`] makes its opening
-//! over the rules and the map of a match. One step is one tick of the definitions in `game_model`
+//! over the rules and the map of a match. One step is one tick of the definitions in `game_tick`
 //! (`specs/Tick.antt` there). The world is held part by part: its head as plain numbers, its actors
-//! in a table, its ore, and the numbers of which its hash is made; a step tells the hasher of what
-//! it changes alone, so that the hash costs the header. Contracts see a game as its setup, its world
-//! and its count of steps (`specs/Game.antt`).
+//! in a table, its ore, the cells of its buildings, routes, dice, and the numbers of which its hash
+//! is made; a step tells the hasher of what it changes alone, so that the hash costs the header.
+//! Contracts see a game as its setup, its world and its count of steps (`specs/Game.antt`).
 #![tactic(auto)]
 
+mod acting;
 mod bare;
+mod blocks;
 mod burial;
 mod departures;
 mod filling;
 mod game;
 mod live;
+mod living;
 mod maker;
 mod opening;
 mod orders;
+mod scene;
+mod telling;
 #[cfg(test)]
 mod tests;
 mod tick;
+mod turn;
 
 pub use game::Game;
 pub use maker::GameMaker;

@@ -1,46 +1,75 @@
 ghost use Rattle.std.specs.Prelude.{◌≡◌, ◌<◌, ◌≤◌, ◌+◌, slice_index};
 ghost use Rattle.std.specs.Bool.{OnTrue};
 ghost use Rattle.game_model.specs.World.{clients_of};
-ghost use Rattle.game_model.specs.Order.{can_receive, donation_fits, after_order, after_orders};
-ghost use Rattle.game_orders.specs.declared.order.Order.TheVariants.{Donate, Pace};
+ghost use Rattle.game_orders.specs.declared.order.Order.TheVariants.{Cancel, Donate, Pace, Produce};
+ghost use Rattle.game_tick.specs.Orders.{can_receive, donation_fits, after_order};
+ghost use Rattle.tick_core.specs.Ordered.{IsReady};
 
-use crate::live::LiveWorld;
+use crate::scene::Scene;
 use game_model::{MAX_CASH, MAX_PACE};
-use game_orders::{Order, Orders};
+use game_orders::Order;
+use production::{cancel, produce};
 
-impl LiveWorld {
-    /// Applies the orders of a client, first to last.
-    pub(crate) fn apply_orders(&mut self, client: u8, orders: &Orders)
-        requires { client < clients_of self.old.world }
-        ensures { self.new ≡ (record self.old { world = after_orders self.old.setup self.old.world client orders.now }) }
-    {
-        for i in 0..orders.len() {
-            if let Some(order) = orders.get(i) {
-                self.apply_order(client, order);
-            }
-        }
-    }
-
-    /// Applies one order of a client, which has no effect where it does not fit. Orders on actors
-    /// have none yet.
-    fn apply_order(&mut self, client: u8, order: &Order)
-        requires { client < clients_of self.old.world }
+impl Scene {
+    /// Applies one order of a client, which has no effect where it does not fit.
+    pub(crate) fn apply_order(&mut self, client: u8, order: &Order)
+        requires client { client < clients_of self.old.world }
+        requires ready { IsReady self.old.setup self.old.world self.old.world }
         ensures { self.new ≡ (record self.old { world = after_order self.old.setup self.old.world client order.now }) }
     {
         match order {
+            Order::Move {
+                actor,
+                cell,
+                queued,
+            } => self.order_move(client, *actor, *cell, *queued),
+            Order::Attack {
+                actor,
+                target,
+                queued,
+            } => self.order_attack(client, *actor, *target, *queued),
+            Order::Harvest {
+                actor,
+                cell,
+                queued,
+            } => self.order_harvest(client, *actor, *cell, *queued),
+            Order::Stop { actor } => self.order_stop(client, *actor),
+            Order::Produce { actor, kind } => self.order_produce(client, *actor, *kind),
+            Order::Cancel { actor } => self.order_cancel(client, *actor),
             Order::Donate { to, amount } => self.donate(client, *to, *amount),
             Order::Pace { ticks } => self.set_pace(client, *ticks),
-            Order::Move { .. }
-            | Order::Attack { .. }
-            | Order::Harvest { .. }
-            | Order::Stop { .. }
-            | Order::Produce { .. }
-            | Order::Cancel { .. } => {}
         }
+    }
+
+    /// A client's order to build a unit of a kind, given to the actor of an id.
+    fn order_produce(&mut self, client: u8, id: u32, kind: u16)
+        requires client { client < clients_of self.old.world }
+        requires ready { IsReady self.old.setup self.old.world self.old.world }
+        ensures { self.new ≡ (record self.old { world = after_order self.old.setup self.old.world client (Produce id kind) }) }
+    {
+        let head = &mut self.head;
+        produce(
+            &mut self.table,
+            &mut head.cash,
+            &self.rules,
+            client,
+            id,
+            kind,
+        );
+    }
+
+    /// A client's order to take back the last build of the actor of an id.
+    fn order_cancel(&mut self, client: u8, id: u32)
+        requires ready { IsReady self.old.setup self.old.world self.old.world }
+        ensures { self.new ≡ (record self.old { world = after_order self.old.setup self.old.world client (Cancel id) }) }
+    {
+        let head = &mut self.head;
+        cancel(&mut self.table, &mut head.cash, &self.rules, client, id);
     }
 
     /// Sets the pace of the frames that follow, where the host sets it within its limits.
     fn set_pace(&mut self, client: u8, ticks: u8)
+        requires ready { IsReady self.old.setup self.old.world self.old.world }
         ensures { self.new ≡ (record self.old { world = after_order self.old.setup self.old.world client (Pace ticks) }) }
     {
         if client == 0 && (1..=MAX_PACE).contains(&ticks) {
@@ -50,7 +79,8 @@ impl LiveWorld {
 
     /// Moves an amount of cash from a client to another, where the donation fits.
     fn donate(&mut self, client: u8, to: u8, amount: u32)
-        requires { client < clients_of self.old.world }
+        requires client { client < clients_of self.old.world }
+        requires ready { IsReady self.old.setup self.old.world self.old.world }
         ensures { self.new ≡ (record self.old { world = after_order self.old.setup self.old.world client (Donate to amount) }) }
     {
         if self.donation_fits(client, to, amount) {

@@ -1,11 +1,27 @@
-ghost use Rattle.std.specs.Prelude.{◌≡◌, ◌+◌, ◌<◌, ◌^◌, length};
+ghost use Rattle.std.specs.Prelude.{◌≡◌, ◌+◌, ◌*◌, ◌<◌, ◌^◌, length};
+ghost use Rattle.game_model.specs.Tick.{with_departures};
 ghost use Rattle.game_model.specs.World.{clients_of};
-ghost use Rattle.game_model.specs.Tick.{after_entry, after_turn, after_turns, tick_of, with_departures};
-ghost use Rattle.game_model.specs.Tick.{with_orders};
+ghost use Rattle.game_tick.specs.Orders.{after_order, after_orders};
+ghost use Rattle.tick_core.specs.Ordered.{IsReady, subject_of};
+ghost use Rattle.game_tick.specs.Tick.{after_entry, after_turns, tick_of, with_orders};
 
-use crate::departures::apply_departures;
 use crate::live::LiveWorld;
-use game_orders::{Entry, Frame};
+use game_orders::{Entry, Frame, Order, Orders};
+
+/// The actor to which an order is given, if it is given to one.
+fn subject_of(order: &Order) -> Option<u32>
+    ensures { result ≡ subject_of order.now }
+{
+    match order {
+        Order::Move { actor, .. }
+        | Order::Attack { actor, .. }
+        | Order::Harvest { actor, .. }
+        | Order::Stop { actor }
+        | Order::Produce { actor, .. }
+        | Order::Cancel { actor } => Some(*actor),
+        Order::Donate { .. } | Order::Pace { .. } => None,
+    }
+}
 
 impl LiveWorld {
     /// Ticks by a frame: departures, then the orders of the plays by rising client, then as many
@@ -13,12 +29,22 @@ impl LiveWorld {
     pub(crate) fn tick(&mut self, f: &Frame)
         requires whole { length f.now ≡ clients_of self.old.world }
         requires more { self.old.world.tick + self.old.world.pace < 2 ^ 32 }
+        requires draws { self.old.world.drawn + 2 ^ 16 < 2 ^ 64 }
+        requires ready { IsReady self.old.setup self.old.world self.old.world }
         ensures { self.new ≡ (record self.old { world = tick_of self.old.setup self.old.world f.now }) }
     {
-        let turns = self.head.pace;
+        let turns = self.scene.head.pace;
         self.let_depart(f);
         self.apply_plays(f);
         self.run_turns(turns);
+    }
+
+    /// The number of clients.
+    pub(crate) fn clients(&self) -> u8
+        ensures { result ≡ clients_of self.now.world }
+    {
+        let _hasher = &self.hasher;
+        self.scene.clients()
     }
 
     /// Each client whose entry is a Leave becomes gone.
@@ -26,16 +52,17 @@ impl LiveWorld {
         requires { length f.now ≡ clients_of self.old.world }
         ensures { self.new ≡ (record self.old { world = with_departures self.old.world f.now }) }
     {
-        apply_departures(&mut self.head.gone, f);
+        self.scene.let_depart(f);
     }
 
     /// Applies the orders of the plays by rising client.
     fn apply_plays(&mut self, f: &Frame)
-        requires { length f.now ≡ clients_of self.old.world }
+        requires whole { length f.now ≡ clients_of self.old.world }
+        requires ready { IsReady self.old.setup self.old.world self.old.world }
         ensures world { self.new ≡ (record self.old { world = with_orders self.old.setup self.old.world f.now }) }
-        ensures tick { self.new.world.tick ≡ self.old.world.tick }
+        ensures ready { IsReady self.old.setup self.old.world self.new.world }
     {
-        for c in 0..self.head.cash.clients() {
+        for c in 0..self.clients() {
             if let Some(entry) = f.get(usize::from(c)) {
                 self.apply_entry(c, entry);
             }
@@ -44,7 +71,8 @@ impl LiveWorld {
 
     /// Applies the orders of one client's entry.
     fn apply_entry(&mut self, client: u8, entry: &Entry)
-        requires { client < clients_of self.old.world }
+        requires client { client < clients_of self.old.world }
+        requires ready { IsReady self.old.setup self.old.world self.old.world }
         ensures { self.new ≡ (record self.old { world = after_entry self.old.setup self.old.world client entry.now }) }
     {
         match entry {
@@ -53,22 +81,38 @@ impl LiveWorld {
         }
     }
 
+    /// Applies the orders of a client, first to last.
+    fn apply_orders(&mut self, client: u8, orders: &Orders)
+        requires client { client < clients_of self.old.world }
+        requires ready { IsReady self.old.setup self.old.world self.old.world }
+        ensures { self.new ≡ (record self.old { world = after_orders self.old.setup self.old.world client orders.now }) }
+    {
+        for i in 0..orders.len() {
+            if let Some(order) = orders.get(i) {
+                self.apply_order(client, order);
+            }
+        }
+    }
+
+    /// Applies one order of a client, and tells the hasher of the actor to which it is given.
+    fn apply_order(&mut self, client: u8, order: &Order)
+        requires client { client < clients_of self.old.world }
+        requires ready { IsReady self.old.setup self.old.world self.old.world }
+        ensures { self.new ≡ (record self.old { world = after_order self.old.setup self.old.world client order.now }) }
+    {
+        self.scene.apply_order(client, order);
+        let subject = subject_of(order);
+        self.scene.tell(&mut self.hasher, subject, None, None);
+    }
+
     /// Runs so many turns.
     fn run_turns(&mut self, turns: u8)
-        requires { self.old.world.tick + turns < 2 ^ 32 }
+        requires tick { self.old.world.tick + turns < 2 ^ 32 }
+        requires draws { self.old.world.drawn + 2 ^ 12 * turns < 2 ^ 64 }
         ensures { self.new ≡ (record self.old { world = after_turns self.old.setup turns self.old.world }) }
     {
         for _turn in 0..turns {
             self.run_turn();
         }
-    }
-
-    /// Runs a turn: the burial, and then it is counted. No actor makes a step yet.
-    fn run_turn(&mut self)
-        requires { self.old.world.tick + 1 < 2 ^ 32 }
-        ensures { self.new ≡ (record self.old { world = after_turn self.old.setup self.old.world }) }
-    {
-        self.bury();
-        self.head.tick += 1;
     }
 }

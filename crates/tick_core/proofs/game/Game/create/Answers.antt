@@ -7,7 +7,7 @@ pub of-requires : goal.of-requires
 of-requires c =
     let setup : Setup = record { rules = c.args.rules.value; map = c.args.map.value } in
     rw (c.in_ok-world.ensures, c.deref.ensures, c.deref-2.ensures)
-    (start_valid setup c.args.seed c.args.clients c.requires.setup c.requires.least c.requires.most)
+    (record { setup = c.requires.setup; valid = start_valid setup c.args.seed c.args.clients c.requires.setup c.requires.least c.requires.most })
 
 pub invariant_of-result : goal.invariant_of-result
 invariant_of-result c =

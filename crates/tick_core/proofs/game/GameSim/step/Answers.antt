@@ -1,6 +1,36 @@
-use Rattle.game_model.specs.KeepsLemmas.{tick_keeps}
-use Rattle.game_model.specs.ValidTickLemmas.{tick_valid}
+use Rattle.std.proofs.Common.{arith}
+use Rattle.game_model.specs.ValidTickLemmas.{wider}
+use Rattle.game_tick.specs.KeepsLemmas.{tick_keeps}
+use Rattle.game_tick.specs.TickLemmas.{tick_valid}
 use Rattle.tick_core.proofs.game.GameSim.step.Goals as goal
+
+pub tick-requires-clause-more : goal.tick-requires-clause-more
+tick-requires-clause-more c =
+    let valid = c.self.invariant.valid in
+    let few = rw (← c.self.view_is) at c.requires.more in
+    omega (arith, valid.most_tick, valid.pace.most, few)
+
+pub tick-requires-clause-draws : goal.tick-requires-clause-draws
+tick-requires-clause-draws c =
+    let valid = c.self.invariant.valid in
+    let few = rw (← c.self.view_is) at c.requires.more in
+    omega (arith, valid.drawn, few)
+
+pub tick-requires-clause-ready : goal.tick-requires-clause-ready
+tick-requires-clause-ready c =
+    let live = c.self.inside.live in
+    let valid = c.self.invariant.valid in
+    record {
+      ore = valid.ore;
+      least_tick = omega arith;
+      most_tick = omega arith;
+      drawn = omega arith;
+      pace = valid.pace;
+      clients = valid.clients;
+      cash = valid.cash;
+      actors = valid.actors;
+      health = valid.health;
+    }
 
 -- A tick makes of a valid world one that is valid after one frame more.
 pub invariant_of-self : goal.invariant_of-self
@@ -9,7 +39,7 @@ invariant_of-self c =
     rw c.tick.ensures
     (record {
       stands = c.self.invariant.stands;
-      valid = tick_valid live.setup c.self.inside.steps live.world c.args.f.now c.self.invariant.valid;
+      valid = tick_valid live.setup c.self.inside.steps live.world c.args.f.now c.self.invariant.stands.map c.self.invariant.valid;
     })
 
 pub returns-clause-clients : goal.returns-clause-clients

@@ -1,10 +1,14 @@
 use Rattle.std.proofs.Common.{◌≤◌, length, sym, refl, arith}
-use Rattle.tick_core.proofs.TickLemmas.{ordered_next, ordered_all}
+use Rattle.tick_core.proofs.TickLemmas.{ordered_next, ordered_all, ready_now}
 use Rattle.tick_core.proofs.live.LiveWorld.apply_orders.Goals as goal
 use Rattle.tick_core.proofs.live.LiveWorld.apply_orders.Goals.{in-Some, in_default}
 
 pub loop-i-init : goal.loop-i-init
-loop-i-init c = record { setup = refl; rest = refl; clients = refl }
+loop-i-init c = record { setup = refl; rest = refl; clients = refl; ready = c.requires.ready }
+
+pub apply_order-requires-clause-ready : goal.apply_order-requires-clause-ready
+apply_order-requires-clause-ready c =
+    ready_now c.loop-i.self.setup c.args.self.now.world c.loop-i.self.world c.loop-i.invariant.ready
 
 -- The next order is applied; there is one, since the place is below the number of orders.
 pub loop-i-preserved : goal.loop-i-preserved

@@ -1,13 +1,18 @@
-use Rattle.std.proofs.Common.{◌≡◌, ◌≤◌, ◌∙◌, ap, length, sym, refl, arith}
-use Rattle.game_model.specs.KeepsLemmas.{entries_count}
+use Rattle.std.proofs.Common.{◌≡◌, ◌≤◌, ◌∙◌, ap, length, subst, sym, refl, arith}
+use Rattle.game_model.specs.Setup.{Setup}
 use Rattle.game_model.specs.World.{clients_of}
 use Rattle.tick_core.specs.Live.{Standing}
-use Rattle.tick_core.proofs.TickLemmas.{entered_next, entered_all}
+use Rattle.tick_core.specs.Ordered.{IsReady}
+use Rattle.tick_core.proofs.TickLemmas.{entered_next, entered_all, ready_now}
 use Rattle.tick_core.proofs.live.LiveWorld.apply_plays.Goals as goal
 use Rattle.tick_core.proofs.live.LiveWorld.apply_plays.Goals.{in-Some, in_default}
 
 pub loop-c-init : goal.loop-c-init
-loop-c-init c = record { setup = refl; rest = refl; clients = refl }
+loop-c-init c = record { setup = refl; rest = refl; clients = refl; ready = c.requires.ready }
+
+pub apply_entry-requires-clause-ready : goal.apply_entry-requires-clause-ready
+apply_entry-requires-clause-ready c =
+    ready_now c.loop-c.self.setup c.args.self.now.world c.loop-c.self.world c.loop-c.invariant.ready
 
 -- The entry of the next client is applied; there is one, since the frame has one for each client.
 pub loop-c-preserved : goal.loop-c-preserved
@@ -16,18 +21,14 @@ loop-c-preserved c =
       | in-Some w ↦ rw w.self-is
           (entered_next c.args.self.now c.loop-c.self _ c.loop-c.c c.args.f.now _ (sym (rw c.from.ensures at w.in-Some.ensures.value)) w.apply_entry.ensures c.loop-c.invariant)
       | in_default w ↦
-          let many : length c.self.inside.head.cash ≡ clients_of c.args.self.now.world = ap (λ (s : Standing). clients_of s.world) c.self.view_is in
           let past : length c.args.f.now ≤ c.loop-c.c = rw c.from.ensures at w.in_default.ensures.past in
-          absurd (omega (arith, many, past, c.requires))
+          absurd (omega (arith, past, c.requires.whole))
     ]
 
 pub returns-clause-world : goal.returns-clause-world
 returns-clause-world c =
-    let many : length c.self.inside.head.cash ≡ clients_of c.args.self.now.world = ap (λ (s : Standing). clients_of s.world) c.self.view_is in
-    entered_all c.args.self.now c.loop-c.self c.loop-c.c c.args.f.now (omega (arith, many, c.requires)) c.loop-c.invariant
+    entered_all c.args.self.now c.loop-c.self c.loop-c.c c.args.f.now (omega (arith, c.requires.whole)) c.loop-c.invariant
 
-pub returns-clause-tick : goal.returns-clause-tick
-returns-clause-tick c =
-    let many : length c.self.inside.head.cash ≡ clients_of c.args.self.now.world = ap (λ (s : Standing). clients_of s.world) c.self.view_is in
-    ap (λ (s : Standing). s.world.tick) (entered_all c.args.self.now c.loop-c.self c.loop-c.c c.args.f.now (omega (arith, many, c.requires)) c.loop-c.invariant)
-    ∙ (entries_count c.args.self.now.setup 0 c.args.self.now.world c.args.f.now).tick
+pub returns-clause-ready : goal.returns-clause-ready
+returns-clause-ready c =
+    subst (λ (s : Setup). IsReady s c.args.self.now.world c.loop-c.self.world) c.loop-c.invariant.setup c.loop-c.invariant.ready

@@ -3,11 +3,15 @@ use Rattle.tick_core.proofs.TickLemmas.{turned_next, turned_all}
 use Rattle.tick_core.proofs.live.LiveWorld.run_turns.Goals as goal
 
 pub run_turn-requires : goal.run_turn-requires
-run_turn-requires c = omega (arith, c.loop-turn.invariant.room, c.loop-turn-test.true)
+run_turn-requires c =
+    record {
+      tick = omega (arith, c.loop-turn.invariant.room, c.loop-turn-test.true);
+      draws = omega (arith, c.loop-turn.invariant.draws, c.loop-turn-test.true);
+    }
 
 pub loop-turn-preserved : goal.loop-turn-preserved
 loop-turn-preserved c =
-    turned_next c.args.self.now c.loop-turn.self _ c.args.turns c.loop-turn._turn c.loop-turn-test.true c.run_turn.ensures c.loop-turn.invariant
+    turned_next c.args.self.now c.loop-turn.self _ c.args.turns c.loop-turn._turn c.loop-turn-test.true c.run_turn.ensures.world c.run_turn.ensures.drawn c.loop-turn.invariant
 
 pub returns : goal.returns
 returns c =

@@ -1,0 +1,161 @@
+use crate::blocks::{blocks_of, clear_dead};
+use crate::departures::apply_departures;
+use crate::filling::filled_table;
+use actor_table::ActorTable;
+use base::NoMemory;
+use game_model::{Blocks, Head, Map, Ore, World};
+use game_orders::Frame;
+use grid_routes::Router;
+use rule_traits::Rules;
+use std::alloc::Global;
+use std::marker::Model;
+use std::rc::Rc;
+use sync_hash::Hasher;
+use twister::Twister;
+
+/// A world in which actors act, and what it stands on.
+#[derive(Drop)]
+pub(crate) struct Scene {
+    pub(crate) rules: Rc<Rules>,
+    pub(crate) map: Rc<Map>,
+    pub(crate) head: Head,
+    pub(crate) table: ActorTable,
+    pub(crate) ore: Ore,
+    pub(crate) blocks: Blocks,
+    pub(crate) router: Router,
+    pub(crate) dice: Twister,
+}
+
+impl Model for Scene {
+    ghost use Rattle.game_model.specs.World.{world_with};
+    ghost use Rattle.tick_core.specs.Live.{Standing};
+    ghost use Rattle.tick_core.specs.Scene.{IsScene};
+
+    ghost Value = { Standing };
+
+    ghost view = { λ s. record {
+      setup = record { rules = s.rules.value; map = s.map.value };
+      world = world_with s.head s.table.actors s.ore;
+    } };
+
+    ghost invariant = { λ s. IsScene (record { rules = s.rules.value; map = s.map.value })
+        (world_with s.head s.table.actors s.ore) s.table s.blocks s.router s.dice };
+}
+
+impl Scene {
+    ghost use Rattle.std.specs.Prelude.{◌≡◌, ◌+◌, ◌<◌, ◌^◌, IfOk, length};
+    ghost use Rattle.game_model.specs.Tick.{with_departures};
+    ghost use Rattle.game_model.specs.World.{clients_of};
+    ghost use Rattle.game_tick.specs.Turn.{buried};
+    ghost use Rattle.game_model.specs.ValidMap.{IsSetup};
+    ghost use Rattle.sync_hash.specs.Kept.{IsKeptOf};
+    ghost use Rattle.sync_hash.specs.WorldHash.{hash_of};
+    ghost use Rattle.tick_core.specs.Scene.{IsActing};
+    ghost use Rattle.game_model.specs.ValidWorld.{IsValidWorld};
+
+    /// An opening world, with the memory for all that ticks want. Out of memory is the only error.
+    pub(crate) fn of(
+        alloc: Global,
+        rules: Rc<Rules>,
+        map: Rc<Map>,
+        world: World,
+    ) -> Result<Scene, NoMemory>
+        requires setup { IsSetup (record { rules = rules.value; map = map.value }) }
+        requires valid { IsValidWorld (record { rules = rules.value; map = map.value }) 0 world }
+        ensures { IfOk result (λ scene. scene ≡ (record { setup = record { rules = rules.value; map = map.value }; world = world })) }
+    {
+        let (width, height) = (map.width, map.height);
+        let table = filled_table(alloc, width, height, world.actors.as_slice())?;
+        let blocks = blocks_of(alloc, &rules, &map, world.actors.as_slice())?;
+        let router = Router::create(alloc, width, height)?;
+        let dice = Twister::seeded(world.seed);
+        Ok(Scene {
+            rules,
+            map,
+            head: Head {
+                tick: world.tick,
+                seed: world.seed,
+                drawn: world.drawn,
+                next_id: world.next_id,
+                pace: world.pace,
+                cash: world.cash,
+                gone: world.gone,
+            },
+            table,
+            ore: world.ore,
+            blocks,
+            router,
+            dice,
+        })
+    }
+
+    /// The hash of the world, of which this is kept.
+    pub(crate) fn hash(&self, hasher: &Hasher) -> u64
+        requires { IsKeptOf hasher.now self.now.world.actors self.now.world.ore }
+        ensures { result ≡ hash_of self.now.world }
+    {
+        hasher.hash(&self.head)
+    }
+
+    /// How many random words were drawn so far.
+    pub(crate) fn drawn(&self) -> u64
+        ensures { result ≡ self.now.world.drawn }
+    {
+        self.head.drawn
+    }
+
+    /// The id of the next actor.
+    pub(crate) fn next_id(&self) -> u32
+        ensures { result ≡ self.now.world.next_id }
+    {
+        self.head.next_id
+    }
+
+    /// The world as it is now. Out of memory is the only error.
+    pub(crate) fn snapshot(&self, alloc: Global) -> Result<World, NoMemory>
+        ensures { IfOk result (λ world. world ≡ self.now.world) }
+    {
+        let actors = self.table.copy_actors(alloc)?;
+        let ore = self.ore.copy()?;
+        Ok(self.head.world_with(actors, ore))
+    }
+
+    /// The number of clients.
+    pub(crate) fn clients(&self) -> u8
+        ensures { result ≡ clients_of self.now.world }
+    {
+        self.head.cash.clients()
+    }
+
+    /// What holds of the world at all times: it stands on a valid setup, and is one in mid-turn.
+    pub(crate) fn known(&self)
+        ensures stands { IsSetup self.now.setup }
+        ensures acting { IsActing self.now.setup self.now.world }
+    {
+        let _tick = self.head.tick;
+    }
+
+    /// Each client whose entry is a Leave becomes gone.
+    pub(crate) fn let_depart(&mut self, f: &Frame)
+        requires { length f.now ≡ clients_of self.old.world }
+        ensures { self.new ≡ (record self.old { world = with_departures self.old.world f.now }) }
+    {
+        apply_departures(&mut self.head.gone, f);
+    }
+
+    /// One turn more.
+    pub(crate) fn count_turn(&mut self)
+        requires { self.old.world.tick + 1 < 2 ^ 32 }
+        ensures { self.new ≡ (record self.old { world = record self.old.world { tick = self.old.world.tick + 1 } }) }
+    {
+        self.head.tick += 1;
+    }
+
+    /// Removes the actors without health, and the blocks of the buildings among them.
+    pub(crate) fn bury(&mut self)
+        ensures { self.new ≡ (record self.old { world = buried self.old.world }) }
+    {
+        clear_dead(&self.table, &self.rules, &self.map, &mut self.blocks);
+        self.table.bury();
+    }
+}

@@ -1,0 +1,247 @@
+ghost use Rattle.std.specs.Prelude.{◌≡◌, ◌==◌, ◌+◌, ◌-◌, ◌≤◌, ◌<◌, ◌^◌, [], true, false, if◌then◌else◌, length, map, slice_get, IfSome, None};
+ghost use Rattle.game_model.specs.Grid.{IsOn};
+ghost use Rattle.game_model.specs.ValidMap.{IsSetup};
+ghost use Rattle.game_model.specs.World.{ids_of, living_of};
+ghost use Rattle.game_model.specs.declared.limits.TheConstants.{MAX_ACTORS};
+ghost use Rattle.game_tick.specs.Turn.{after_step, after_steps, after_turn};
+ghost use Rattle.sync_hash.specs.Kept.{numbered};
+ghost use Rattle.tick_core.specs.Scene.{IsActing};
+ghost use Rattle.tick_core.specs.Telling.{HasPlaceFor, IsIdleNow, cell_of, target_of, told_of, told_ore, with_some};
+ghost use Rattle.tick_core.specs.Touched.{KeptBut};
+
+use crate::live::LiveWorld;
+use crate::living::living;
+use crate::scene::Scene;
+use activities::Activity;
+use actor_table::ActorTable;
+use game_model::{Actor, Ore};
+use sync_hash::Hasher;
+use world_units::CPos;
+
+/// What a step of an actor may change beside the actor itself.
+#[derive(Clone, Copy, Drop)]
+pub(crate) struct Aim {
+    /// The actor that it may hit.
+    pub(crate) target: Option<u32>,
+    /// The cell whose ore it may load.
+    pub(crate) cell: Option<CPos>,
+}
+
+/// Whether a step leaves the actor as it is: it has nothing to load, to build, to go or to do.
+fn is_idle(a: &Actor) -> bool
+    ensures { result ≡ true → IsIdleNow a.now }
+{
+    a.body.reload == 0
+        && a.body.builds.is_empty()
+        && a.body.leg.is_none()
+        && a.body.acts.as_slice().is_empty()
+}
+
+/// What the first activity of the actor of an id, if it lives, may change beside the actor itself.
+fn aim_of(table: &ActorTable, id: u32) -> Aim
+    ensures target { result.target ≡ target_of (living_of table.now.actors id) }
+    ensures cell { result.cell ≡ cell_of (living_of table.now.actors id) }
+{
+    let none = Aim {
+        target: None,
+        cell: None,
+    };
+    let Some(a) = living(table, id) else {
+        return none;
+    };
+    match a.body.acts.head() {
+        Some(Activity::Attack { target, .. }) => Aim {
+            target: Some(*target),
+            cell: None,
+        },
+        Some(Activity::Harvest { cell, .. }) => Aim {
+            target: None,
+            cell: Some(*cell),
+        },
+        Some(Activity::Move { .. } | Activity::Deliver { .. }) | None => none,
+    }
+}
+
+/// Tells the hasher of the actor of an id, if it is there.
+fn tell_actor(table: &ActorTable, hasher: &mut Hasher, id: Option<u32>)
+    requires { HasPlaceFor hasher.old.actors table.now.actors id }
+    ensures { hasher.new ≡ told_of hasher.old table.now.actors id }
+{
+    if let Some(id) = id
+        && let Some(a) = table.get(id)
+    {
+        hasher.actor_set(a);
+    }
+}
+
+/// Tells the hasher of the actors of these ids, as far as they are there: the numbers of all others
+/// are right.
+fn tell_actors(
+    table: &ActorTable,
+    hasher: &mut Hasher,
+    id: Option<u32>,
+    target: Option<u32>,
+    added: Option<u32>,
+)
+    requires { KeptBut (with_some id (with_some target (with_some added []))) hasher.old.actors table.now.actors }
+    ensures numbers { hasher.new.actors ≡ map numbered table.now.actors }
+    ensures cells { hasher.new.cells ≡ hasher.old.cells }
+    ensures width { hasher.new.width ≡ hasher.old.width }
+    ensures height { hasher.new.height ≡ hasher.old.height }
+{
+    let _ids_rise = table.len();
+    tell_actor(table, hasher, id);
+    tell_actor(table, hasher, target);
+    tell_actor(table, hasher, added);
+}
+
+/// The id, where these differ.
+fn if_changed(before: u64, after: u64, id: Option<u32>) -> Option<u32>
+    ensures { result ≡ (if before == after then None else id) }
+{
+    if before == after { None } else { id }
+}
+
+/// Tells the hasher of the ore of a cell of the map.
+fn tell_ore(ore: &Ore, hasher: &mut Hasher, cell: Option<CPos>)
+    requires on_map { IfSome cell (IsOn ore.now.width ore.now.height) }
+    requires width { hasher.old.width ≡ ore.now.width }
+    requires height { hasher.old.height ≡ ore.now.height }
+    ensures { hasher.new ≡ told_ore hasher.old ore.now cell }
+{
+    if let Some(cell) = cell {
+        hasher.ore_set(cell, ore.get(cell));
+    }
+}
+
+impl Scene {
+    /// The number of actors.
+    fn actors(&self) -> usize
+        ensures value { result ≡ length self.now.world.actors }
+        ensures limit { result ≤ MAX_ACTORS }
+    {
+        self.table.len()
+    }
+
+    /// The id at a place.
+    fn nth(&self, i: usize) -> Option<u32>
+        ensures { result ≡ slice_get (ids_of self.now.world.actors) i }
+    {
+        self.table.nth(i)
+    }
+
+    /// What the last part of the step of the actor of an id may change beside the actor itself.
+    fn aim(&self, id: u32) -> Aim
+        ensures target { result.target ≡ target_of (living_of self.now.world.actors id) }
+        ensures cell { result.cell ≡ cell_of (living_of self.now.world.actors id) }
+    {
+        aim_of(&self.table, id)
+    }
+
+    /// Whether the actor of an id lives and a step changes it.
+    fn is_busy(&self, id: u32) -> bool
+        ensures { result ≡ false → IfSome (living_of self.now.world.actors id) IsIdleNow }
+    {
+        match living(&self.table, id) {
+            Some(a) => !is_idle(a),
+            None => false,
+        }
+    }
+
+    /// Tells the hasher of the actors of these ids, as far as they are there: the numbers of all
+    /// others are right.
+    pub(crate) fn tell(
+        &self,
+        hasher: &mut Hasher,
+        id: Option<u32>,
+        target: Option<u32>,
+        added: Option<u32>,
+    )
+        requires { KeptBut (with_some id (with_some target (with_some added []))) hasher.old.actors self.now.world.actors }
+        ensures numbers { hasher.new.actors ≡ map numbered self.now.world.actors }
+        ensures cells { hasher.new.cells ≡ hasher.old.cells }
+        ensures width { hasher.new.width ≡ hasher.old.width }
+        ensures height { hasher.new.height ≡ hasher.old.height }
+    {
+        tell_actors(&self.table, hasher, id, target, added);
+    }
+
+    /// Tells the hasher of the ore of a cell of the map.
+    fn tell_ore(&self, hasher: &mut Hasher, cell: Option<CPos>)
+        requires on_map { IfSome cell (IsOn self.now.world.ore.width self.now.world.ore.height) }
+        requires width { hasher.old.width ≡ self.now.world.ore.width }
+        requires height { hasher.old.height ≡ self.now.world.ore.height }
+        ensures { hasher.new ≡ told_ore hasher.old self.now.world.ore cell }
+    {
+        tell_ore(&self.ore, hasher, cell);
+    }
+}
+
+impl LiveWorld {
+    /// Runs a turn: each actor that is there at its start makes its step, by rising id; then the
+    /// burial, and the turn is counted.
+    pub(crate) fn run_turn(&mut self)
+        requires tick { self.old.world.tick + 1 < 2 ^ 32 }
+        requires draws { self.old.world.drawn + 2 ^ 12 < 2 ^ 64 }
+        ensures world { self.new ≡ (record self.old { world = after_turn self.old.setup self.old.world }) }
+        ensures drawn { self.new.world.drawn ≤ self.old.world.drawn + MAX_ACTORS }
+    {
+        self.step_all();
+        self.bury();
+        self.count_turn();
+    }
+
+    /// Each actor that is there makes its step, by rising id.
+    fn step_all(&mut self)
+        requires { self.old.world.drawn + 2 ^ 12 < 2 ^ 64 }
+        ensures world { self.new ≡ (record self.old { world = after_steps self.old.setup self.old.world (ids_of self.old.world.actors) }) }
+        ensures few { length self.old.world.actors ≤ MAX_ACTORS }
+    {
+        for i in 0..self.scene.actors() {
+            if let Some(id) = self.scene.nth(i) {
+                self.step_actor(id);
+            }
+        }
+    }
+
+    /// One turn more.
+    fn count_turn(&mut self)
+        requires { self.old.world.tick + 1 < 2 ^ 32 }
+        ensures { self.new ≡ (record self.old { world = record self.old.world { tick = self.old.world.tick + 1 } }) }
+    {
+        self.scene.count_turn();
+    }
+
+    /// The step of the actor of an id, of which the hasher is told.
+    fn step_actor(&mut self, id: u32)
+        requires { self.old.world.drawn < 2 ^ 64 - 1 }
+        ensures world { self.new ≡ (record self.old { world = after_step self.old.setup self.old.world id }) }
+        ensures stands { IsSetup self.old.setup }
+        ensures acting { IsActing self.old.setup self.old.world }
+    {
+        self.scene.known();
+        if self.scene.is_busy(id) {
+            self.step_busy(id);
+        }
+    }
+
+    /// The step of the actor of an id by its parts, and the telling.
+    fn step_busy(&mut self, id: u32)
+        requires { self.old.world.drawn < 2 ^ 64 - 1 }
+        ensures { self.new ≡ (record self.old { world = after_step self.old.setup self.old.world id }) }
+    {
+        self.scene.known();
+        let next_id = self.scene.next_id();
+        let drawn = self.scene.drawn();
+        self.scene.prepare(id);
+        self.scene.known();
+        let aim = self.scene.aim(id);
+        self.scene.go_on(id);
+        let target = if_changed(drawn, self.scene.drawn(), aim.target);
+        let new_id = self.scene.next_id();
+        let added = if_changed(u64::from(next_id), u64::from(new_id), Some(next_id));
+        self.scene.known();
+        self.scene.tell(&mut self.hasher, Some(id), target, added);
+        self.scene.tell_ore(&mut self.hasher, aim.cell);
+    }
+}
