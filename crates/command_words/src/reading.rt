@@ -6,7 +6,7 @@ ghost use Rattle.clap.specs.Matches.{found_of};
 ghost use Rattle.clap.specs.Simple.{subcommand_of, subcommand_rows_of};
 ghost use Rattle.command_words.specs.Commands.{lockstep_app};
 ghost use Rattle.command_words.specs.RequestPlain.{plain_of, plain_drill, plain_route, HasFewFiles};
-ghost use Rattle.command_words.specs.Reading.{is_accepted, is_allowed, command_request, all_names};
+ghost use Rattle.command_words.specs.Reading.{is_accepted, is_allowed, command_request};
 ghost use Rattle.command_words.specs.Reading.{found_request, request_of, names_in, number_in};
 ghost use Rattle.command_words.specs.Reading.{cell_in, drill_in, route_in};
 
@@ -184,21 +184,12 @@ fn names_in<'a>(
     ensures refused { result ≡ Err WordsFault.Refused →
         names_in least (rows_of (found_of found.now)) ≡ None }
 {
-    let names = all_names(found);
-    if is_allowed(least, names.len()) {
-        Ok(FileNames::from_vec(names.to_vec(alloc)?))
-    } else {
-        Err(WordsFault::Refused)
-    }
-}
-
-/// All positional arguments; there are none where no use of them was found.
-fn all_names<'b, 'a>(found: &'b ArgMatches<'a>) -> &'b [&'a str]
-    ensures { map (λ name. name.now) result.now ≡ all_names (rows_of (found_of found.now)) }
-{
     match used_names(found) {
-        Some(names) => names,
-        None => &[],
+        Some(names) if is_allowed(least, names.len()) => {
+            Ok(FileNames::from_vec(names.to_vec(alloc)?))
+        }
+        None if is_allowed(least, 0) => Ok(FileNames::from_vec(Vec::new(alloc))),
+        _ => Err(WordsFault::Refused),
     }
 }
 
