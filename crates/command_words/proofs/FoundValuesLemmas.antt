@@ -1,5 +1,6 @@
 -- Where words are accepted, an argument that has to be there has a value, which passed its parser.
 use Rattle.std.proofs.Common.{◌≡◌, ◌<◌, ◌∙◌, ◌&&◌, ◌||◌, ap, sym, subst, ℕ, Bool, true, false, not, cond, List, [], ◌∷◌, ◌++◌, length, Option, Some, None, is_some, refl, arith, zero, suc}
+use Rattle.std.proofs.lemmas.Bool.{ne_eqb}
 use Rattle.std.proofs.lemmas.Slice.Eq.{bytes_eq-Decides}
 use Rattle.std.specs.Prelude.{nat_lt, find, fold, drop, encode_utf8, slice_get, option_and_then}
 use Rattle.std.specs.Option.{option_map_or}
@@ -73,10 +74,10 @@ more_pass None xs ys left right = refl
 more_pass (Some a) xs ys left right = all_pass a xs ys left right
 
 -- Values of the argument of this id, which are read as its parser says.
-record AreRead (c : List Rule) (id : Text) (how : Reading) (values : List Text) : Type 0 where
+record AreRead (c : List Rule) (id : Text) (reading : Reading) (values : List Text) : Type 0 where
   some : 0 < length values
   passes : passes_at c id values ≡ true
-  how : how ≡ reading_at c id
+  how : reading ≡ reading_at c id
 
 with_full : (c : List Rule) (id : Text) (how : Reading) (source : ValueSource) (values : List Text) (rows : List Row)
     → AreRead c id how values → Full c rows → Full c (with_values id how source values rows)
@@ -337,8 +338,10 @@ default_full c rows a want full quiet = go (has_row a.id rows) a.defaults quiet
     go true values none = full
     go false [] none = full
     go false (v ∷ vs) none =
+        let some : is_empty (v ∷ vs) ≡ false = ne_eqb (length (v ∷ vs)) 0 (λ e. omega (arith, e)) in
+        let passes : given_default_fault a (v ∷ vs) ≡ [] = subst (λ (b : Bool). cond (false || b) [] (given_default_fault a (v ∷ vs)) ≡ []) some none in
         with_full c a.id (reading_by a) DefaultValue (v ∷ vs) rows
-        (read_values c a v vs want (second_none (request_kinds (action_of a)) (values_fault a (v ∷ vs)) none)) full
+        (read_values c a v vs want (second_none (request_kinds (action_of a)) (values_fault a (v ∷ vs)) passes)) full
 
 pub defaults_full : (c : List Rule) (rows : List Row) (rules : List Rule) → AllWant c rules → Full c rows → defaults_fault rows rules ≡ [] → Full c (fold with_default rows rules)
 unfolding defaults_fault
@@ -368,7 +371,7 @@ row_there c id row rows same read = go row.values refl
 
     go : (values : List Text) → row.values ≡ values → HasRow c id (row ∷ rows)
     go [] none =
-        let some : 0 < length (the (List Text) []) = subst (λ (values : List Text). 0 < length values) none read.some in
+        let some : 0 < 0 = subst (λ (values : List Text). 0 < length values) none read.some in
         absurd (omega arith)
     go (v ∷ vs) are = record {
       row = row;
@@ -381,7 +384,15 @@ row_there c id row rows same read = go row.values refl
     }
 
 row_later : (c : List Rule) (id : Text) (row : Row) (rows : List Row) → bytes_eq row.id id ≡ false → HasRow c id rows → HasRow c id (row ∷ rows)
-row_later c id row rows other later = record later { found = rw other later.found }
+row_later c id row rows other later = record {
+  row = later.row;
+  found = rw other later.found;
+  first = later.first;
+  rest = later.rest;
+  values = later.values;
+  passes = later.passes;
+  how = later.how;
+}
 
 pub given_row : (c : List Rule) (id : Text) (rows : List Row) → Full c rows → is_given id rows ≡ true → HasRow c id rows
 given_row c id [] full given = cc

@@ -35,10 +35,10 @@ number_read E G parses text read reads = go (is_unsigned_in 0 4294967295 text) r
         cc
     go false is None reads = refl
 
-reads_number : (text : Text) → ReadsOne {ℕ} {⊤} (ParsesUnsigned 32 10) text (number_of text)
+reads_number : (text : Text) → ReadsOne {T = ℕ} {E = ⊤} (ParsesUnsigned 32 10) text (number_of text)
 reads_number text = go (is_unsigned_in 0 4294967295 text) refl
   where
-    go : (b : Bool) → is_unsigned_in 0 4294967295 text ≡ b → ReadsOne {ℕ} {⊤} (ParsesUnsigned 32 10) text (cond b (Some (digits_value 10 (without_leading_plus text))) None)
+    go : (b : Bool) → is_unsigned_in 0 4294967295 text ≡ b → ReadsOne {T = ℕ} {E = ⊤} (ParsesUnsigned 32 10) text (cond b (Some (digits_value 10 (without_leading_plus text))) None)
     go true is = (fits_where text is, refl)
     go false is = (tt, λ fits. let met = where_fits text fits in cc)
 
