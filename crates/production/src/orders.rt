@@ -3,11 +3,9 @@ ghost use Rattle.std.specs.Bool.{OnTrue};
 ghost use Rattle.std.specs.Option.{option_copied};
 ghost use Rattle.game_model.specs.World.{actor_of};
 ghost use Rattle.game_tick.specs.Harvesting.{paid_to};
-ghost use Rattle.game_tick.specs.Kinds.{kind_of};
-ghost use Rattle.game_tick.specs.Orders.{own_of, with_cancel, with_produce};
-ghost use Rattle.game_tick.specs.Orders.{produce_fits};
+ghost use Rattle.game_tick.specs.Orders.{own_of, with_cancel, with_produce, produce_fits};
 ghost use Rattle.rule_traits.specs.Rules.{cost_of};
-ghost use Rattle.game_model.specs.ValidWorld.{duration_in};
+ghost use Rattle.game_model.specs.Kinds.{kind_of, duration_in};
 ghost use Rattle.production.specs.Orders.{IsDone};
 
 use crate::give::give_builds;
