@@ -11,11 +11,11 @@ use Rattle.game_model.specs.ActorChanges.{changed_at}
 use Rattle.game_model.specs.Grid.{Grid}
 use Rattle.game_model.specs.Setup.{Setup}
 use Rattle.game_model.specs.World.{actor_of, living_of, is_alive}
+use Rattle.game_model.specs.Kinds.{kind_of, range_in}
 use Rattle.game_tick.specs.Acts.{popped}
 use Rattle.game_tick.specs.Attacking.{after_attack, hit_by, points_of, reloading}
-use Rattle.game_tick.specs.Kinds.{kind_of, range_in}
+use Rattle.game_tick.specs.FoundLemmas.{IdsRise, found_id}
 use Rattle.actor_table.specs.Table.{Table}
-use Rattle.motion.specs.ChangeLemmas.{IdsRise, found_id}
 use Rattle.motion.specs.Steps.{gone_by_id}
 use Rattle.combat.specs.Attacks.{IsFought}
 

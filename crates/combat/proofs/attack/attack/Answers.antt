@@ -1,7 +1,9 @@
 use Rattle.std.proofs.Common.{◌≡◌, Some, sym, ◌∙◌}
 use Rattle.game_model.specs.Grid.{IsOn}
-use Rattle.motion.specs.ChangeLemmas.{found_id, found_on}
-use Rattle.motion.specs.Ground.{setup_in, built_in}
+use Rattle.game_model.specs.Setup.{setup_in}
+use Rattle.game_tick.specs.FoundLemmas.{found_id}
+use Rattle.motion.specs.ChangeLemmas.{found_on}
+use Rattle.motion.specs.Ground.{built_in}
 use Rattle.combat.proofs.AttackCases.{attack_ends, attack_fires, attack_waits, attack_goes, attack_stays}
 use Rattle.combat.proofs.attack.attack.Goals as goal
 
