@@ -1,6 +1,6 @@
 ghost use Rattle.std.specs.Prelude.{◌≡◌, is_some};
 ghost use Rattle.std.specs.Option.{option_copied};
-ghost use Rattle.game_tick.specs.Kinds.{kind_of};
+ghost use Rattle.game_model.specs.Kinds.{kind_of};
 ghost use Rattle.game_tick.specs.Harvesting.{is_refinery_for, nearest_refinery};
 ghost use Rattle.harvest.specs.Refineries.{better_of};
 
