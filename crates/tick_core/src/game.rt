@@ -1,8 +1,8 @@
 ghost use Rattle.std.specs.Prelude.{◌≡◌, ◌+◌, ◌≤◌, ◌<◌, length, IfOk};
-ghost use Rattle.game_model.specs.Keeps.{TickKeeps};
 ghost use Rattle.game_model.specs.ValidMap.{IsSetup};
 ghost use Rattle.game_model.specs.World.{HasClients};
 ghost use Rattle.frame_core.specs.declared.sim.TheConstants.{MAX_STEPS};
+ghost use Rattle.game_tick.specs.Keeps.{TickKeeps};
 ghost use Rattle.tick_core.specs.Game.{game_start, game_after, game_clients, game_steps};
 
 use crate::live::LiveWorld;
