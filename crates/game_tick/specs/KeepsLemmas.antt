@@ -103,7 +103,7 @@ either_keeps :
 either_keeps true w v keeps = keeps refl
 either_keeps false w v keeps = same_world w
 
--- A donation that fits only moves cash, and a pace changes none.
+-- A donation that fits only moves cash.
 donation_keeps :
     (w : World) (client to amount : ℕ) → donation_fits w client to amount ≡ true →
     OrdersKeep w (after_donation w client to amount)
@@ -129,7 +129,8 @@ order_keeps setup w client (Donate to amount) =
     either_keeps (donation_fits w client to amount) w (after_donation w client to amount)
     (donation_keeps w client to amount)
 order_keeps setup w client (Pace ticks) =
-    either_keeps (pace_fits client ticks) w (record w { pace = ticks }) (λ fits. same_world w)
+    either_keeps (pace_fits client ticks) w (record w { pace = ticks })
+    (λ fits. record { seed = refl; cash = same_cash w.cash; gone = refl })
 
 -- What a turn keeps, and that it makes no ore.
 pub turn_keeps : (setup : Setup) (w : World) → OrdersKeep w (after_turn setup w)
