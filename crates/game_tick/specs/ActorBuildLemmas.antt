@@ -1,6 +1,6 @@
 -- Proofs of what the build step makes of each actor.
 use Rattle.std.specs.Prelude.{◌≡◌, ℕ, ◌-◌, ◌<◌, ◌==◌, ◌&&◌, Bool, true, false, if◌then◌else◌, List}
-use Rattle.std.specs.Prelude.{[], ◌∷◌, ◌++◌, length, map, get_or, Option, Some, None, is_some, refl}
+use Rattle.std.specs.Prelude.{[], ◌∷◌, ◌++◌, length, get_or, Option, Some, None, is_some, refl}
 use Rattle.std.specs.List.{All}
 use Rattle.std.proofs.Common.{sym, ◌∙◌, ap, subst, arith}
 use Rattle.std.proofs.lemmas.Bool.{and_parts}
@@ -23,7 +23,7 @@ use Rattle.game_tick.specs.Building.{Built, after_build, built_first, came_out, 
 use Rattle.game_tick.specs.Building.{has_room, with_builds}
 use Rattle.game_tick.specs.StepKeeps.{ActorKeeps, ActorsKeep}
 use Rattle.game_tick.specs.ActorKeepsLemmas.{own_keeps, AllKeep, actor_then, same_actor, same_list}
-use Rattle.game_tick.specs.ChangesLemmas.{IsOnly, changed}
+use Rattle.game_tick.specs.ChangesLemmas.{IsOnly}
 use Rattle.game_tick.specs.SoundLemmas.{some_holds}
 
 -- All stay at their places, and then one more comes after them.

@@ -1,6 +1,6 @@
 -- Proofs of what the step of a harvester makes of each actor.
 use Rattle.std.specs.Prelude.{ℕ, ◌+◌, ◌-◌, ◌==◌, nat_le, nat_lt, not, Bool, true, false}
-use Rattle.std.specs.Prelude.{if◌then◌else◌, List, map, Option, Some, None, refl}
+use Rattle.std.specs.Prelude.{if◌then◌else◌, List, Option, Some, None, refl}
 use Rattle.world_units.specs.declared.cell.CPos.{CPos}
 use Rattle.world_units.specs.Cells.{same_cell}
 use Rattle.activities.specs.declared.activity.Activity.{Activity}

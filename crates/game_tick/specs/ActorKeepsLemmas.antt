@@ -1,5 +1,5 @@
 -- Proofs of what the step of an actor makes of each actor, where it changes but one.
-use Rattle.std.specs.Prelude.{◌≡◌, ℕ, ◌<◌, false, List, length, map, get_or, refl}
+use Rattle.std.specs.Prelude.{◌≡◌, ℕ, ◌<◌, false, List, length, get_or, refl}
 use Rattle.std.proofs.Common.{sym, ◌∙◌, ap, subst, inl, inr, arith}
 use Rattle.activities.specs.declared.activity.Activity.{Activity}
 use Rattle.rule_traits.specs.declared.kind.Kind.{Kind}

@@ -8,7 +8,7 @@ use Rattle.world_units.specs.Cells.{same_cell}
 use Rattle.activities.specs.declared.activity.Activity.{Activity}
 use Rattle.activities.specs.declared.activity.Activity.TheVariants.{Harvest, Deliver}
 use Rattle.rule_traits.specs.declared.kind.Kind.{Kind}
-use Rattle.rule_traits.specs.Rules.{moves, builds}
+use Rattle.rule_traits.specs.Rules.{moves}
 use Rattle.game_model.specs.declared.actor.Actor.{Actor}
 use Rattle.game_model.specs.ActorChanges.{changed_at}
 use Rattle.game_model.specs.Grid.{Grid, HasSize, with_cell}

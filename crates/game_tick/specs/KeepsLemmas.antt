@@ -7,7 +7,7 @@ use Rattle.game_orders.specs.declared.order.Order.TheVariants.{Move, Attack, Har
 use Rattle.game_orders.specs.declared.order.Order.TheVariants.{Cancel, Donate, Pace}
 use Rattle.game_orders.specs.declared.entry.Entry.{Entry}
 use Rattle.game_orders.specs.declared.entry.Entry.TheVariants.{Play, Leave}
-use Rattle.rule_traits.specs.Rules.{cost_of, builds}
+use Rattle.rule_traits.specs.Rules.{cost_of}
 use Rattle.game_model.specs.declared.actor.Actor.{Actor}
 use Rattle.game_model.specs.declared.builds.Build.{Build}
 use Rattle.game_model.specs.declared.world.World.{World}

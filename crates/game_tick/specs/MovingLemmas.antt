@@ -13,7 +13,7 @@ use Rattle.world_units.specs.Turning.{left_of, right_of, turn_of}
 use Rattle.activities.specs.declared.activity.Activity.{Activity}
 use Rattle.activities.specs.declared.activity.Activity.TheVariants.{Move}
 use Rattle.rule_traits.specs.declared.kind.Kind.{Kind}
-use Rattle.rule_traits.specs.Rules.{moves, builds}
+use Rattle.rule_traits.specs.Rules.{moves}
 use Rattle.game_model.specs.declared.actor.Actor.{Actor}
 use Rattle.game_model.specs.declared.actor.Body.{Body}
 use Rattle.game_model.specs.declared.actor.Leg.{Leg}

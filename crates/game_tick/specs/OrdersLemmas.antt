@@ -1,7 +1,7 @@
 -- Proofs that orders keep a world valid.
 use Rattle.std.specs.Prelude.{◌≡◌, ℕ, ◌==◌, ◌≤◌, ◌&&◌, nat_lt, nat_le, Bool, true, false}
 use Rattle.std.specs.Prelude.{if◌then◌else◌, List, [], ◌∷◌, ◌++◌, length, Option, Some, None}
-use Rattle.std.specs.Prelude.{is_some, refl, map}
+use Rattle.std.specs.Prelude.{is_some, refl}
 use Rattle.std.specs.List.{All}
 use Rattle.std.proofs.Common.{inl, arith}
 use Rattle.std.proofs.lemmas.Bool.{and_parts, ltb-true, leb-true}

@@ -7,7 +7,7 @@ use Rattle.std.proofs.lemmas.Bool.{eqb-true, and_parts}
 use Rattle.game_orders.specs.declared.order.Order.{Order}
 use Rattle.game_orders.specs.declared.order.Order.TheVariants.{Move, Attack, Harvest, Stop, Produce}
 use Rattle.game_orders.specs.declared.order.Order.TheVariants.{Cancel, Donate, Pace}
-use Rattle.rule_traits.specs.Rules.{cost_of, builds}
+use Rattle.rule_traits.specs.Rules.{cost_of}
 use Rattle.game_model.specs.declared.actor.Actor.{Actor}
 use Rattle.game_model.specs.declared.builds.Build.{Build}
 use Rattle.game_model.specs.declared.world.World.{World}

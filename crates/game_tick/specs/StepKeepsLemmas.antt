@@ -1,13 +1,13 @@
 -- Proofs of what the steps of actors keep, whatever world they are of.
 use Rattle.std.specs.Prelude.{◌≡◌, ℕ, ◌+◌, ◌-◌, ◌≤◌, ◌==◌, ◌&&◌, Bool, true, false, if◌then◌else◌}
-use Rattle.std.specs.Prelude.{List, [], ◌∷◌, length, Option, Some, None, refl, map}
+use Rattle.std.specs.Prelude.{List, [], ◌∷◌, length, Option, Some, None, refl}
 use Rattle.std.proofs.Common.{◌∙◌, subst, arith}
 use Rattle.twister.specs.Place.{Place, after_word}
 use Rattle.world_units.specs.declared.cell.CPos.{CPos}
 use Rattle.activities.specs.declared.activity.Activity.{Activity}
 use Rattle.activities.specs.declared.activity.Activity.TheVariants.{Move, Attack, Harvest, Deliver}
 use Rattle.rule_traits.specs.declared.kind.Kind.{Kind}
-use Rattle.rule_traits.specs.Rules.{moves, builds}
+use Rattle.rule_traits.specs.Rules.{moves}
 use Rattle.game_model.specs.declared.actor.Actor.{Actor}
 use Rattle.game_model.specs.declared.actor.Leg.{Leg}
 use Rattle.game_model.specs.declared.builds.Build.{Build}
@@ -28,7 +28,7 @@ use Rattle.game_tick.specs.Moving.{after_leg, after_move, gone_towards}
 use Rattle.game_tick.specs.StepKeeps.{HasNoMoreOre, StepKeeps}
 use Rattle.game_tick.specs.Turn.{after_activity, after_first, after_step, after_steps, after_turn}
 use Rattle.game_tick.specs.Turn.{after_way, blocks_of, dice_of, harvest_of, step_if, with_build}
-use Rattle.game_tick.specs.Turn.{with_fought, with_harvested, with_reload, with_way, reloaded}
+use Rattle.game_tick.specs.Turn.{with_fought, with_harvested, with_reload, with_way}
 use Rattle.game_tick.specs.CashLemmas.{same_cash, then_cash}
 use Rattle.game_tick.specs.HarvestKeepsLemmas.{harvest_keeps, deliver_keeps, HarvestKeeps}
 use Rattle.game_tick.specs.OreLemmas.{same_ore}
