@@ -4,3 +4,4 @@ pub mod Places
 pub mod Search
 pub mod Table
 pub mod Kinds
+pub mod LivingLemmas

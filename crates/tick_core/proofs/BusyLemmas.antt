@@ -39,7 +39,8 @@ use Rattle.tick_core.specs.Live.{Standing}
 use Rattle.tick_core.specs.Scene.{IsActing, prepared, prepared_if}
 use Rattle.tick_core.specs.Telling.{IsIdleNow, cell_in, cell_of, target_of, told_ore, with_some}
 use Rattle.tick_core.specs.Touched.{GrowsBut, KeptBut, SameBut, is_among}
-use Rattle.tick_core.proofs.LifeLemmas.{by_if, living_actor}
+use Rattle.actor_table.specs.LivingLemmas.{living_actor}
+use Rattle.tick_core.proofs.ChoiceLemmas.{by_if}
 use Rattle.tick_core.proofs.SceneLemmas.{with_list}
 use Rattle.tick_core.proofs.StepLemmas.{prepared_same, step_is, way_same}
 use Rattle.tick_core.proofs.TickLemmas.{drop_at, drop_past, the_standing}

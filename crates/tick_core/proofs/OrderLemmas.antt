@@ -35,7 +35,7 @@ use Rattle.tick_core.specs.Ordered.{IsChange, IsReady, KeepsShape, subject_of}
 use Rattle.tick_core.specs.Scene.{IsScene}
 use Rattle.tick_core.specs.Touched.{KeptBut, SameBut, is_among}
 use Rattle.tick_core.specs.Telling.{with_some}
-use Rattle.tick_core.proofs.LifeLemmas.{by_if}
+use Rattle.tick_core.proofs.ChoiceLemmas.{by_if}
 use Rattle.tick_core.proofs.SceneLemmas.{same_size, scene_with}
 use Rattle.tick_core.proofs.TouchedLemmas.{kept_from, same_all, same_changed, same_grows}
 

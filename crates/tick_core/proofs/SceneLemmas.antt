@@ -39,7 +39,8 @@ use Rattle.motion.specs.Ground.{FitsMap, HasDirection}
 use Rattle.motion.specs.Steps.{after_move_by_id}
 use Rattle.production.specs.Steps.{built_by_id}
 use Rattle.tick_core.specs.Scene.{DoesFirst, IsActing, IsGathering, IsScene}
-use Rattle.tick_core.proofs.LifeLemmas.{by_if, living_actor}
+use Rattle.actor_table.specs.LivingLemmas.{living_actor}
+use Rattle.tick_core.proofs.ChoiceLemmas.{by_if}
 
 -- A world in mid-turn acts.
 pub tight :

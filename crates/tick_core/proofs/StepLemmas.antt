@@ -39,7 +39,7 @@ use Rattle.game_tick.specs.Turn.{after_activity, after_first, after_step, after_
 use Rattle.tick_core.specs.Scene.{prepared, prepared_if}
 use Rattle.tick_core.specs.Telling.{target_in, target_of}
 use Rattle.tick_core.specs.Touched.{GrowsBut, SameBut, is_among}
-use Rattle.tick_core.proofs.LifeLemmas.{by_if}
+use Rattle.tick_core.proofs.ChoiceLemmas.{by_if}
 use Rattle.tick_core.proofs.TouchedLemmas.{same_all, same_changed, same_grows, same_pushed, same_then, same_then_grows}
 
 module _ (ids : List ℕ) (actors : List Actor) (a : Actor) (among : is_among ids a.id ≡ true) where

@@ -11,7 +11,6 @@ ghost use Rattle.game_tick.specs.Orders.{after_order, attacking, changed_if, har
 ghost use Rattle.rule_traits.specs.Rules.{moves};
 ghost use Rattle.tick_core.specs.Ordered.{IsReady};
 
-use crate::living::living;
 use crate::scene::Scene;
 use activities::{Activity, Queue};
 use actor_table::ActorTable;
@@ -103,7 +102,7 @@ fn has_health(rules: &Rules, kind: u16) -> bool
 fn is_target(t: &ActorTable, rules: &Rules, a: &Actor, target: u32) -> bool
     ensures { result ≡ is_target rules.now a.now (living_of t.now.actors target) }
 {
-    match living(t, target) {
+    match t.living(target) {
         Some(other) => other.id != a.id && has_health(rules, other.kind),
         None => false,
     }

@@ -1,13 +1,11 @@
 -- The living actor of an id among actors whose ids rise.
-use Rattle.std.proofs.Common.{◌≡◌, ◌≢◌, ℕ, suc, ◌<◌, eqb, Bool, true, false, cond, List, [], ◌∷◌, length, get_or, Option, Some, None, inl, inr, refl, sym, subst, ◌∙◌, arith}
-use Rattle.std.specs.Prelude.{if◌then◌else◌}
+use Rattle.std.proofs.Common.{◌≡◌, ◌≢◌, ℕ, zero, suc, ◌<◌, eqb, Bool, true, false, cond, List, [], ◌∷◌, length, get_or, Option, Some, None, inl, inr, refl, sym, subst, ◌∙◌, arith}
 use Rattle.std.specs.List.{AllPairs}
-use Rattle.std.proofs.lemmas.Bool.{cond_both}
 use Rattle.std.proofs.lemmas.Bool.Decides.{eqb_tells}
 use Rattle.game_model.specs.declared.actor.Actor.{Actor}
 use Rattle.game_model.specs.World.{actor_of, is_alive, living_of}
 
-abbrev Rise : List Actor → Type 0
+abbrev pub Rise : List Actor → Type 0
 Rise actors = AllPairs (λ (a b : Actor). a.id < b.id) actors
 
 living_absent : (actors : List Actor) (id : ℕ) → ((i : ℕ) (d : Actor) → i < length actors → (get_or actors i d).id ≢ id) → living_of actors id ≡ None
@@ -42,6 +40,20 @@ living_none (b ∷ actors) id none = elim (eqb_tells b.id id) [
   | inr miss ↦ rw miss.0 (living_none actors id (rw miss.0 at none))
 ]
 
+-- The actor at a place is the one of its id.
+pub found_at : (actors : List Actor) (i : ℕ) (d : Actor) → Rise actors → i < length actors → actor_of actors (get_or actors i d).id ≡ Some (get_or actors i d)
+found_at [] i d rise within = absurd (omega arith)
+found_at (b ∷ actors) zero d rise within = elim (eqb_tells b.id b.id) [
+  | inl hit ↦ rw hit.0 refl
+  | inr miss ↦ absurd (miss.1 refl)
+]
+found_at (b ∷ actors) (suc i) d rise within =
+    let above : b.id < (get_or actors i d).id = rise 0 (suc i) d (omega arith) within in
+    elim (eqb_tells b.id (get_or actors i d).id) [
+      | inl hit ↦ absurd (omega (arith, hit.1))
+      | inr miss ↦ rw miss.0 (found_at actors i d (λ i j d lt within. rise (suc i) (suc j) d (omega arith) (omega arith)) (omega arith))
+    ]
+
 -- The living actor of an id is the actor of the id.
 living_by :
     (actors : List Actor) (id : ℕ) (a : Actor) (found : Option Actor) → Rise actors →
@@ -58,7 +70,3 @@ pub living_actor :
     (actors : List Actor) (id : ℕ) (a : Actor) → Rise actors → living_of actors id ≡ Some a →
     actor_of actors id ≡ Some a
 living_actor actors id a rise lives = living_by actors id a (actor_of actors id) rise refl lives
-
--- What holds of both choices holds of the one that is taken.
-pub by_if : {R : Type 0} (P : R → Type 0) (b : Bool) (x y : R) → P x → P y → P (if b then x else y)
-by_if P b x y left right = cond_both b x y P (λ e. left) (λ e. right)
