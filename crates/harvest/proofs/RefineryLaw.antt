@@ -25,22 +25,37 @@ bool_tells false = inr refl
 abbrev Before : (m n i j : ℕ) → Type 0
 Before m n i j = (m < n) ⊎ ((m ≡ n) × (i ≤ j))
 
+less_if : (m n : ℕ) → ltb m n ≡ true → m < n
+less_if m n met = grind (arith, nat_tests)
+
+least_if : (m n : ℕ) → ltb m n ≡ false → n ≤ m
+least_if m n fails = grind (arith, nat_tests)
+
 before_yes : (m n i j : ℕ) → (ltb m n || (eqb m n && ltb i j)) ≡ true → Before m n i j
 before_yes m n i j met = elim (bool_tells (ltb m n)) [
-  | inl lt ↦ inl (grind (arith, nat_tests))
-  | inr ge ↦ inr (grind (arith, nat_tests), grind (arith, nat_tests))
+  | inl lt ↦ inl (less_if m n lt)
+  | inr ge ↦ inr (both (rw ge at met))
 ]
+  where
+    both : (eqb m n && ltb i j) ≡ true → (m ≡ n) × (i ≤ j)
+    both met = (grind (arith, nat_tests), grind (arith, nat_tests))
 
 before_no : (m n i j : ℕ) → (ltb m n || (eqb m n && ltb i j)) ≡ false → Before n m j i
-before_no m n i j fails = elim (eqb_tells m n) [
-  | inl same ↦ inr (sym same.1, grind (arith, nat_tests))
-  | inr other ↦ inl (grind (arith, nat_tests))
+before_no m n i j fails = elim (bool_tells (ltb m n)) [
+  | inl lt ↦ absurd (clash (rw lt at fails))
+  | inr ge ↦ elim (eqb_tells m n) [
+    | inl same ↦ inr (sym same.1, least_if i j (rw (ge, same.0) at fails))
+    | inr other ↦ inl (omega (arith, least_if m n ge, other.1))
+  ]
 ]
+  where
+    clash : true ≡ false → ⊥
+    clash no' = absurd (cc)
 
 before_by : (m n i j : ℕ) → ltb n m ≡ false → i ≤ j → Before m n i j
 before_by m n i j fails le = elim (eqb_tells m n) [
   | inl same ↦ inr (same.1, le)
-  | inr other ↦ inl (grind (arith, nat_tests))
+  | inr other ↦ inl (omega (arith, least_if n m fails, other.1))
 ]
 
 before_next : (m n o i j k : ℕ) → Before m n i j → Before n o j k → Before m o i k
@@ -60,6 +75,15 @@ as_near_next from x y z first second = before_next (dist_sq_of from x.cell) (dis
 
 as_near_self : (from : CPos) (x : Actor) → IsAsNear from x x
 as_near_self from x = inr (refl, omega arith)
+
+same_some : (x y : Actor) → Some x ≡ Some y → x ≡ y
+same_some x y some = cc
+
+clash : {A : Type 0} {b : Bool} → b ≡ false → b ≡ true → A
+clash fails met = absurd (cc)
+
+nothing : (id : ℕ) (x : Actor) → actor_of [] id ≡ Some x → ⊥
+nothing id x found = absurd (cc)
 
 -- two sets with the same actors
 nearest_same : (from : CPos) (S T : Actor → Type 0) (o : Option Actor) → ((x : Actor) → S x → T x) → ((x : Actor) → T x → S x) → IsNearest from S o → IsNearest from T o
@@ -82,7 +106,7 @@ better_nearest a S best None nearest =
   where
     back : (x : Actor) → S x ⊎ ((None ≡ Some x) × (is_other a x ≡ true)) → S x
     back x (inl in_s) = in_s
-    back x (inr is) = let none = is.0 in absurd (cc)
+    back x (inr is) = let none : None ≡ Some x = is.0 in absurd (cc)
 better_nearest a S best (Some other) nearest = elim (bool_tells (is_other a other)) [
   | inl met ↦ rw met (joined best nearest met)
   | inr fails ↦ rw fails (nearest_same a.cell S (λ x. S x ⊎ ((Some other ≡ Some x) × (is_other a x ≡ true))) best (λ x in_s. inl in_s) (λ x in_one. back fails x in_one) nearest)
@@ -90,26 +114,26 @@ better_nearest a S best (Some other) nearest = elim (bool_tells (is_other a othe
   where
     back : is_other a other ≡ false → (x : Actor) → S x ⊎ ((Some other ≡ Some x) × (is_other a x ≡ true)) → S x
     back fails x (inl in_s) = in_s
-    back fails x (inr is) = let some = is.0 in let same : other ≡ x = cc in let lives = is.1 in let dead : is_other a x ≡ false = subst (λ (y : Actor). is_other a y ≡ false) same fails in absurd (cc)
+    back fails x (inr is) = clash (subst (λ (y : Actor). is_other a y ≡ false) (same_some other x is.0) fails) is.1
 
     joined : (first : Option Actor) → IsNearest a.cell S first → is_other a other ≡ true → IsNearest a.cell (λ x. S x ⊎ ((Some other ≡ Some x) × (is_other a x ≡ true))) (nearer_of a.cell first other)
     joined None none met = (inr (refl, met), λ y in_one. alone y in_one)
       where
         alone : (y : Actor) → S y ⊎ ((Some other ≡ Some y) × (is_other a y ≡ true)) → IsAsNear a.cell other y
         alone y (inl in_s) = absurd (none y in_s)
-        alone y (inr is) = let some = is.0 in let same : other ≡ y = cc in subst (IsAsNear a.cell other) same (as_near_self a.cell other)
+        alone y (inr is) = subst (IsAsNear a.cell other) (same_some other y is.0) (as_near_self a.cell other)
     joined (Some first) held met = elim (bool_tells (is_nearer a.cell other first)) [
-      | inl nearer ↦ rw nearer (inr (refl, met), λ y in_one. taken (before_yes _ _ _ _ nearer) y in_one)
-      | inr farther ↦ rw farther (inl held.0, λ y in_one. kept (before_no _ _ _ _ farther) y in_one)
+      | inl nearer ↦ rw nearer (inr (refl, met), λ y in_one. taken (before_yes (dist_sq_of a.cell other.cell) (dist_sq_of a.cell first.cell) other.id first.id nearer) y in_one)
+      | inr farther ↦ rw farther (inl held.0, λ y in_one. kept (before_no (dist_sq_of a.cell other.cell) (dist_sq_of a.cell first.cell) other.id first.id farther) y in_one)
     ]
       where
         taken : IsAsNear a.cell other first → (y : Actor) → S y ⊎ ((Some other ≡ Some y) × (is_other a y ≡ true)) → IsAsNear a.cell other y
         taken near y (inl in_s) = as_near_next a.cell other first y near (held.1 y in_s)
-        taken near y (inr is) = let some = is.0 in let same : other ≡ y = cc in subst (IsAsNear a.cell other) same (as_near_self a.cell other)
+        taken near y (inr is) = subst (IsAsNear a.cell other) (same_some other y is.0) (as_near_self a.cell other)
 
         kept : IsAsNear a.cell first other → (y : Actor) → S y ⊎ ((Some other ≡ Some y) × (is_other a y ≡ true)) → IsAsNear a.cell first y
         kept near y (inl in_s) = held.1 y in_s
-        kept near y (inr is) = let some = is.0 in let same : other ≡ y = cc in subst (IsAsNear a.cell first) same near
+        kept near y (inr is) = subst (IsAsNear a.cell first) (same_some other y is.0) near
 
 -- the actors that these entries name
 abbrev pub Named : List Actor → List Listed → Actor → Type 0
@@ -124,7 +148,7 @@ best_nearest actors a [] S best nearest =
     back x (inl in_s) = in_s
     back x (inr is) = absurd is.0
 best_nearest actors a (e ∷ entries) S best nearest =
-    nearest_same a.cell _ (λ x. S x ⊎ (Named actors (e ∷ entries) x × (is_other a x ≡ true))) (best_of actors a best (e ∷ entries)) to back
+    nearest_same a.cell (λ x. (S x ⊎ ((actor_of actors e.id ≡ Some x) × (is_other a x ≡ true))) ⊎ (Named actors entries x × (is_other a x ≡ true))) (λ x. S x ⊎ (Named actors (e ∷ entries) x × (is_other a x ≡ true))) (best_of actors a best (e ∷ entries)) to back
     (best_nearest actors a entries (λ x. S x ⊎ ((actor_of actors e.id ≡ Some x) × (is_other a x ≡ true))) (better_of a best (actor_of actors e.id)) (better_nearest a S best (actor_of actors e.id) nearest))
   where
     to : (x : Actor) → (S x ⊎ ((actor_of actors e.id ≡ Some x) × (is_other a x ≡ true))) ⊎ (Named actors entries x × (is_other a x ≡ true)) → S x ⊎ (Named actors (e ∷ entries) x × (is_other a x ≡ true))
@@ -149,11 +173,11 @@ named_there actors owner kind (y ∷ ys) x each named = elim (bool_tells (is_of 
 ]
   where
     one : is_of owner kind y ≡ true → (actor_of actors y.id ≡ Some x) ⊎ Named actors (listed_of ys owner kind) x → (actor_of actors x.id ≡ Some x) × (is_of owner kind x ≡ true)
-    one met (inl here) = let some : Some y ≡ Some x = sym each.0 ∙ here in let same : y ≡ x = cc in subst (λ (z : Actor). (actor_of actors z.id ≡ Some z) × (is_of owner kind z ≡ true)) same (each.0, met)
+    one met (inl here) = subst (λ (z : Actor). (actor_of actors z.id ≡ Some z) × (is_of owner kind z ≡ true)) (same_some y x (sym each.0 ∙ here)) (each.0, met)
     one met (inr later) = named_there actors owner kind ys x each.1 later
 
 is_first : (y : Actor) (ys : List Actor) (id : ℕ) (x : Actor) → eqb y.id id ≡ true → actor_of (y ∷ ys) id ≡ Some x → y ≡ x
-is_first y ys id x hit found = let some : Some y ≡ Some x = rw hit at found in cc
+is_first y ys id x hit found = same_some y x (rw hit at found)
 
 named_back : (actors : List Actor) (owner kind : ℕ) (ys : List Actor) (x : Actor) → actor_of actors x.id ≡ Some x → actor_of ys x.id ≡ Some x → is_of owner kind x ≡ true → Named actors (listed_of ys owner kind) x
 named_back actors owner kind [] x there found met = absurd (cc)
@@ -174,12 +198,15 @@ named_back actors owner kind (y ∷ ys) x there found met = elim (eqb_tells y.id
 some_of_kind : (owner kind : ℕ) (ys : List Actor) (x : Actor) → actor_of ys x.id ≡ Some x → is_of owner kind x ≡ true → ids_of_kind ys owner kind ≢ []
 some_of_kind owner kind [] x found met none = absurd (cc)
 some_of_kind owner kind (y ∷ ys) x found met none = elim (bool_tells (is_of owner kind y)) [
-  | inl is ↦ (let some = rw is at none in absurd (cc))
+  | inl is ↦ some_first (rw is at none)
   | inr fails ↦ elim (eqb_tells y.id x.id) [
-    | inl hit ↦ (let same = is_first y ys x.id x hit.0 found in let not' : is_of owner kind x ≡ false = subst (λ (z : Actor). is_of owner kind z ≡ false) same fails in absurd (cc))
+    | inl hit ↦ (let same = is_first y ys x.id x hit.0 found in clash (subst (λ (z : Actor). is_of owner kind z ≡ false) same fails) met)
     | inr miss ↦ some_of_kind owner kind ys x (rw miss.0 at found) met (rw fails at none)
   ]
 ]
+  where
+    some_first : y.id ∷ ids_of_kind ys owner kind ≡ [] → ⊥
+    some_first some = absurd (cc)
 
 -- what a refinery is, part by part
 parts_of : (p q r : Bool) → ((p && q) && r) ≡ true → (p ≡ true) × (q ≡ true) × (r ≡ true)
@@ -218,15 +245,15 @@ by_number : (n k bound : ℕ) (P : Type 0) → n < suc k → (n < bound → P) �
 by_number n k bound P within low mid top = elim (eqb_tells n k) [
   | inl same ↦ top same.1
   | inr other ↦ elim (bool_tells (ltb n bound)) [
-    | inl lt ↦ low (grind (arith, nat_tests))
-    | inr ge ↦ mid (grind (arith, nat_tests)) (omega (arith, within, other.1))
+    | inl lt ↦ low (less_if n bound lt)
+    | inr ge ↦ mid (least_if n bound ge) (omega (arith, within, other.1))
   ]
 ]
 
 -- after the actors of one kind more
 pub kind_turn : (rules : List Kind) (actors : List Actor) (a : Actor) (best : Option Actor) (bound kind next : ℕ) → next ≡ suc kind → Rise actors → IsNextKind actors a.body.owner bound (Some kind) → IsNearest a.cell (IsRefineryBelow rules actors a bound) best → IsNearest a.cell (IsRefineryBelow rules actors a next) (best_of_kind rules actors a kind best)
 kind_turn rules actors a best bound kind next is rise found nearest = elim (bool_tells (is_some (kind_of rules kind).refinery)) [
-  | inl takes ↦ rw takes (nearest_same a.cell _ (IsRefineryBelow rules actors a next) _ (to takes) (back takes) (best_nearest actors a (listed_of actors a.body.owner kind) (IsRefineryBelow rules actors a bound) best nearest))
+  | inl takes ↦ rw takes (nearest_same a.cell (λ x. IsRefineryBelow rules actors a bound x ⊎ (Named actors (listed_of actors a.body.owner kind) x × (is_other a x ≡ true))) (IsRefineryBelow rules actors a next) (best_of actors a best (listed_of actors a.body.owner kind)) (to takes) (back takes) (best_nearest actors a (listed_of actors a.body.owner kind) (IsRefineryBelow rules actors a bound) best nearest))
   | inr passed ↦ rw passed (nearest_same a.cell (IsRefineryBelow rules actors a bound) (IsRefineryBelow rules actors a next) best (λ x below. record { refinery = below.refinery; below = omega (arith, below.below, found.0, is) }) (stays passed) nearest)
 ]
   where
@@ -256,10 +283,7 @@ kind_turn rules actors a best bound kind next is rise found nearest = elim (bool
         by_number x.kind kind bound _ (omega (arith, below.below, is))
         (λ low. record { refinery = below.refinery; below = low })
         (λ low high. absurd (none x below.refinery.there parts.1 low high))
-        (λ same. absurd (clash (subst (λ n. is_some (kind_of rules n).refinery ≡ true) same parts.2)))
-      where
-        clash : is_some (kind_of rules kind).refinery ≡ true → ⊥
-        clash takes = cc
+        (λ same. clash passed (subst (λ n. is_some (kind_of rules n).refinery ≡ true) same parts.2))
 
 -- before the first kind
 pub none_below : (rules : List Kind) (actors : List Actor) (a : Actor) → IsNearest a.cell (IsRefineryBelow rules actors a 0) None
@@ -287,18 +311,15 @@ passed_over rules a best least b actors r low fails chosen =
 
     each : (y : Actor) → actor_of (b ∷ actors) y.id ≡ Some y → is_refinery_for rules a y ≡ true → IsAsNear a.cell r y
     each y found fits = elim (eqb_tells b.id y.id) [
-      | inl hit ↦ absurd (clash (is_first b actors y.id y hit.0 found))
+      | inl hit ↦ clash (subst (λ (z : Actor). is_refinery_for rules a z ≡ false) (is_first b actors y.id y hit.0 found) fails) fits
       | inr miss ↦ chosen.each y (rw miss.0 at found) fits
     ]
-      where
-        clash : b ≡ y → ⊥
-        clash same = let not' : is_refinery_for rules a y ≡ false = subst (λ (z : Actor). is_refinery_for rules a z ≡ false) same fails in cc
 
 taken_in : (rules : List Kind) (a best : Actor) (least : ℕ) (b : Actor) (actors : List Actor) (r : Actor) (nearer : Bool) → ltb (dist_sq_of a.cell b.cell) (dist_sq_of a.cell best.cell) ≡ nearer → least ≤ b.id → best.id < b.id → is_refinery_for rules a b ≡ true → IsChosen rules a (cond nearer b best) (b.id + 1) actors r → IsChosen rules a best least (b ∷ actors) r
 taken_in rules a best least b actors r true is low above met chosen =
     record {
       from = inr (from chosen.from);
-      first = as_near_next a.cell r b best chosen.first (inl (grind (arith, nat_tests)));
+      first = as_near_next a.cell r b best chosen.first (inl (less_if (dist_sq_of a.cell b.cell) (dist_sq_of a.cell best.cell) is));
       each = each;
     }
   where
@@ -331,7 +352,7 @@ abbrev AreFrom : ℕ → List Actor → Type 0
 AreFrom least actors = RisesFrom (λ (x : Actor). x.id) least actors
 
 fold_chosen : (rules : List Kind) (a best : Actor) (least : ℕ) (actors : List Actor) → AreFrom least actors → best.id < least → IsChosen rules a best least actors (fold (lesser_by (λ (x : Actor). dist_sq_of a.cell x.cell)) best (filter (is_refinery_for rules a) actors))
-fold_chosen rules a best least [] rises below = record { from = inl refl; first = as_near_self a.cell best; each = λ y found fits. absurd (let none = found in cc) }
+fold_chosen rules a best least [] rises below = record { from = inl refl; first = as_near_self a.cell best; each = λ y found fits. absurd (nothing y.id y found) }
 fold_chosen rules a best least (b ∷ actors) rises below = elim (bool_tells (is_refinery_for rules a b)) [
   | inl met ↦ rw met (taken_in rules a best least b actors _ (ltb (dist_sq_of a.cell b.cell) (dist_sq_of a.cell best.cell)) refl rises.0 (omega (arith, rises.0)) met
       (fold_chosen rules a (lesser_by (λ (x : Actor). dist_sq_of a.cell x.cell) best b) (b.id + 1) actors rises.1 (least_below (ltb (dist_sq_of a.cell b.cell) (dist_sq_of a.cell best.cell)))))
@@ -350,14 +371,14 @@ found_from least id (y ∷ actors) x rises found = elim (eqb_tells y.id id) [
 ]
 
 first_nearest : (rules : List Kind) (a : Actor) (least : ℕ) (actors : List Actor) → AreFrom least actors → IsNearest a.cell (IsRefinery rules actors a) (reduce (lesser_by (λ (x : Actor). dist_sq_of a.cell x.cell)) (filter (is_refinery_for rules a) actors))
-first_nearest rules a least [] rises = λ y one. (let none = one.there in absurd (cc))
+first_nearest rules a least [] rises = λ y one. nothing y.id y one.there
 first_nearest rules a least (b ∷ actors) rises = elim (bool_tells (is_refinery_for rules a b)) [
-  | inl met ↦ rw met (chosen_nearest met (fold_chosen rules a b (b.id + 1) actors rises.1 (omega arith)))
+  | inl met ↦ rw met (chosen_nearest _ met (fold_chosen rules a b (b.id + 1) actors rises.1 (omega arith)))
   | inr fails ↦ rw fails (nearest_same a.cell (IsRefinery rules actors a) (IsRefinery rules (b ∷ actors) a) _ to (back fails) (first_nearest rules a (b.id + 1) actors rises.1))
 ]
   where
-    chosen_nearest : {r : Actor} → is_refinery_for rules a b ≡ true → IsChosen rules a b (b.id + 1) actors r → IsNearest a.cell (IsRefinery rules (b ∷ actors) a) (Some r)
-    chosen_nearest {r} met chosen = (among chosen.from, λ y one. each y one)
+    chosen_nearest : (r : Actor) → is_refinery_for rules a b ≡ true → IsChosen rules a b (b.id + 1) actors r → IsNearest a.cell (IsRefinery rules (b ∷ actors) a) (Some r)
+    chosen_nearest r met chosen = (among chosen.from, λ y one. each y one)
       where
         among : (r ≡ b) ⊎ ((actor_of actors r.id ≡ Some r) × (is_refinery_for rules a r ≡ true) × (b.id + 1 ≤ r.id)) → IsRefinery rules (b ∷ actors) a r
         among (inl same) = subst (IsRefinery rules (b ∷ actors) a) (sym same) (record { there = found_here b actors; fits = met })
@@ -374,12 +395,9 @@ first_nearest rules a least (b ∷ actors) rises = elim (bool_tells (is_refinery
 
     back : is_refinery_for rules a b ≡ false → (x : Actor) → IsRefinery rules (b ∷ actors) a x → IsRefinery rules actors a x
     back fails x one = elim (eqb_tells b.id x.id) [
-      | inl hit ↦ absurd (clash (is_first b actors x.id x hit.0 one.there))
+      | inl hit ↦ clash (subst (λ (z : Actor). is_refinery_for rules a z ≡ false) (is_first b actors x.id x hit.0 one.there) fails) one.fits
       | inr miss ↦ record { there = rw miss.0 at one.there; fits = one.fits }
     ]
-      where
-        clash : b ≡ x → ⊥
-        clash same = let not' : is_refinery_for rules a x ≡ false = subst (λ (z : Actor). is_refinery_for rules a z ≡ false) same fails in let is = one.fits in cc
 
 are_from : (least : ℕ) (actors : List Actor) → Rise actors → ((i : ℕ) (d : Actor) → i < length actors → least ≤ (get_or actors i d).id) → AreFrom least actors
 are_from least [] rise low = tt
@@ -399,6 +417,6 @@ kinds_end rules actors a best bound rise ended nearest =
   where
     back : (x : Actor) → IsRefinery rules actors a x → IsRefineryBelow rules actors a bound x
     back x one = elim (bool_tells (ltb x.kind bound)) [
-      | inl lt ↦ record { refinery = one; below = grind (arith, nat_tests) }
-      | inr ge ↦ absurd (some_of_kind a.body.owner x.kind actors x one.there (refinery_parts rules a x one.fits).1 (ended x.kind (grind (arith, nat_tests))))
+      | inl lt ↦ record { refinery = one; below = less_if x.kind bound lt }
+      | inr ge ↦ absurd (some_of_kind a.body.owner x.kind actors x one.there (refinery_parts rules a x one.fits).1 (ended x.kind (least_if x.kind bound ge)))
     ]
