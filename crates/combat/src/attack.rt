@@ -9,7 +9,6 @@ ghost use Rattle.combat.specs.Attacks.{IsFought, after_first, fought_by_id};
 
 use crate::fields::{is_in_range, moves};
 use crate::shot::fire;
-use crate::target::living;
 use activities::Activity;
 use actor_table::ActorTable;
 use game_model::Ground;
@@ -41,7 +40,7 @@ fn attack(
         return;
     };
     let (kind, from, reload) = (a.kind, a.cell, a.body.reload);
-    let Some(aim) = living(t, target) else {
+    let Some(aim) = t.living(target) else {
         pop_head(t, id);
         return;
     };

@@ -13,3 +13,5 @@ pub mod ValidMap
 pub mod ValidWorld
 pub mod Buildings
 pub mod StartLemmas
+pub mod FoundLemmas
+pub mod LivingLemmas

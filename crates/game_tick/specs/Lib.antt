@@ -14,8 +14,6 @@ pub mod MidTurn
 pub mod Shots
 pub mod Idle
 pub mod ValidWorldLemmas
-pub mod FoundLemmas
-pub mod LivingLemmas
 pub mod ChangesLemmas
 pub mod CashLemmas
 pub mod SoundLemmas

@@ -27,7 +27,7 @@ use Rattle.game_tick.specs.Orders.{donation_fits, pace_fits, after_donation}
 use Rattle.game_tick.specs.CashLemmas.{paid_others, price_keeps, paid_keeps, donated_keeps}
 use Rattle.game_tick.specs.CashLemmas.{others_stay}
 use Rattle.game_tick.specs.ChangesLemmas.{IsOnly, is_only}
-use Rattle.game_tick.specs.FoundLemmas.{IdsRise}
+use Rattle.game_model.specs.FoundLemmas.{IdsRise}
 use Rattle.game_tick.specs.OwnActorLemmas.{owned_living}
 
 id_kept :

@@ -7,8 +7,8 @@ use Rattle.game_model.specs.declared.actor.Body.{Body}
 use Rattle.game_model.specs.ActorChanges.{changed_at, with_body, moved_to}
 use Rattle.game_model.specs.Grid.{IsOn}
 use Rattle.game_model.specs.World.{actor_of}
-use Rattle.game_tick.specs.FoundLemmas.{found_id, found_changed, changed_as, found_all}
-use Rattle.game_tick.specs.FoundLemmas.{changed_twice, changed_none}
+use Rattle.game_model.specs.FoundLemmas.{found_id, found_changed, changed_as, found_all}
+use Rattle.game_model.specs.FoundLemmas.{changed_twice, changed_none}
 use Rattle.actor_table.specs.Table.{Table, IsTable}
 
 -- The same of a table: nothing changes without the actor, and another body of the actor is a change

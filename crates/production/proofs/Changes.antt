@@ -8,7 +8,7 @@ use Rattle.game_model.specs.declared.actor.Actor.{Actor}
 use Rattle.game_model.specs.declared.actor.Body.{Body}
 use Rattle.game_model.specs.ActorChanges.{changed_at, with_body}
 use Rattle.game_model.specs.World.{actor_of, is_occupied}
-use Rattle.game_tick.specs.FoundLemmas.{IdsRise, changed_as}
+use Rattle.game_model.specs.FoundLemmas.{IdsRise, changed_as}
 
 -- another body of the actor of an id
 pub body_changed : (actors : List Actor) (id : ℕ) (a : Actor) (body : Body) (f : Actor → Actor) → IdsRise actors → actor_of actors id ≡ Some a → record a { body = body } ≡ f a → with_body actors id body ≡ changed_at actors id f

@@ -9,7 +9,7 @@ ghost use Rattle.game_model.specs.Kinds.{kind_of, duration_in};
 ghost use Rattle.production.specs.Orders.{IsDone};
 
 use crate::give::give_builds;
-use crate::needs::{has_needs, living};
+use crate::needs::has_needs;
 use actor_table::ActorTable;
 use game_model::{Actor, Build, MAX_BUILDS, MAX_CASH, Purse};
 use rule_traits::Rules;
@@ -19,7 +19,7 @@ pub fn own_of(t: &ActorTable, client: u8, id: u32) -> Option<&Actor>
     ensures own { option_copied result ≡ own_of t.now.actors client id }
     ensures found { IfSome result (λ a. Some a.now ≡ actor_of t.now.actors id) }
 {
-    let Some(a) = living(t, id) else {
+    let Some(a) = t.living(id) else {
         return None;
     };
     if a.body.owner == client {

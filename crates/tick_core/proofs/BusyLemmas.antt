@@ -31,8 +31,8 @@ use Rattle.game_tick.specs.Nearest.{nearest_ore, ore_at}
 use Rattle.game_tick.specs.Turn.{after_first, after_step, after_steps, after_turn, after_way, blocks_of, buried, harvest_of, reloaded, with_build, with_reload, with_way}
 use Rattle.game_tick.specs.TurnLemmas.{length-ids_of, living_steps}
 use Rattle.game_tick.specs.SoundLemmas.{body_of}
-use Rattle.game_tick.specs.FoundLemmas.{changed_as}
-use Rattle.game_tick.specs.LivingLemmas.{living_actor}
+use Rattle.game_model.specs.FoundLemmas.{changed_as}
+use Rattle.game_model.specs.LivingLemmas.{living_actor}
 use Rattle.sync_hash.specs.declared.actor_number.ActorNumber.{ActorNumber}
 use Rattle.sync_hash.specs.Kept.{IsKeptOf, Kept, cell_number, cell_numbers, numbered}
 use Rattle.sync_hash.specs.KeptLemmas.{ore_numbered}

@@ -29,7 +29,7 @@ use Rattle.game_tick.specs.Moving.{after_leg}
 use Rattle.game_tick.specs.SoundLemmas.{body_of}
 use Rattle.game_tick.specs.Turn.{after_activity, after_first, after_way, blocks_of, buried, dice_of, harvest_of, with_build, with_harvested, with_reload, with_way}
 use Rattle.game_tick.specs.TurnLemmas.{build_mid, living_steps, reload_mid, way_mid}
-use Rattle.game_tick.specs.LivingLemmas.{living_actor}
+use Rattle.game_model.specs.LivingLemmas.{living_actor}
 use Rattle.actor_table.specs.Table.{Table}
 use Rattle.grid_routes.specs.Routing.{IsSameSize, Routing}
 use Rattle.combat.specs.Attacks as combat

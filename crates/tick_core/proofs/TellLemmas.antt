@@ -7,7 +7,7 @@ use Rattle.std.proofs.lemmas.List.Elements.{All-head}
 use Rattle.game_model.specs.declared.actor.Actor.{Actor}
 use Rattle.game_model.specs.declared.limits.TheConstants.{MAX_ACTORS}
 use Rattle.game_model.specs.World.{actor_of}
-use Rattle.game_tick.specs.FoundLemmas.{found_id, IdsRise}
+use Rattle.game_model.specs.FoundLemmas.{found_id, IdsRise}
 use Rattle.actor_table.specs.Rising.{RisesFrom}
 use Rattle.sync_hash.specs.Kept.{Kept, actor_number, has_id, with_number}
 use Rattle.sync_hash.specs.declared.actor_number.ActorNumber.{ActorNumber}

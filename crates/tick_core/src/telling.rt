@@ -10,7 +10,6 @@ ghost use Rattle.rule_traits.specs.Rules.{moves};
 ghost use Rattle.game_model.specs.Kinds.{gathers, kind_of};
 ghost use Rattle.tick_core.specs.Ordered.{IsReady};
 
-use crate::living::living;
 use crate::scene::Scene;
 use activities::{Activity, Queue};
 use actor_table::ActorTable;
@@ -102,7 +101,7 @@ fn has_health(rules: &Rules, kind: u16) -> bool
 fn is_target(t: &ActorTable, rules: &Rules, a: &Actor, target: u32) -> bool
     ensures { result ≡ is_target rules.now a.now (living_of t.now.actors target) }
 {
-    match living(t, target) {
+    match t.living(target) {
         Some(other) => other.id != a.id && has_health(rules, other.kind),
         None => false,
     }

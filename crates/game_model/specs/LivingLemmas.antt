@@ -1,11 +1,11 @@
 -- Proofs about the living actor of an id among actors whose ids rise.
-use Rattle.std.proofs.Common.{◌≡◌, ◌≢◌, ℕ, suc, ◌<◌, eqb, Bool, true, false, cond, List, [], ◌∷◌}
+use Rattle.std.proofs.Common.{◌≡◌, ◌≢◌, ℕ, zero, suc, ◌<◌, eqb, Bool, true, false, cond, List, [], ◌∷◌}
 use Rattle.std.proofs.Common.{length, get_or, Option, Some, None, inl, inr, refl, sym, subst, ◌∙◌}
 use Rattle.std.proofs.Common.{arith}
 use Rattle.std.proofs.lemmas.Bool.Decides.{eqb_tells}
 use Rattle.game_model.specs.declared.actor.Actor.{Actor}
 use Rattle.game_model.specs.World.{actor_of, is_alive, living_of}
-use Rattle.game_tick.specs.FoundLemmas.{IdsRise}
+use Rattle.game_model.specs.FoundLemmas.{IdsRise}
 
 living_absent :
     (actors : List Actor) (id : ℕ) →
@@ -58,6 +58,25 @@ living_none (b ∷ actors) id none = elim (eqb_tells b.id id) [
   | inl hit ↦ (let some : None ≡ Some b = rw hit.0 at none in absurd (cc))
   | inr miss ↦ rw miss.0 (living_none actors id (rw miss.0 at none))
 ]
+
+-- The actor at a place is the one of its id.
+pub found_at :
+    (actors : List Actor) (i : ℕ) (d : Actor) → IdsRise actors → i < length actors →
+    actor_of actors (get_or actors i d).id ≡ Some (get_or actors i d)
+found_at [] i d rise within = absurd (omega arith)
+found_at (b ∷ actors) zero d rise within = elim (eqb_tells b.id b.id) [
+  | inl hit ↦ rw hit.0 refl
+  | inr miss ↦ absurd (miss.1 refl)
+]
+found_at (b ∷ actors) (suc i) d rise within =
+    let above : b.id < (get_or actors i d).id = rise 0 (suc i) d (omega arith) within in
+    elim (eqb_tells b.id (get_or actors i d).id) [
+      | inl hit ↦ absurd (omega (arith, hit.1))
+      | inr miss ↦
+          rw miss.0
+          (found_at actors i d
+          (λ i j d lt within. rise (suc i) (suc j) d (omega arith) (omega arith)) (omega arith))
+    ]
 
 -- The living actor of an id is the actor of the id.
 living_by :
