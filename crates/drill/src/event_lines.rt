@@ -16,36 +16,61 @@ const PIECE: usize = 65_536;
 
 /// What becomes of the lines of events, in a run with a sink of this type.
 pub(crate) trait EventLines<K: Sink> {
-    ghost use Rattle.std.specs.Prelude.{◌≡◌, ◌≤◌, string_bytes, OnOk, OnErr, IsErrOf};
+    ghost use Rattle.std.specs.Prelude.{◌≡◌, ◌≤◌, List, ℕ, OnOk, OnErr, IsErrOf};
     ghost use Rattle.base.specs.Cause.{Rose};
     ghost use Rattle.drill.specs.Text.{outcome_line};
     ghost use Rattle.drill.specs.RunsEvents.{PrintsLines, CutsLines};
 
-    /// Takes the line of the event of this number. `text` is what is kept back.
-    fn take(text: &mut String, number: u32, outcome: &Outcome, out: &mut K) -> Result<(), RunFault>
-        ensures printed { OnOk result (PrintsLines (K.state out.old).written (string_bytes text.old)
-            (K.state out.new).written (string_bytes text.new) (outcome_line number outcome.now)) }
-        ensures cut { OnErr result (CutsLines (K.state out.old).written (string_bytes text.old)
+    /// The text that is kept back.
+    ghost kept: { Self → List ℕ };
+
+    /// Takes the line of the event of this number.
+    fn take(&mut self, number: u32, outcome: &Outcome, out: &mut K) -> Result<(), RunFault>
+        ensures printed { OnOk result (PrintsLines (K.state out.old).written (kept self.old)
+            (K.state out.new).written (kept self.new) (outcome_line number outcome.now)) }
+        ensures cut { OnErr result (CutsLines (K.state out.old).written (kept self.old)
             (K.state out.new).written (outcome_line number outcome.now)) }
         ensures later { (K.state out.old).faults ≤ (K.state out.new).faults }
         ensures failed { IsErrOf result RunFault.Write →
             Rose (K.state out.old).faults (K.state out.new).faults };
 }
 
-/// The lines are printed, some of them later.
-pub(crate) struct Printed;
+/// The lines are printed, in pieces.
+#[derive(Drop)]
+pub(crate) struct PrintedLines {
+    /// The text that is kept back.
+    pub(crate) text: String,
+}
 
-impl<K: Sink> EventLines<K> for Printed {
-    fn take(
-        text: &mut String,
-        number: u32,
-        outcome: &Outcome,
-        out: &mut K,
-    ) -> Result<(), RunFault> {
-        let Ok(()) = add_outcome_line(text, number, outcome) else {
+impl<K: Sink> EventLines<K> for PrintedLines {
+    ghost use Rattle.std.specs.Prelude.{string_bytes};
+
+    ghost kept = { λ lines. string_bytes lines.text };
+
+    fn take(&mut self, number: u32, outcome: &Outcome, out: &mut K) -> Result<(), RunFault> {
+        let Ok(()) = add_outcome_line(&mut self.text, number, outcome) else {
             return Err(RunFault::NoMemory);
         };
-        flush_if_full(text, out)
+        flush_if_full(&mut self.text, out)
+    }
+}
+
+/// No lines are made.
+#[derive(Drop)]
+pub(crate) struct NoLines;
+
+impl EventLines<Untold> for NoLines {
+    ghost use Rattle.std.specs.Prelude.{[]};
+
+    ghost kept = { λ lines. [] };
+
+    fn take(
+        &mut self,
+        _number: u32,
+        _outcome: &Outcome,
+        _out: &mut Untold,
+    ) -> Result<(), RunFault> {
+        Ok(())
     }
 }
 
@@ -63,20 +88,6 @@ impl Sink for Untold {
     }
 
     fn put(&mut self, _piece: &[u8]) -> Result<(), Failed> {
-        Ok(())
-    }
-}
-
-/// No line is made.
-pub(crate) struct Unprinted;
-
-impl EventLines<Untold> for Unprinted {
-    fn take(
-        _text: &mut String,
-        _number: u32,
-        _outcome: &Outcome,
-        _out: &mut Untold,
-    ) -> Result<(), RunFault> {
         Ok(())
     }
 }

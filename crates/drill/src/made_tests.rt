@@ -24,7 +24,7 @@ fn made_drill_of_seven(rt: HostRuntime) {
     );
     assert!(rt; matches!(drill.events.get(3), EventView::Seal { peer: 3, .. }));
     assert!(rt; matches!(drill.events.get(11), EventView::Up { packet: 0 }));
-    assert!(rt; matches!(drill.events.get(21_455), EventView::TickServer));
-    assert!(rt; matches!(drill.events.get(21_456), EventView::Report { peer: 0 }));
+    assert!(rt; matches!(drill.events.get(21_456), EventView::TickServer));
+    assert!(rt; matches!(drill.events.get(21_457), EventView::Report { peer: 0 }));
     assert!(rt; matches!(drill.events.get(21_464), EventView::Up { packet: 3_099 }));
 }

@@ -12,7 +12,7 @@ ghost use Rattle.drill.specs.Drilled.{match_of, IsLeftBy, Reports};
 
 use crate::closing::add_closing;
 use crate::drilled::Drilled;
-use crate::event_lines::{EventLines, Printed, Unprinted, Untold, flush};
+use crate::event_lines::{EventLines, NoLines, PrintedLines, Untold, flush};
 use crate::opening::open;
 use crate::run_fault::RunFault;
 use crate::running_match::RunningMatch;
@@ -43,12 +43,14 @@ pub fn run_drill<M: Maker, K: Sink>(
     let Ok(mut run) = open(alloc, maker, d.seed, d.clients, d.lag) else {
         return Err(RunFault::NoMemory);
     };
-    let mut text = String::new(alloc);
-    if let Err(fault) = run_events::<M::World, K, Printed>(&mut run, &d.events, &mut text, out) {
+    let mut lines = PrintedLines {
+        text: String::new(alloc),
+    };
+    if let Err(fault) = run_events(&mut run, &d.events, &mut lines, out) {
         return Err(fault);
     }
     let left = run.into_drilled();
-    if let Err(fault) = finish(&left, &mut text, out) {
+    if let Err(fault) = finish(&left, &mut lines.text, out) {
         return Err(fault);
     }
     Ok(left)
@@ -67,13 +69,9 @@ pub fn run_without_report<M: Maker>(
         d.now.events left) }
 {
     let mut run = open(alloc, maker, d.seed, d.clients, d.lag)?;
-    let mut text = String::new(alloc);
-    let mut out = Untold;
-    if let Err(_) = run_events::<M::World, Untold, Unprinted>(
-        &mut run, &d.events, &mut text, &mut out,
-    ) {
+    let Ok(()) = run_events(&mut run, &d.events, &mut NoLines, &mut Untold) else {
         return Err(AllocError);
-    }
+    };
     Ok(run.into_drilled())
 }
 
@@ -81,7 +79,7 @@ pub fn run_without_report<M: Maker>(
 fn run_events<W: Sim, K: Sink, L: EventLines<K>>(
     run: &mut RunningMatch<W>,
     events: &EventList,
-    text: &mut String,
+    lines: &mut L,
     out: &mut K,
 ) -> Result<(), RunFault>
     requires whole { IsWhole run.old }
@@ -90,15 +88,15 @@ fn run_events<W: Sim, K: Sink, L: EventLines<K>>(
     ensures clients { run.new.clients ≡ run.old.clients }
     ensures lag { run.new.lag ≡ run.old.lag }
     ensures runs { RunsEvents (match_from W.after W.hash_of W.summary_of run.old) 0 events.now
-        run.old (K.state out.old).written (string_bytes text.old)
-        run.new (K.state out.new).written (string_bytes text.new) result }
+        run.old (K.state out.old).written (L.kept lines.old)
+        run.new (K.state out.new).written (L.kept lines.new) result }
     ensures later { (K.state out.old).faults ≤ (K.state out.new).faults }
     ensures failed { IsErrOf result RunFault.Write →
         Rose (K.state out.old).faults (K.state out.new).faults }
 {
     for number in 0..events.len() {
         let event = events.get(number);
-        if let Err(fault) = take_event::<W, K, L>(run, number as u32, event, text, out) {
+        if let Err(fault) = take_event(run, number as u32, event, lines, out) {
             return Err(fault);
         }
     }
@@ -110,7 +108,7 @@ fn take_event<W: Sim, K: Sink, L: EventLines<K>>(
     run: &mut RunningMatch<W>,
     number: u32,
     event: EventView<'_>,
-    text: &mut String,
+    lines: &mut L,
     out: &mut K,
 ) -> Result<(), RunFault>
     requires whole { IsWhole run.old }
@@ -118,8 +116,8 @@ fn take_event<W: Sim, K: Sink, L: EventLines<K>>(
     ensures clients { run.new.clients ≡ run.old.clients }
     ensures lag { run.new.lag ≡ run.old.lag }
     ensures runs { RunsEvents (match_from W.after W.hash_of W.summary_of run.old)
-        number (event_of event.entry ∷ []) run.old (K.state out.old).written (string_bytes text.old)
-        run.new (K.state out.new).written (string_bytes text.new) result }
+        number (event_of event.entry ∷ []) run.old (K.state out.old).written (L.kept lines.old)
+        run.new (K.state out.new).written (L.kept lines.new) result }
     ensures later { (K.state out.old).faults ≤ (K.state out.new).faults }
     ensures failed { IsErrOf result RunFault.Write →
         Rose (K.state out.old).faults (K.state out.new).faults }
@@ -127,7 +125,7 @@ fn take_event<W: Sim, K: Sink, L: EventLines<K>>(
     let Ok(outcome) = run.run_event(event) else {
         return Err(RunFault::NoMemory);
     };
-    L::take(text, number, &outcome, out)
+    lines.take(number, &outcome, out)
 }
 
 /// Prints the closing lines, and all that is kept back.
