@@ -68,6 +68,7 @@ impl Draft {
     }
 
     /// The event comes next. It fails only where it is out of memory, as all that follow.
+    #[tactic(auto, using(crate::proofs::DraftLemmas::one_more_event))]
     pub(crate) fn add(&mut self, event: Event) -> Result<(), NoMemory>
         requires fits { event_fits MADE_CLIENTS event ≡ true }
         ensures made { OnOk result (self.new ≡ with_event event self.old) }
@@ -77,6 +78,7 @@ impl Draft {
     }
 
     /// An event comes next that sends a packet up.
+    #[tactic(auto, using(crate::proofs::DraftLemmas::one_more_event))]
     pub(crate) fn add_packet(&mut self, event: Event) -> Result<(), NoMemory>
         requires fits { event_fits MADE_CLIENTS event ≡ true }
         requires room { size self.old + 2 ≤ MAX_EVENTS }

@@ -16,6 +16,7 @@ use std::alloc::Global;
 /// which its clients play and its network loses, repeats and delays.
 ///
 /// The same number makes the same drill. It fails only where it is out of memory.
+#[tactic(auto, unfolding(crate::specs::MadeDrill::made_drill_of))]
 pub fn made_drill(alloc: Global, n: u32) -> Result<Drill, NoMemory>
     ensures { IfOk result (λ drill. plain_of drill ≡ made_drill_of n) }
 {

@@ -14,6 +14,7 @@ use twister::Twister;
 use world_units::CPos;
 
 /// What a client plays: one order, or none.
+#[tactic(auto, unfolding(crate::specs::MadeOrders::drawn_orders))]
 pub(crate) fn draw_orders(dice: &mut Twister) -> Orders
     requires { dice.old.drawn + 4 ≤ MAX_EVENTS }
     ensures value { (result, dice.new) ≡ drawn_orders dice.old }
@@ -24,6 +25,7 @@ pub(crate) fn draw_orders(dice: &mut Twister) -> Orders
 }
 
 /// What a client plays by the draw that chooses.
+#[tactic(auto, unfolding(crate::specs::MadeOrders::orders_by))]
 fn orders_by(choice: u32, dice: &mut Twister) -> Orders
     requires { dice.old.drawn + 3 ≤ MAX_EVENTS }
     ensures value { (result, dice.new) ≡ orders_by choice dice.old }
@@ -48,6 +50,7 @@ fn one_order(order: Order) -> Orders
     orders
 }
 
+#[tactic(auto, unfolding(crate::specs::MadeOrders::drawn_move))]
 fn draw_move(dice: &mut Twister) -> Order
     requires { dice.old.drawn + 3 ≤ MAX_EVENTS }
     ensures value { (result, dice.new) ≡ drawn_move dice.old }
@@ -62,6 +65,7 @@ fn draw_move(dice: &mut Twister) -> Order
     }
 }
 
+#[tactic(auto, unfolding(crate::specs::MadeOrders::drawn_harvest))]
 fn draw_harvest(dice: &mut Twister) -> Order
     requires { dice.old.drawn + 3 ≤ MAX_EVENTS }
     ensures value { (result, dice.new) ≡ drawn_harvest dice.old }
@@ -76,6 +80,7 @@ fn draw_harvest(dice: &mut Twister) -> Order
     }
 }
 
+#[tactic(auto, unfolding(crate::specs::MadeOrders::drawn_produce))]
 fn draw_produce(dice: &mut Twister) -> Order
     requires { dice.old.drawn + 3 ≤ MAX_EVENTS }
     ensures value { (result, dice.new) ≡ drawn_produce dice.old }
@@ -86,6 +91,7 @@ fn draw_produce(dice: &mut Twister) -> Order
     Order::Produce { actor, kind }
 }
 
+#[tactic(auto, unfolding(crate::specs::MadeOrders::drawn_donate))]
 fn draw_donate(dice: &mut Twister) -> Order
     requires { dice.old.drawn + 3 ≤ MAX_EVENTS }
     ensures value { (result, dice.new) ≡ drawn_donate dice.old }
@@ -96,6 +102,7 @@ fn draw_donate(dice: &mut Twister) -> Order
     Order::Donate { to, amount }
 }
 
+#[tactic(auto, unfolding(crate::specs::MadeOrders::drawn_attack))]
 fn draw_attack(dice: &mut Twister) -> Order
     requires { dice.old.drawn + 3 ≤ MAX_EVENTS }
     ensures value { (result, dice.new) ≡ drawn_attack dice.old }
@@ -111,6 +118,7 @@ fn draw_attack(dice: &mut Twister) -> Order
 }
 
 /// The id of an actor, from 1 on.
+#[tactic(auto, unfolding(crate::specs::MadeOrders::drawn_actor))]
 fn draw_actor(dice: &mut Twister) -> u32
     requires { dice.old.drawn + 1 ≤ MAX_EVENTS }
     ensures value { (result, dice.new) ≡ drawn_actor dice.old }
@@ -120,6 +128,7 @@ fn draw_actor(dice: &mut Twister) -> u32
 }
 
 /// A cell.
+#[tactic(auto, unfolding(crate::specs::MadeOrders::drawn_cell))]
 fn draw_cell(dice: &mut Twister) -> CPos
     requires { dice.old.drawn + 2 ≤ MAX_EVENTS }
     ensures value { (result, dice.new) ≡ drawn_cell dice.old }

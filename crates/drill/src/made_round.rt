@@ -13,6 +13,7 @@ use base::NoMemory;
 use drill_words::{Event, MAX_EVENTS};
 
 /// A round, whose number is that of its frame.
+#[tactic(auto, unfolding(crate::specs::MadeRound::with_round))]
 pub(crate) fn add_round(draft: &mut Draft, round: u32) -> Result<(), NoMemory>
     requires { size draft.old + 106 ≤ MAX_EVENTS }
     ensures made { OnOk result (draft.new ≡ with_round round draft.old) }
@@ -51,6 +52,7 @@ fn told_in(round: u32) -> u8
 }
 
 /// The server lets the last client leave before one of the rounds.
+#[tactic(auto, unfolding(crate::specs::MadeRound::with_departure))]
 fn add_departure(draft: &mut Draft, round: u32) -> Result<(), NoMemory>
     ensures made { OnOk result (draft.new ≡ with_departure round draft.old) }
     ensures few { OnOk result (size draft.new ≤ size draft.old + 1) }
@@ -64,6 +66,7 @@ fn add_departure(draft: &mut Draft, round: u32) -> Result<(), NoMemory>
 }
 
 /// The clients seal, and their packets reach the server, some of them twice.
+#[tactic(auto, unfolding(crate::specs::MadeRound::with_plays))]
 fn add_plays(draft: &mut Draft, sealing: u8) -> Result<(), NoMemory>
     requires most { sealing ≤ MADE_CLIENTS }
     requires room { size draft.old + 9 * MADE_CLIENTS ≤ MAX_EVENTS }
@@ -77,6 +80,7 @@ fn add_plays(draft: &mut Draft, sealing: u8) -> Result<(), NoMemory>
 }
 
 /// Each client seals.
+#[tactic(auto, unfolding(crate::specs::MadeRound::with_seals))]
 fn add_seals(draft: &mut Draft, sealing: u8) -> Result<(), NoMemory>
     requires most { sealing ≤ MADE_CLIENTS }
     requires room { size draft.old + 6 * MADE_CLIENTS ≤ MAX_EVENTS }
@@ -91,6 +95,7 @@ fn add_seals(draft: &mut Draft, sealing: u8) -> Result<(), NoMemory>
 
 /// The packets from `first` on, one of each client, reach the server by rising client, but some are
 /// lost.
+#[tactic(auto, unfolding(crate::specs::MadeRound::with_some_packets_up))]
 fn add_some_packets_up(draft: &mut Draft, first: u32, sealing: u8) -> Result<(), NoMemory>
     requires most { sealing ≤ MADE_CLIENTS }
     requires numbers { first ≤ MAX_EVENTS }
@@ -107,6 +112,7 @@ fn add_some_packets_up(draft: &mut Draft, first: u32, sealing: u8) -> Result<(),
 }
 
 /// All of them reach it by falling client.
+#[tactic(auto, unfolding(crate::specs::MadeRound::with_packets_up_again))]
 fn add_packets_up_again(draft: &mut Draft, first: u32, sealing: u8) -> Result<(), NoMemory>
     requires most { sealing ≤ MADE_CLIENTS }
     requires numbers { first ≤ MAX_EVENTS }
@@ -123,6 +129,7 @@ fn add_packets_up_again(draft: &mut Draft, first: u32, sealing: u8) -> Result<()
 
 /// The entries of the frame reach the peers, some of them twice. The peers tick before the lost ones
 /// come, and once more after that.
+#[tactic(auto, unfolding(crate::specs::MadeRound::with_echoes))]
 fn add_echoes(draft: &mut Draft, told: u8, frame: u32) -> Result<(), NoMemory>
     requires most { told ≤ MADE_CLIENTS }
     requires room { size draft.old + 56 ≤ MAX_EVENTS }
@@ -136,6 +143,7 @@ fn add_echoes(draft: &mut Draft, told: u8, frame: u32) -> Result<(), NoMemory>
 }
 
 /// Some entries reach the peers by rising number.
+#[tactic(auto, unfolding(crate::specs::MadeRound::with_some_entries))]
 fn add_some_entries(draft: &mut Draft, told: u8, frame: u32) -> Result<(), NoMemory>
     requires most { told ≤ MADE_CLIENTS }
     requires room { size draft.old + 32 ≤ MAX_EVENTS }
@@ -149,6 +157,7 @@ fn add_some_entries(draft: &mut Draft, told: u8, frame: u32) -> Result<(), NoMem
 }
 
 /// The entries of the frame reach a peer by rising client, but some are lost.
+#[tactic(auto, unfolding(crate::specs::MadeRound::with_some_entries_to))]
 fn add_some_entries_to(draft: &mut Draft, told: u8, frame: u32, peer: u8) -> Result<(), NoMemory>
     requires own { peer < MADE_CLIENTS }
     requires most { told ≤ MADE_CLIENTS }
@@ -167,6 +176,7 @@ fn add_some_entries_to(draft: &mut Draft, told: u8, frame: u32, peer: u8) -> Res
 }
 
 /// All entries reach the peers by falling number.
+#[tactic(auto, unfolding(crate::specs::MadeRound::with_entries_again))]
 fn add_entries_again(draft: &mut Draft, told: u8, frame: u32) -> Result<(), NoMemory>
     requires most { told ≤ MADE_CLIENTS }
     ensures made { OnOk result (draft.new ≡ with_entries_again told frame draft.old) }
@@ -179,6 +189,7 @@ fn add_entries_again(draft: &mut Draft, told: u8, frame: u32) -> Result<(), NoMe
 }
 
 /// All entries of the frame reach a peer by falling client.
+#[tactic(auto, unfolding(crate::specs::MadeRound::with_entries_to))]
 fn add_entries_to(draft: &mut Draft, told: u8, frame: u32, peer: u8) -> Result<(), NoMemory>
     requires own { peer < MADE_CLIENTS }
     requires most { told ≤ MADE_CLIENTS }
@@ -196,6 +207,7 @@ fn add_entries_to(draft: &mut Draft, told: u8, frame: u32, peer: u8) -> Result<(
 }
 
 /// Each peer ticks.
+#[tactic(auto, unfolding(crate::specs::MadeRound::with_ticks))]
 fn add_ticks(draft: &mut Draft) -> Result<(), NoMemory>
     ensures made { OnOk result (draft.new ≡ with_ticks draft.old) }
     ensures few { OnOk result (size draft.new ≤ size draft.old + 4) }
@@ -207,6 +219,7 @@ fn add_ticks(draft: &mut Draft) -> Result<(), NoMemory>
 }
 
 /// The peers report, and their reports reach the server.
+#[tactic(auto, unfolding(crate::specs::MadeRound::with_checks))]
 fn add_checks(draft: &mut Draft) -> Result<(), NoMemory>
     requires { size draft.old + 12 ≤ MAX_EVENTS }
     ensures made { OnOk result (draft.new ≡ with_checks draft.old) }
@@ -218,6 +231,7 @@ fn add_checks(draft: &mut Draft) -> Result<(), NoMemory>
 }
 
 /// Each peer reports.
+#[tactic(auto, unfolding(crate::specs::MadeRound::with_reports))]
 fn add_reports(draft: &mut Draft) -> Result<(), NoMemory>
     requires { size draft.old + 8 ≤ MAX_EVENTS }
     ensures made { OnOk result (draft.new ≡ with_reports draft.old) }
@@ -230,6 +244,7 @@ fn add_reports(draft: &mut Draft) -> Result<(), NoMemory>
 }
 
 /// The reports, which are the packets from `first` on, reach the server.
+#[tactic(auto, unfolding(crate::specs::MadeRound::with_reports_up))]
 fn add_reports_up(draft: &mut Draft, first: u32) -> Result<(), NoMemory>
     requires { first ≤ MAX_EVENTS }
     ensures made { OnOk result (draft.new ≡ with_reports_up first draft.old) }
