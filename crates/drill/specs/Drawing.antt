@@ -1,5 +1,5 @@
 -- Random draws one after the other.
-use Rattle.std.specs.Prelude.{ℕ, ◌×◌}
+use Rattle.std.specs.Prelude.{ℕ}
 use Rattle.twister.specs.Place.{Place, after_word}
 use Rattle.twister.specs.Sequence.{draw_of}
 

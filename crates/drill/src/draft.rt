@@ -1,5 +1,6 @@
 //! A drill that is being made.
 ghost use Rattle.std.specs.Prelude.{◌≡◌, ◌+◌, ◌<◌, ◌≤◌, true, OnOk};
+ghost use Rattle.std.specs.List.{list_all};
 ghost use Rattle.drill_words.specs.Event.{event_fits};
 ghost use Rattle.drill.specs.Draft.{fresh_draft, with_event, with_packet, with_seal, size};
 ghost use Rattle.drill.specs.Draft.{with_event_unless_lost};

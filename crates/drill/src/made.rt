@@ -5,10 +5,10 @@ ghost use Rattle.drill.specs.MadeRound.{rising, with_round};
 ghost use Rattle.drill.specs.MadeDrill.{made_drill_of};
 
 use crate::draft::Draft;
-use crate::made_limits::{MADE_CLIENTS, MADE_LAG, MADE_ROUNDS};
+use crate::made_limits::{MADE_CLIENTS, MADE_LAG, MADE_ROUNDS, ROUND_SIZE};
 use crate::made_round::add_round;
 use base::NoMemory;
-use drill_words::Drill;
+use drill_words::{Drill, MAX_EVENTS};
 use std::alloc::Global;
 
 /// The made drill of a number, any `u32`: a match of [`MADE_CLIENTS`] clients with the lag
@@ -32,9 +32,9 @@ pub fn made_drill(alloc: Global, n: u32) -> Result<Drill, NoMemory>
 
 /// All rounds.
 fn add_rounds(draft: &mut Draft) -> Result<(), NoMemory>
-    requires { size draft.old ≤ 0 }
+    requires { size draft.old + ROUND_SIZE * MADE_ROUNDS ≤ MAX_EVENTS }
     ensures made { OnOk result (draft.new ≡ rising with_round MADE_ROUNDS draft.old) }
-    ensures few { OnOk result (size draft.new ≤ 106 * MADE_ROUNDS) }
+    ensures few { OnOk result (size draft.new ≤ size draft.old + ROUND_SIZE * MADE_ROUNDS) }
 {
     for round in 0..MADE_ROUNDS {
         add_round(draft, round)?;

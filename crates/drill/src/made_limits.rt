@@ -27,3 +27,9 @@ pub const ORDER_CHOICES: u32 = 8;
 
 /// One packet or entry in so many is lost at first, by a draw.
 pub const LOSS_CHOICES: u32 = 4;
+
+/// The deliveries and ticks of a round are at most so many draws and events.
+pub(crate) const ECHOES_SIZE: u32 = 56;
+
+/// A round has at most so many draws, packets and events together.
+pub(crate) const ROUND_SIZE: u32 = 106;

@@ -1,5 +1,5 @@
 //! The orders of the made drill, by draws.
-ghost use Rattle.std.specs.Prelude.{◌≡◌, ◌+◌, ◌≤◌, ◌×◌};
+ghost use Rattle.std.specs.Prelude.{◌≡◌, ◌+◌, ◌≤◌, [], ◌∷◌};
 ghost use Rattle.drill_words.specs.declared.limits.TheConstants.{MAX_EVENTS};
 ghost use Rattle.drill.specs.MadeOrders.{drawn_actor, drawn_cell, drawn_move, drawn_harvest};
 ghost use Rattle.drill.specs.MadeOrders.{drawn_produce, drawn_donate, drawn_attack, orders_by};

@@ -8,14 +8,14 @@ ghost use Rattle.drill.specs.MadeRound.{with_ticks, with_reports, with_reports_u
 ghost use Rattle.drill.specs.MadeRound.{with_echoes, with_checks, with_departure, with_round};
 
 use crate::draft::Draft;
-use crate::made_limits::{DEPARTURE_ROUND, MADE_CLIENTS, MADE_ROUNDS};
+use crate::made_limits::{DEPARTURE_ROUND, ECHOES_SIZE, MADE_CLIENTS, ROUND_SIZE};
 use base::NoMemory;
 use drill_words::{Event, MAX_EVENTS};
 
 /// A round, whose number is that of its frame.
 #[tactic(auto, unfolding(crate::specs::MadeRound::with_round))]
 pub(crate) fn add_round(draft: &mut Draft, round: u32) -> Result<(), NoMemory>
-    requires { size draft.old + 106 ≤ MAX_EVENTS }
+    requires { size draft.old + ROUND_SIZE ≤ MAX_EVENTS }
     ensures made { OnOk result (draft.new ≡ with_round round draft.old) }
     ensures few { OnOk result (size draft.new ≤ size draft.old + 106) }
 {
@@ -132,7 +132,7 @@ fn add_packets_up_again(draft: &mut Draft, first: u32, sealing: u8) -> Result<()
 #[tactic(auto, unfolding(crate::specs::MadeRound::with_echoes))]
 fn add_echoes(draft: &mut Draft, told: u8, frame: u32) -> Result<(), NoMemory>
     requires most { told ≤ MADE_CLIENTS }
-    requires room { size draft.old + 56 ≤ MAX_EVENTS }
+    requires room { size draft.old + ECHOES_SIZE ≤ MAX_EVENTS }
     ensures made { OnOk result (draft.new ≡ with_echoes told frame draft.old) }
     ensures few { OnOk result (size draft.new ≤ size draft.old + 56) }
 {
@@ -146,9 +146,9 @@ fn add_echoes(draft: &mut Draft, told: u8, frame: u32) -> Result<(), NoMemory>
 #[tactic(auto, unfolding(crate::specs::MadeRound::with_some_entries))]
 fn add_some_entries(draft: &mut Draft, told: u8, frame: u32) -> Result<(), NoMemory>
     requires most { told ≤ MADE_CLIENTS }
-    requires room { size draft.old + 32 ≤ MAX_EVENTS }
+    requires room { size draft.old + 2 * MADE_CLIENTS * MADE_CLIENTS ≤ MAX_EVENTS }
     ensures made { OnOk result (draft.new ≡ with_some_entries told frame draft.old) }
-    ensures few { OnOk result (size draft.new ≤ size draft.old + 32) }
+    ensures few { OnOk result (size draft.new ≤ size draft.old + 2 * MADE_CLIENTS * MADE_CLIENTS) }
 {
     for peer in 0..MADE_CLIENTS {
         add_some_entries_to(draft, told, frame, peer)?;
@@ -161,9 +161,9 @@ fn add_some_entries(draft: &mut Draft, told: u8, frame: u32) -> Result<(), NoMem
 fn add_some_entries_to(draft: &mut Draft, told: u8, frame: u32, peer: u8) -> Result<(), NoMemory>
     requires own { peer < MADE_CLIENTS }
     requires most { told ≤ MADE_CLIENTS }
-    requires room { size draft.old + 8 ≤ MAX_EVENTS }
+    requires room { size draft.old + 2 * MADE_CLIENTS ≤ MAX_EVENTS }
     ensures made { OnOk result (draft.new ≡ with_some_entries_to told frame peer draft.old) }
-    ensures few { OnOk result (size draft.new ≤ size draft.old + 8) }
+    ensures few { OnOk result (size draft.new ≤ size draft.old + 2 * MADE_CLIENTS) }
 {
     for client in 0..told {
         draft.add_unless_lost(Event::Down {
@@ -221,9 +221,9 @@ fn add_ticks(draft: &mut Draft) -> Result<(), NoMemory>
 /// The peers report, and their reports reach the server.
 #[tactic(auto, unfolding(crate::specs::MadeRound::with_checks))]
 fn add_checks(draft: &mut Draft) -> Result<(), NoMemory>
-    requires { size draft.old + 12 ≤ MAX_EVENTS }
+    requires { size draft.old + 3 * MADE_CLIENTS ≤ MAX_EVENTS }
     ensures made { OnOk result (draft.new ≡ with_checks draft.old) }
-    ensures few { OnOk result (size draft.new ≤ size draft.old + 12) }
+    ensures few { OnOk result (size draft.new ≤ size draft.old + 3 * MADE_CLIENTS) }
 {
     let first = draft.sent();
     add_reports(draft)?;
@@ -233,9 +233,9 @@ fn add_checks(draft: &mut Draft) -> Result<(), NoMemory>
 /// Each peer reports.
 #[tactic(auto, unfolding(crate::specs::MadeRound::with_reports))]
 fn add_reports(draft: &mut Draft) -> Result<(), NoMemory>
-    requires { size draft.old + 8 ≤ MAX_EVENTS }
+    requires { size draft.old + 2 * MADE_CLIENTS ≤ MAX_EVENTS }
     ensures made { OnOk result (draft.new ≡ with_reports draft.old) }
-    ensures few { OnOk result (size draft.new ≤ size draft.old + 8) }
+    ensures few { OnOk result (size draft.new ≤ size draft.old + 2 * MADE_CLIENTS) }
 {
     for peer in 0..MADE_CLIENTS {
         draft.add_packet(Event::Report { peer })?;

@@ -1,5 +1,5 @@
 -- The steps that are left make of what there is what all make of the first.
-use Rattle.std.proofs.Common.{◌≡◌, ◌≤◌, ◌+◌, ◌×◌, ◌*◌}
+use Rattle.std.proofs.Common.{◌≡◌, ◌≤◌, ◌+◌, ◌*◌}
 use Rattle.drill.specs.Draft.{size}
 use Rattle.drill.specs.MadeRound.{falling, with_entries_to}
 use Rattle.drill.specs.declared.made_limits.TheConstants.{MADE_CLIENTS}

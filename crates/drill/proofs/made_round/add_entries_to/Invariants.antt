@@ -1,5 +1,5 @@
 -- The steps that are left make of what there is what all make of the first.
-use Rattle.std.proofs.Common.{◌≡◌, ◌≤◌, ◌+◌, ◌×◌}
+use Rattle.std.proofs.Common.{◌≡◌, ◌≤◌, ◌+◌}
 use Rattle.drill_words.specs.declared.event.Event.TheVariants.{Down}
 use Rattle.drill.specs.Draft.{size, with_event}
 use Rattle.drill.specs.MadeRound.{falling}

@@ -1,5 +1,5 @@
 -- The steps so far were made.
-use Rattle.std.proofs.Common.{◌≡◌, ◌≤◌, ◌+◌, ◌×◌, ◌*◌}
+use Rattle.std.proofs.Common.{◌≡◌, ◌≤◌, ◌+◌, ◌*◌}
 use Rattle.drill.specs.Draft.{size, with_seal}
 use Rattle.drill.specs.MadeRound.{rising}
 use Rattle.drill.proofs.made_round.add_seals.Given as goal

@@ -1,5 +1,5 @@
 -- The steps so far were made.
-use Rattle.std.proofs.Common.{◌≡◌, ◌≤◌, ◌+◌, ◌×◌, ◌*◌}
+use Rattle.std.proofs.Common.{◌≡◌, ◌≤◌, ◌+◌, ◌*◌}
 use Rattle.drill.specs.Draft.{size}
 use Rattle.drill.specs.MadeRound.{rising, with_some_entries_to}
 use Rattle.drill.proofs.made_round.add_some_entries.Given as goal

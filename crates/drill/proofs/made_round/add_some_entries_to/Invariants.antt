@@ -1,5 +1,5 @@
 -- The steps so far were made.
-use Rattle.std.proofs.Common.{◌≡◌, ◌≤◌, ◌+◌, ◌×◌, ◌*◌}
+use Rattle.std.proofs.Common.{◌≡◌, ◌≤◌, ◌+◌, ◌*◌}
 use Rattle.drill_words.specs.declared.event.Event.TheVariants.{Down}
 use Rattle.drill.specs.Draft.{size, with_event_unless_lost}
 use Rattle.drill.specs.MadeRound.{rising}
