@@ -1,12 +1,12 @@
 //! Drills: written network schedules of one match, and the report of running one.
 //!
 //! It stands on the schedules that `drill_words` reads, the peers of `peer_core`, the server of
-//! `server_core`, the sinks of `game_io` and the random words of `twister`. `run_drill` runs the events, for any maker of
-//! worlds, and writes the report: the outcome of each event, and every world at the end. Its
-//! clause, `Reports` in `specs/Drilled.antt`, says that the report is the one of the definitions
-//! in `specs/Report.antt`, which know no peer's world: every world is the agreed world of its own
-//! count of ticked frames.
-//! `run_without_report` hands back the same without a report.
+//! `server_core`, the sinks of `game_io` and the random words of `twister`. `run_drill` runs the
+//! events, for any maker of worlds, and writes the report: the outcome of each event, and every
+//! world at the end. Its clause, `Reports` in `specs/Drilled.antt`, says that the report is the one
+//! of the definitions in `specs/Report.antt`, which know no peer's world: every world is the agreed
+//! world of its own count of ticked frames. `run_without_report` hands back the same, and makes no
+//! report.
 //!
 //! `made_drill` makes a drill from a number: four clients play orders by the draws of `twister` over
 //! a network that loses, repeats and delays. Its definition, `specs/MadeDrill.antt`, is a chain of
