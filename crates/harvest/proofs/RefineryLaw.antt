@@ -14,7 +14,7 @@ use Rattle.game_model.specs.FoundLemmas.{IdsRise}
 use Rattle.game_model.specs.LivingLemmas.{found_at}
 use Rattle.actor_table.specs.Rising.{RisesFrom}
 use Rattle.game_tick.specs.Harvesting.{is_refinery_for, nearest_refinery}
-use Rattle.game_tick.specs.Kinds.{kind_of}
+use Rattle.game_model.specs.Kinds.{kind_of}
 use Rattle.game_tick.specs.Nearest.{lesser_by}
 use Rattle.harvest.specs.Refineries.{is_nearer, is_other, nearer_of, better_of, best_of, best_of_kind, IsAsNear, IsNearest, IsRefinery, IsRefineryBelow}
 

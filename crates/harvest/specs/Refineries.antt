@@ -9,7 +9,7 @@ use Rattle.game_model.specs.World.{actor_of, is_alive}
 use Rattle.actor_table.specs.declared.listed.Listed.{Listed}
 use Rattle.actor_table.specs.Kinds.{listed_of}
 use Rattle.game_tick.specs.Harvesting.{is_refinery_for}
-use Rattle.game_tick.specs.Kinds.{kind_of}
+use Rattle.game_model.specs.Kinds.{kind_of}
 
 -- An actor is nearer to a cell than another: its own cell is, or both are equally far and its id is
 -- less.
