@@ -2,8 +2,8 @@
 use Rattle.std.proofs.Common.{ℕ, List, Result, Ok, Err, inl, inr, refl}
 use Rattle.drill_words.specs.declared.drill_fault.DrillFault.{DrillFault}
 use Rattle.drill_words.specs.Drill.{DrillPlain, read_of}
-use Rattle.match_cli.specs.Reply.{done}
-use Rattle.match_cli.specs.Step.{ended}
+use Rattle.command_answers.specs.Reply.{done}
+use Rattle.command_answers.specs.Step.{ended}
 use Rattle.match_cli.specs.Drills.{drilled_step, drill_reply}
 use Rattle.match_cli.proofs.RequestLemmas.{IsOfFiles}
 

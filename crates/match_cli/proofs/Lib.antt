@@ -1,11 +1,4 @@
-pub mod CausesLemmas
-pub mod ContentsLemmas
-pub mod StopLemmas
-pub mod OutcomeLemmas
 pub mod RequestLemmas
 pub mod FilesLemmas
 pub mod DrillLemmas
-pub mod LeastLemmas
-pub mod RouteLemmas
-pub mod KindLemmas
 pub mod RunLemmas

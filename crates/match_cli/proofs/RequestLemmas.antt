@@ -7,37 +7,30 @@ use Rattle.command_words.specs.RequestPlain.{RequestPlain, Drill}
 use Rattle.game_io.specs.Files.{Files}
 use Rattle.game_io.specs.DiskState.{DiskState}
 use Rattle.game_io.specs.SinkState.{SinkState}
-use Rattle.match_cli.specs.declared.statuses.TheConstants.{DONE, REFUSED_FILE, OUT_OF_MEMORY}
-use Rattle.match_cli.specs.declared.stop.Stop.{Stop}
-use Rattle.match_cli.specs.declared.stop.Stop.TheVariants.{Refused, ReadFault, NoMemory}
-use Rattle.match_cli.specs.FileWrite.{OnlyChanges}
-use Rattle.match_cli.specs.Reply.{Reply, done, refusal, read_fault}
-use Rattle.match_cli.specs.Step.{Step, ended}
-use Rattle.match_cli.specs.Causes.{causes_of}
-use Rattle.match_cli.specs.Outside.{outside}
-use Rattle.match_cli.specs.Outcome.{IsPrinted, IsAnswered}
-use Rattle.match_cli.specs.Printing.{PrintsReply, MayPrintReply}
-use Rattle.match_cli.specs.WantedFiles.{WantedFiles, no_files, in_order}
-use Rattle.match_cli.specs.Contents.{Contents, contents_of, read_after, content_of, IsFirstThere, AreWithinLimits, AreContents}
+use Rattle.command_answers.specs.declared.statuses.TheConstants.{DONE, REFUSED_FILE, OUT_OF_MEMORY}
+use Rattle.command_answers.specs.declared.stop.Stop.{Stop}
+use Rattle.command_answers.specs.declared.stop.Stop.TheVariants.{Refused, ReadFault, NoMemory}
+use Rattle.command_answers.specs.FileWrite.{OnlyChanges}
+use Rattle.command_answers.specs.Reply.{Reply, done, refusal, read_fault}
+use Rattle.command_answers.specs.Step.{Step, ended}
+use Rattle.command_answers.specs.Causes.{causes_of}
+use Rattle.command_answers.specs.Outside.{outside}
+use Rattle.command_answers.specs.Outcome.{IsPrinted, IsAnswered}
+use Rattle.command_answers.specs.Printing.{PrintsReply, MayPrintReply}
+use Rattle.command_answers.specs.WantedFiles.{WantedFiles, no_files, in_order, rule_file, script_file}
+use Rattle.command_answers.specs.Contents.{Contents, contents_of, read_after, content_of, IsFirstThere, AreWithinLimits, AreContents}
 use Rattle.match_cli.specs.Drills.{drill_step, drill_reply}
-use Rattle.match_cli.specs.Request.{rule_file, script_file, wanted, written_by, text_of, given_reply, reply_to}
+use Rattle.match_cli.specs.Request.{wanted, written_by, text_of, given_reply, reply_to}
 use Rattle.match_cli.specs.Run.{RunsRequest}
-use Rattle.match_cli.specs.Stop.{IsReadStop, IsUntoldStop, ReturnsStep, PrintsStop, PrintsText}
-use Rattle.match_cli.proofs.CausesLemmas.{HasCauses, at_done, at_file, at_memory, at_write, at_read}
-use Rattle.match_cli.proofs.OutcomeLemmas.{printed_outcome, answered_outcome, memory_outcome}
+use Rattle.command_answers.specs.Stop.{IsReadStop, IsUntoldStop, ReturnsStep, PrintsStop, PrintsText}
+use Rattle.command_answers.specs.OptionLemmas.{map_some, map_none}
+use Rattle.command_answers.specs.CausesLemmas.{HasCauses, at_done, at_file, at_memory, at_write, at_read}
+use Rattle.command_answers.specs.OutcomeLemmas.{printed_outcome, answered_outcome, memory_outcome}
 
 -- The reply of a command to files that were read: it is done or refuses a file, and writes none.
 pub record IsOfFiles (reply : Reply) : Type 0 where
   pub status : (reply.status ≡ DONE) ⊎ (reply.status ≡ REFUSED_FILE)
   pub write : reply.write ≡ None
-
-pub map_some : {A : Type 0} (o : Option A) (P Q : A → Type 0) → ((a : A) → P a → Q a) → IfSome o P → IfSome o Q
-map_some None P Q next has = tt
-map_some (Some a) P Q next has = next a has
-
-pub map_none : {A P Q : Type 0} (o : Option A) → (P → Q) → IfNone o P → IfNone o Q
-map_none None next has = next has
-map_none (Some a) next has = tt
 
 -- What was printed for a command's text: the reply, and the causes of the status.
 pub record Printed (reply : Reply) (status : ℕ) (d d' : DiskState) (s s' : SinkState) : Type 0 where

@@ -2,14 +2,14 @@
 use Rattle.std.proofs.Common.{◌≡◌, ◌⊎◌, ℕ, List, Option, Some, Ok, Err, IsOk, refl, sym, subst, ◌∙◌, inl, inr}
 use Rattle.command_words.specs.RequestPlain.{RequestPlain}
 use Rattle.game_io.specs.Files.{Files}
-use Rattle.match_cli.specs.declared.statuses.TheConstants.{DONE, OUT_OF_MEMORY}
-use Rattle.match_cli.specs.Reply.{done}
-use Rattle.match_cli.specs.Step.{Step, ended}
-use Rattle.match_cli.specs.Causes.{Causes, IsQuiet}
-use Rattle.match_cli.specs.Outside.{Outside}
+use Rattle.command_answers.specs.declared.statuses.TheConstants.{DONE, OUT_OF_MEMORY}
+use Rattle.command_answers.specs.Reply.{done}
+use Rattle.command_answers.specs.Step.{Step, ended}
+use Rattle.command_answers.specs.Causes.{Causes, IsQuiet}
+use Rattle.command_answers.specs.Outside.{Outside}
 use Rattle.match_cli.specs.Request.{IsFaultless, text_over}
 use Rattle.match_cli.specs.Run.{Runs, RunsRequest, IsToldAnswer}
-use Rattle.match_cli.proofs.RequestLemmas.{map_some}
+use Rattle.command_answers.specs.OptionLemmas.{map_some}
 
 -- A step that has its value ends in a command that is done.
 step_done : (step : Step (List ℕ)) → IsOk step → (ended step done).status ≡ DONE

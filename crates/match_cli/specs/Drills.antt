@@ -7,8 +7,8 @@ use Rattle.drill.specs.Drilled.{match_of}
 use Rattle.drill.specs.Report.{report}
 use Rattle.game_model.specs.Setup.{bare_setup}
 use Rattle.tick_core.specs.Game.{game_start, game_after, game_hash, game_summary}
-use Rattle.match_cli.specs.Reply.{Reply, done, refusal}
-use Rattle.match_cli.specs.Step.{Step, ended}
+use Rattle.command_answers.specs.Reply.{Reply, done, refusal}
+use Rattle.command_answers.specs.Step.{Step, ended}
 
 -- The report of a drill over no kinds and the bare map. Each world begins as the opening game of the
 -- drill's seed and clients.

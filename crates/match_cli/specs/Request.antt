@@ -3,27 +3,15 @@ use Rattle.std.specs.Prelude.{ℕ, List, [], map, Option, None, Some, IsOk, unwr
 use Rattle.base.specs.Steps.{◌>>=◌}
 use Rattle.game_io.specs.Files.{Files}
 use Rattle.command_words.specs.RequestPlain.{RequestPlain, Drill, Yaml, Check, Route}
-use Rattle.drill_words.specs.declared.limits.TheConstants.{MAX_DRILL_BYTES}
-use Rattle.match_cli.specs.declared.files.TheConstants.{MAX_RULE_BYTES}
-use Rattle.match_cli.specs.Reply.{Reply, done}
-use Rattle.match_cli.specs.Step.{Step, ended}
-use Rattle.match_cli.specs.WantedFiles.{Wanted, WantedFiles, no_files}
-use Rattle.match_cli.specs.Contents.{Contents, contents_of}
+use Rattle.command_answers.specs.Reply.{Reply, done}
+use Rattle.command_answers.specs.Step.{Step, ended}
+use Rattle.command_answers.specs.WantedFiles.{WantedFiles, no_files, rule_file, script_file}
+use Rattle.command_answers.specs.WantedFiles.{rules_and_map}
+use Rattle.command_answers.specs.Contents.{Contents, contents_of}
 use Rattle.match_cli.specs.Drills.{drill_step}
-use Rattle.match_cli.specs.RuleFiles.{yaml_step}
-use Rattle.match_cli.specs.Checks.{check_step}
-use Rattle.match_cli.specs.Routes.{route_step}
-
-abbrev pub rule_file : List ℕ → Wanted
-rule_file name = record { name = name; limit = MAX_RULE_BYTES }
-
-abbrev pub script_file : List ℕ → Wanted
-script_file name = record { name = name; limit = MAX_DRILL_BYTES }
-
--- Rule files, and a map, if one is named. A map is as long as a rule file at most.
-abbrev pub rules_and_map : List (List ℕ) → Option (List ℕ) → WantedFiles
-rules_and_map names map_file =
-    record no_files { rules = map rule_file names; map_file = option_map rule_file map_file }
+use Rattle.rule_commands.specs.RuleFiles.{yaml_step}
+use Rattle.rule_commands.specs.Checks.{check_step}
+use Rattle.rule_commands.specs.Routes.{route_step}
 
 -- The files that a request wants to be read.
 abbrev pub wanted : RequestPlain → WantedFiles

@@ -2,15 +2,15 @@
 use Rattle.std.specs.Prelude.{◌≡◌, ◌≢◌, ℕ, ◌⊎◌, Option, None, IfSome, IfNone, option_and_then}
 use Rattle.command_words.specs.RequestPlain.{RequestPlain}
 use Rattle.game_io.specs.Files.{Files}
-use Rattle.match_cli.specs.declared.statuses.TheConstants.{DONE, REFUSED_WORDS, FAULT_READ}
-use Rattle.match_cli.specs.declared.statuses.TheConstants.{FAULT_WRITE, OUT_OF_MEMORY}
-use Rattle.match_cli.specs.Reply.{Reply, words_reply, read_fault}
-use Rattle.match_cli.specs.FileWrite.{OnlyChanges}
-use Rattle.match_cli.specs.Causes.{Causes, IsQuiet}
-use Rattle.match_cli.specs.Outside.{Outside, IsUnchanged, IsLater}
-use Rattle.match_cli.specs.Outcome.{IsPrinted, IsAnswered}
-use Rattle.match_cli.specs.WantedFiles.{in_order}
-use Rattle.match_cli.specs.Contents.{Contents, IsFirstThere, AreContents, IsUnread}
+use Rattle.command_answers.specs.declared.statuses.TheConstants.{DONE, REFUSED_WORDS, FAULT_READ}
+use Rattle.command_answers.specs.declared.statuses.TheConstants.{FAULT_WRITE, OUT_OF_MEMORY}
+use Rattle.command_answers.specs.Reply.{Reply, words_reply, read_fault}
+use Rattle.command_answers.specs.FileWrite.{OnlyChanges}
+use Rattle.command_answers.specs.Causes.{Causes, IsQuiet}
+use Rattle.command_answers.specs.Outside.{Outside, IsUnchanged, IsLater}
+use Rattle.command_answers.specs.Outcome.{IsPrinted, IsAnswered}
+use Rattle.command_answers.specs.WantedFiles.{in_order}
+use Rattle.command_answers.specs.Contents.{Contents, IsFirstThere, AreContents, IsUnread}
 use Rattle.match_cli.specs.Request.{wanted, written_by, given_reply, reply_to, IsFaultless}
 
 -- `refused words` is printed, or memory ran out before anything was.

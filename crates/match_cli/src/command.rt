@@ -2,23 +2,21 @@ ghost use Rattle.std.specs.Prelude.{◌≡◌, ◌≤◌, length, map, option_ma
 ghost use Rattle.command_words.specs.RequestPlain.{Drill, Yaml, Check, Route, plain_of};
 ghost use Rattle.command_words.specs.RequestPlain.{plain_route, HasFewFiles};
 ghost use Rattle.command_words.specs.Reading.{request_of};
-ghost use Rattle.match_cli.specs.Causes.{causes_of};
-ghost use Rattle.match_cli.specs.Outside.{outside};
-ghost use Rattle.match_cli.specs.Printing.{MayPrintReply};
+ghost use Rattle.command_answers.specs.Causes.{causes_of};
+ghost use Rattle.command_answers.specs.Outside.{outside};
+ghost use Rattle.command_answers.specs.Printing.{MayPrintReply};
 ghost use Rattle.match_cli.specs.Drills.{drill_reply};
 ghost use Rattle.match_cli.specs.Run.{Runs, RunsRequest};
 
-use crate::check::check_text;
-use crate::files::{read_files, read_one, read_rules};
-use crate::print::{print_stop, print_text, refuse_words};
-use crate::refusals::drill_stop;
-use crate::routes::route_text;
-use crate::rules::yaml_text;
-use crate::statuses::OUT_OF_MEMORY;
 use crate::worlds::run_worlds;
+use command_answers::{
+    OUT_OF_MEMORY, drill_stop, print_stop, print_text, read_files, read_one, read_rules,
+    refuse_words,
+};
 use command_words::{FileNames, MAX_FILES, Request, RouteQuery, WordsFault, read_words};
 use drill_words::{MAX_DRILL_BYTES, read_drill};
 use game_io::{Disk, Sink};
+use rule_commands::{check_text, route_text, yaml_text};
 use std::alloc::Global;
 
 /// Runs the command that the words name; the first word is the program's name. It changes no file

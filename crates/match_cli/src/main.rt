@@ -6,20 +6,11 @@
 //! real ones.
 #![tactic(auto)]
 
-mod check;
 mod command;
-mod files;
-mod print;
-mod refusals;
-mod route_fault;
-mod routes;
-mod rules;
-mod statuses;
-mod stop;
 mod worlds;
 
-use crate::statuses::OUT_OF_MEMORY;
 pub use command::run;
+use command_answers::OUT_OF_MEMORY;
 use game_io::{FileDisk, StdSink};
 use std::io::ErrorKind;
 use std::process::ExitCode;

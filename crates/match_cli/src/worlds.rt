@@ -1,10 +1,10 @@
 ghost use Rattle.std.specs.Prelude.{◌≤◌};
 ghost use Rattle.drill_words.specs.Drill.{plain_of};
 ghost use Rattle.match_cli.specs.Drills.{drill_report};
-ghost use Rattle.match_cli.specs.Printing.{MayPrintReply};
-ghost use Rattle.match_cli.specs.Reply.{done};
+ghost use Rattle.command_answers.specs.Printing.{MayPrintReply};
+ghost use Rattle.command_answers.specs.Reply.{done};
 
-use crate::statuses::{DONE, FAULT_WRITE, OUT_OF_MEMORY};
+use command_answers::{DONE, FAULT_WRITE, OUT_OF_MEMORY};
 use drill::{RunFault, run_drill};
 use drill_words::Drill;
 use game_io::Sink;

@@ -1,10 +1,10 @@
 //! The opening world of the sample map, from its text and that of the sample rules.
 
-use crate::rules::{read_map_bytes, read_typed};
 use base::NoMemory;
 use frame_core::Sim;
 use game_model::{Actor, World};
 use map_grid::SAMPLE_MAP;
+use rule_commands::{read_map_bytes, read_typed};
 use rule_traits::SAMPLE_RULES;
 use std::alloc::Global;
 use std::rc::Rc;

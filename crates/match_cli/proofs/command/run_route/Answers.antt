@@ -1,7 +1,7 @@
 use Rattle.std.proofs.Common.{Some, refl, sym, ap, map}
 use Rattle.command_words.specs.RequestPlain.{Route, plain_route}
-use Rattle.match_cli.specs.Given.{given_contents}
-use Rattle.match_cli.specs.Request.{rules_and_map}
+use Rattle.command_answers.specs.Given.{given_contents}
+use Rattle.command_answers.specs.WantedFiles.{rules_and_map}
 use Rattle.match_cli.proofs.FilesLemmas.{files_given, files_stopped}
 use Rattle.match_cli.proofs.command.run_route.Goals as goal
 

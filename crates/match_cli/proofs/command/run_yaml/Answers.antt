@@ -1,7 +1,7 @@
 use Rattle.std.proofs.Common.{refl, map, subst}
 use Rattle.command_words.specs.RequestPlain.{Yaml}
-use Rattle.match_cli.specs.Causes.{causes_of}
-use Rattle.match_cli.specs.Outside.{outside}
+use Rattle.command_answers.specs.Causes.{causes_of}
+use Rattle.command_answers.specs.Outside.{outside}
 use Rattle.match_cli.specs.Run.{RunsRequest}
 use Rattle.match_cli.proofs.RequestLemmas.{rules_given, rules_stopped}
 use Rattle.match_cli.proofs.command.run_yaml.Goals as goal
