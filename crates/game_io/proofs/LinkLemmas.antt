@@ -1,6 +1,7 @@
 -- A link of a net in memory, as it is given.
-use Rattle.std.specs.Prelude.{count_by}
-use Rattle.std.proofs.Common.{◌≡◌, ℕ, ◌≤◌, List, [], ◌∷◌, ◌++◌, drop, map, Option, None, Some, Ok, refl, ap, ◌∙◌}
+use Rattle.std.specs.Prelude.{count_by, nat_lt}
+use Rattle.std.proofs.Common.{◌≡◌, ℕ, ◌≤◌, List, [], ◌∷◌, ◌++◌, drop, map, Option, None, Some, Ok, refl, ap, ◌∙◌, arith, cond}
+use Rattle.std.proofs.lemmas.Bool.Decides.{nat_tests}
 use Rattle.game_io.specs.Plan.{Plan, is_past, faults_of, fresh}
 use Rattle.game_io.specs.PlannedBytes.{PlannedBytes, sink_state, source_state}
 use Rattle.game_io.specs.NetState.{GivesLink, TakenBack, next_bytes}
@@ -9,10 +10,13 @@ use Rattle.game_io.specs.declared.failed.Failed.{Failed}
 use Rattle.game_io.specs.declared.failing_call.FailingCall.{FailingCall}
 use Rattle.game_io.proofs.PlannedFaults.{past-cons}
 
+not_past : (call : ℕ) → cond (nat_lt call 0) 1 0 ≤ 0
+not_past call = grind (arith, nat_tests)
+
 -- Before its first call no planned call of an object is past.
 none_past : (failing : List FailingCall) → count_by (is_past 0) failing ≡ 0
 none_past [] = refl
-none_past (planned ∷ rest) = past-cons 0 planned rest ∙ none_past rest
+none_past (planned ∷ rest) = past-cons 0 planned rest ∙ (let here = not_past planned.call in let others = none_past rest in omega arith)
 
 no_faults : (failing : List FailingCall) → faults_of (fresh failing) ≡ 0
 no_faults failing = rw (none_past failing) refl
