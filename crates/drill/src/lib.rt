@@ -21,7 +21,7 @@ mod running_match;
 mod sent;
 mod text;
 
-pub use closing::closing_lines;
+pub use closing::{add_columns, closing_lines};
 pub use drill_words::{Drill, Event, EventList, MAX_EVENTS};
 pub use drilled::Drilled;
 pub use entering::Entering;
@@ -32,3 +32,4 @@ pub use outcome::Outcome;
 pub use peers::Peers;
 pub use run::run_drill;
 pub use run_fault::RunFault;
+pub use text::{add_end_line, add_world};

@@ -23,6 +23,12 @@ pub record PlannedLinks : Type 0 where
   pub given : List (Option TakenBack)
   pub plan : Plan
 
+-- The same of a net of which nothing fails: the bytes of the links to come, and those that were
+-- given.
+pub record SureLinks : Type 0 where
+  pub coming : List (List ℕ)
+  pub given : List (Option TakenBack)
+
 -- A link of which nothing is to fail and which has no bytes.
 abbrev pub empty_link : PlannedLink
 empty_link = record { bytes = []; takes = []; puts = [] }

@@ -28,6 +28,8 @@ mod source;
 mod std_sink;
 mod stored_file;
 mod sure_disk;
+mod sure_link;
+mod sure_net;
 mod sure_sink;
 mod sure_source;
 #[cfg(test)]
@@ -49,5 +51,6 @@ pub use sink::Sink;
 pub use source::Source;
 pub use std_sink::StdSink;
 pub use sure_disk::SureDisk;
+pub use sure_net::SureNet;
 pub use sure_sink::SureSink;
 pub use sure_source::SureSource;

@@ -221,7 +221,7 @@ fn real_files_are_read_and_written(rt: HostRuntime) -> Result<(), Fail> {
 /// A letter for a link that is used, and how many links there are then. It takes two bytes, puts
 /// `ab`, and hands the link back. A digit tells how many bytes were taken; `f`, `t` and `p` that the
 /// net failed, the take, or the put.
-fn use_link(net: &mut MemNet) -> (char, u32) {
+fn use_link<N: Net>(net: &mut N) -> (char, u32) {
     let number = net.links();
     if number >= MAX_LINKS {
         return ('n', number);
@@ -289,5 +289,16 @@ fn chosen_calls_of_a_link_fail(rt: HostRuntime) -> Result<(), Fail> {
         assert_eq!(rt; net.left(0), Some(left.as_bytes()));
         assert_eq!(rt; net.link_faults(0), faults);
     }
+    Ok(())
+}
+
+#[test]
+fn a_sure_net_gives_its_links(rt: HostRuntime) -> Result<(), Fail> {
+    let mut net = SureNet::new(rt.alloc());
+    net.add(b"abc".to_vec(rt.alloc())?)?;
+    assert_eq!(rt; net.listen("here").is_ok(), true);
+    let used = [use_link(&mut net), use_link(&mut net)];
+    assert_eq!(rt; used, [('2', 1), ('0', 2)]);
+    assert_eq!(rt; (net.faults(), net.link_faults(0)), (0, 0));
     Ok(())
 }
