@@ -4,7 +4,7 @@ ghost use Rattle.drill.specs.Text.{world_text, end_line};
 ghost use Rattle.drill_words.specs.declared.limits.TheConstants.{MAX_DRILL_BYTES};
 ghost use Rattle.match_run.specs.Local.{longest};
 ghost use Rattle.command_answers.specs.Stop.{ReturnsStep};
-ghost use Rattle.match_commands.specs.LocalText.{local_head, local_lines, local_step};
+ghost use Rattle.local_command.specs.LocalText.{local_head, local_lines, local_step};
 
 use base::NoMemory;
 use command_answers::{Stop, drill_stop};
