@@ -1,6 +1,7 @@
 ghost use Rattle.std.specs.Prelude.{◌≡◌, None, Some};
 ghost use Rattle.game_io.specs.NetState.{TakenBack, taken_back};
 
+use crate::source::Source;
 use crate::sure_source::SureSource;
 use std::marker::Model;
 
@@ -22,6 +23,6 @@ impl SureLink {
     pub(crate) fn faults(&self) -> u64
         ensures { result ≡ self.now.faults }
     {
-        0
+        self.input.faults()
     }
 }
