@@ -62,7 +62,6 @@ fn played_text<M: Maker, G: Gate + Sync, R: Threads + Wait + Sync>(
 }
 
 /// The lines of the columns, of the world after all their frames, and the end.
-#[tactic(auto, unfolding(crate::specs::LocalText::local_head))]
 fn ended_text<S: Sim>(alloc: Global, columns: &Columns, sim: &S) -> Result<String, NoMemory>
     ensures { IfOk result (λ text. string_bytes text ≡ column_lines 0 columns.now
         ++ local_head (longest columns.now)
@@ -70,11 +69,18 @@ fn ended_text<S: Sim>(alloc: Global, columns: &Columns, sim: &S) -> Result<Strin
 {
     let mut text = String::new(alloc);
     add_columns(&mut text, columns)?;
-    let frames = longest(columns);
-    write!(text, "local frames {frames}")?;
+    add_local_head(&mut text, longest(columns))?;
     add_world(&mut text, sim)?;
     add_end_line(&mut text)?;
     Ok(text)
+}
+
+/// Adds the beginning of the line of the world.
+#[tactic(auto, unfolding(crate::specs::LocalText::local_head))]
+fn add_local_head(text: &mut String, frames: u32) -> Result<(), NoMemory>
+    ensures { OnOk result (string_bytes text.new ≡ string_bytes text.old ++ local_head frames) }
+{
+    write!(text, "local frames {frames}")
 }
 
 /// The greatest number of plays of a column.
