@@ -41,7 +41,7 @@ all_untold names rules map_file bytes (Some files) o' same first second = tt
 
 -- ---- a rule file was not read
 
-there_more : (first rest : List Wanted) (files : Files) → IsFirstThere first files → IsFirstThere (first ++ rest) files
+pub there_more : (first rest : List Wanted) (files : Files) → IsFirstThere first files → IsFirstThere (first ++ rest) files
 there_more [] rest files there = absurd there
 there_more (file ∷ first) rest files there = there
 
@@ -66,7 +66,7 @@ unread_more (file ∷ first) rest reply (inl missing) = inl missing
 unread_more (file ∷ first) rest reply (inr (inl long)) = inr (inl long)
 unread_more (file ∷ first) rest reply (inr (inr later)) = inr (inr (unread_more first rest reply later))
 
-untold_more : (stop : Stop) (first rest : List Wanted) (R : Type 0) → IsUntoldStop stop first R → IsUntoldStop stop (first ++ rest) R
+pub untold_more : (stop : Stop) (first rest : List Wanted) (R : Type 0) → IsUntoldStop stop first R → IsUntoldStop stop (first ++ rest) R
 untold_more (Refused name place cause) first rest R stops = (stops.0, unread_more first rest _ stops.1)
 untold_more ReadFault first rest R stops = stops
 untold_more NoMemory first rest R stops = tt
@@ -118,7 +118,7 @@ unread_later : (first rest : List Wanted) (reply : Reply) → IsUnread rest repl
 unread_later [] rest reply unread = unread
 unread_later (file ∷ first) rest reply unread = inr (inr (unread_later first rest reply unread))
 
-untold_later : (stop : Stop) (first rest : List Wanted) (R Q : Type 0) → (R → Q) → IsUntoldStop stop rest R → IsUntoldStop stop (first ++ rest) Q
+pub untold_later : (stop : Stop) (first rest : List Wanted) (R Q : Type 0) → (R → Q) → IsUntoldStop stop rest R → IsUntoldStop stop (first ++ rest) Q
 untold_later (Refused name place cause) first rest R Q rose stops = (rose stops.0, unread_later first rest _ stops.1)
 untold_later ReadFault first rest R Q rose stops = rose stops
 untold_later NoMemory first rest R Q rose stops = tt

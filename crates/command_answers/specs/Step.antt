@@ -9,3 +9,7 @@ Step T = Result T Reply
 abbrev pub ended : {T : Type 0} → Step T → (T → Reply) → Reply
 ended (Ok value) last = last value
 ended (Err reply) last = reply
+
+-- The reply of a command whose last value is one.
+abbrev pub replied : Step Reply → Reply
+replied step = ended step (λ reply. reply)

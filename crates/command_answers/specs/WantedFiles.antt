@@ -37,3 +37,7 @@ script_file name = record { name = name; limit = MAX_DRILL_BYTES }
 abbrev pub rules_and_map : List (List ℕ) → Option (List ℕ) → WantedFiles
 rules_and_map names map_file =
     record no_files { rules = map rule_file names; map_file = option_map rule_file map_file }
+
+-- The same files, and a script after them.
+abbrev pub with_script : List ℕ → WantedFiles → WantedFiles
+with_script script files = record files { script = Some (script_file script) }

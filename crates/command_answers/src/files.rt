@@ -4,12 +4,13 @@ ghost use Rattle.base.specs.Cause.{Rose};
 ghost use Rattle.command_answers.specs.Contents.{content_of, read_after, IsFirstThere, AreWithinLimits};
 ghost use Rattle.command_answers.specs.Contents.{read_optional, contents_of, IsWithinLimit, AreContents};
 ghost use Rattle.command_answers.specs.Reply.{refusal};
-ghost use Rattle.command_answers.specs.Given.{given_contents};
+ghost use Rattle.command_answers.specs.Given.{given_contents, script_contents};
 ghost use Rattle.command_answers.specs.Stop.{IsRefusal, ReturnsOrStops, ReturnsUntold};
 ghost use Rattle.command_answers.specs.WantedFiles.{and_then, in_order};
-ghost use Rattle.command_answers.specs.WantedFiles.{rule_file, rules_and_map};
+ghost use Rattle.command_answers.specs.WantedFiles.{rule_file, rules_and_map, with_script};
 
 use crate::stop::Stop;
+use drill_words::MAX_DRILL_BYTES;
 use game_io::{Disk, DiskError};
 use std::alloc::Global;
 
@@ -42,6 +43,7 @@ pub fn read_one<'a, D: Disk>(
         (ReturnsUntold result (λ bytes. length bytes.items ≤ limit)
         (record { name = name.now; limit = limit } ∷ [])
         (Rose (D.state disk.old).faults (D.state disk.new).faults)) }
+    ensures short { IfOk result (λ bytes. length bytes.items ≤ limit) }
     ensures files { (D.state disk.new).files ≡ (D.state disk.old).files }
     ensures later { (D.state disk.old).faults ≤ (D.state disk.new).faults }
 {
@@ -190,6 +192,45 @@ pub fn read_files<'a, D: Disk>(
     };
     match read_named(alloc, disk, map_file) {
         Ok(map_file) => Ok(GivenFiles { rules, map_file }),
+        Err(stop) => Err(stop),
+    }
+}
+
+/// Reads rule files in order, then a map, if one is named, and then a script.
+pub fn read_script_files<'a, D: Disk>(
+    alloc: Global,
+    disk: &mut D,
+    names: &[&'a str],
+    map_file: Option<&'a str>,
+    script: &'a str,
+) -> Result<(GivenFiles, Vec<u8>), Stop<'a>>
+    ensures told { IfSome (D.state disk.old).files
+        (λ files. ReturnsOrStops result script_contents
+        (contents_of (with_script script.now (rules_and_map (map (λ name. name.now) names.now)
+        (option_map (λ name. name.now) map_file.entry))) files)
+        (IsFirstThere (in_order (with_script script.now
+        (rules_and_map (map (λ name. name.now) names.now)
+        (option_map (λ name. name.now) map_file.entry)))) files
+        × Rose (D.state disk.old).faults (D.state disk.new).faults)) }
+    ensures untold { IfNone (D.state disk.old).files
+        (ReturnsUntold result
+        (λ given. AreContents (with_script script.now
+        (rules_and_map (map (λ name. name.now) names.now)
+        (option_map (λ name. name.now) map_file.entry))) (script_contents given))
+        (in_order (with_script script.now (rules_and_map (map (λ name. name.now) names.now)
+        (option_map (λ name. name.now) map_file.entry))))
+        (Rose (D.state disk.old).faults (D.state disk.new).faults)) }
+    ensures one_each { IfOk result (λ given. length given.0.rules.items ≡ length names.now) }
+    ensures short { IfOk result (λ given. length given.1.items ≤ MAX_DRILL_BYTES) }
+    ensures files { (D.state disk.new).files ≡ (D.state disk.old).files }
+    ensures later { (D.state disk.old).faults ≤ (D.state disk.new).faults }
+{
+    let given = match read_files(alloc, disk, names, map_file) {
+        Ok(given) => given,
+        Err(stop) => return Err(stop),
+    };
+    match read_one(alloc, disk, script, MAX_DRILL_BYTES) {
+        Ok(bytes) => Ok((given, bytes)),
         Err(stop) => Err(stop),
     }
 }

@@ -9,9 +9,15 @@
 #![tactic(auto)]
 
 mod closing;
+mod draft;
 mod drilled;
 mod entering;
+mod event_lines;
 mod laws;
+mod made;
+mod made_limits;
+mod made_orders;
+mod made_round;
 mod opening;
 mod outcome;
 mod peers;
@@ -28,8 +34,16 @@ pub use entering::Entering;
 pub use laws::{
     columns_only_grow, entries_arrive_when_found, peers_tick_when_told, plays_were_sealed,
 };
+pub use made::made_drill;
+pub use made_limits::{
+    DEPARTURE_ROUND, DRAWN_ACTORS, DRAWN_CASH, DRAWN_KINDS, DRAWN_SIDE, LOSS_CHOICES, MADE_CLIENTS,
+    MADE_LAG, MADE_ROUNDS, ORDER_CHOICES,
+};
 pub use outcome::Outcome;
 pub use peers::Peers;
-pub use run::run_drill;
+pub use run::{run_drill, run_without_report};
 pub use run_fault::RunFault;
 pub use text::{add_end_line, add_world};
+
+#[cfg(test)]
+mod made_tests;

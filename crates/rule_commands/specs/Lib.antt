@@ -4,3 +4,4 @@ pub mod Checks
 pub mod Routes
 pub mod FoundRoute
 pub mod Refusals
+pub mod Setups
