@@ -1,5 +1,5 @@
 -- The request that the words of a command line name.
-use Rattle.std.specs.Prelude.{◌≡◌, ◌⊎◌, ℕ, ◌^◌, ◌&&◌, ◌==◌, Bool, true, not, nat_lt, nat_le}
+use Rattle.std.specs.Prelude.{◌≡◌, ◌⊎◌, ℕ, ◌&&◌, ◌==◌, Bool, true, not, nat_le}
 use Rattle.std.specs.Prelude.{if◌then◌else◌, List, [], ◌∷◌, length, Option, None, Some, codes}
 use Rattle.std.specs.Prelude.{option_map, option_and_then, unwrap_or}
 use Rattle.std.specs.Option.{IsSomeAnd}
@@ -7,7 +7,7 @@ use Rattle.std.specs.Str.{bytes_eq}
 use Rattle.std.specs.Str.Parse.{digits_value, without_leading_plus}
 use Rattle.clap.specs.Walk.{Row, Text, all_of, first_of, one_of, is_empty}
 use Rattle.clap.specs.Simple.{subcommand_of}
-use Rattle.clap.specs.ValueTests.{is_numeral}
+use Rattle.clap.specs.ValueTests.{is_unsigned_in}
 use Rattle.clap.specs.Faults.{fault_of}
 use Rattle.command_words.specs.declared.TheConstants.{MAX_FILES}
 use Rattle.rule_values.specs.Cells.{cell_of}
@@ -38,9 +38,8 @@ names_in least found = allowed least (all_names found)
 -- The number that a text writes, as Rust reads a `u32`: a plus may stand before its digits.
 abbrev pub number_of : Text → Option ℕ
 number_of text =
-    let number = digits_value 10 (without_leading_plus text) in
-    if is_numeral (without_leading_plus text) && nat_lt number (2 ^ 32)
-    then Some number else None
+    if is_unsigned_in 0 4294967295 text
+    then Some (digits_value 10 (without_leading_plus text)) else None
 
 -- The number that an option writes, where it is given and writes one.
 unfoldable pub number_in : Text → List Row → Option ℕ

@@ -196,10 +196,18 @@ fn names_in<'a>(
 fn all_names<'b, 'a>(found: &'b ArgMatches<'a>) -> &'b [&'a str]
     ensures { map (λ name. name.now) result.now ≡ all_names (rows_of (found_of found.now)) }
 {
-    match found.get_strs("names") {
+    match used_names(found) {
         Some(names) => names,
         None => &[],
     }
+}
+
+/// The positional arguments, where a use of them was found.
+fn used_names<'b, 'a>(found: &'b ArgMatches<'a>) -> Option<&'b [&'a str]>
+    ensures { option_map (λ names. map (λ name. name.now) names.now) result
+        ≡ all_of (codes "names") (rows_of (found_of found.now)) }
+{
+    found.get_strs("names")
 }
 
 /// Whether so many positional arguments are allowed, where a command takes at least so many.
