@@ -1,0 +1,20 @@
+-- Which of the two top calls runs a command. Each refuses the other's commands as words.
+use Rattle.std.specs.Prelude.{Option, None, Some, option_and_then}
+use Rattle.command_words.specs.RequestPlain.{RequestPlain, Local}
+
+-- The request, where its command always returns.
+abbrev pub returning : RequestPlain → Option RequestPlain
+returning (Local query) = None
+returning request = Some request
+
+-- The request, where its command may wait for threads or links.
+abbrev pub waiting : RequestPlain → Option RequestPlain
+waiting (Local query) = Some (Local query)
+waiting request = None
+
+-- The request that `run` runs, if the words name one, and the request that `run_waiting` runs.
+abbrev pub returning_request : Option RequestPlain → Option RequestPlain
+returning_request = option_and_then returning
+
+abbrev pub waiting_request : Option RequestPlain → Option RequestPlain
+waiting_request = option_and_then waiting
