@@ -1,3 +1,4 @@
 pub mod Drills
+pub mod Made
 pub mod Request
 pub mod Run

@@ -7,6 +7,8 @@
 #![tactic(auto)]
 
 mod command;
+mod making;
+mod preparing;
 #[cfg(test)]
 mod tests;
 mod worlds;

@@ -5,7 +5,6 @@ use Rattle.rule_traits.specs.declared.kind.Kind.{Kind}
 use Rattle.game_model.specs.declared.map.Map.{Map}
 use Rattle.game_model.specs.Setup.{Setup, bare_map}
 use Rattle.command_answers.specs.Step.{Step}
-use Rattle.command_answers.specs.Contents.{Contents}
 use Rattle.rule_commands.specs.Maps.{typed_rules, map_step}
 
 -- The map of a file for these kinds, or the bare map, where no file is named. The content of a named
@@ -14,10 +13,11 @@ abbrev pub map_or_bare : List Kind → Option (List ℕ) → Option (List ℕ) �
 map_or_bare kinds None bytes = Ok bare_map
 map_or_bare kinds (Some name) bytes = map_step kinds name (unwrap_or bytes [])
 
--- The rules and the map, or the first fault: those of the rules come before those of the map. No
--- rule files make no kinds.
-unfoldable pub setup_step : (names : List (List ℕ)) → Option (List ℕ) → Contents → Step Setup
-setup_step names map_file contents = do
-  made ← typed_rules names contents.rules
-  m ← map_or_bare made.0 map_file contents.map_file
+-- The rules and the map, by their names and contents, or the first fault: those of the rules come
+-- before those of the map. No rule files make no kinds.
+unfoldable pub setup_step :
+    (names contents : List (List ℕ)) → (map_file bytes : Option (List ℕ)) → Step Setup
+setup_step names contents map_file bytes = do
+  made ← typed_rules names contents
+  m ← map_or_bare made.0 map_file bytes
   Ok (record { rules = made.0; map = m })

@@ -6,21 +6,28 @@ ghost use Rattle.command_answers.specs.Stop.{ReturnsStep};
 ghost use Rattle.rule_commands.specs.Setups.{map_or_bare, setup_step};
 
 use crate::rules::{read_map_bytes, read_typed};
-use base::NoMemory;
+use base::{List, NoMemory};
 use command_answers::{GivenFiles, Stop};
 use command_words::MAX_FILES;
-use game_model::Map;
+use game_model::{BARE_CASH, Map, Ore, Tiles};
 use rule_traits::Rules;
 use std::alloc::Global;
 use std::rc::Rc;
-use tick_core::{GameMaker, bare_map};
+use tick_core::GameMaker;
 
-/// The bare map, which any rules fit.
-fn bare_for(alloc: Global, rules: &Rules) -> Result<Map, NoMemory>
-    ensures made { IfOk result (λ map. map ≡ bare_map) }
-    ensures valid { IfOk result (IsMapFor rules.now) }
+/// The map of a match without one: one clear cell, no ore, no actors, and [`BARE_CASH`] for each
+/// client. It fits any rules. Out of memory is the only error.
+fn bare_map(alloc: Global) -> Result<Map, NoMemory>
+    ensures { IfOk result (λ map. map ≡ bare_map) }
 {
-    bare_map(alloc)
+    Ok(Map {
+        width: 1,
+        height: 1,
+        terrain: Tiles::create(alloc, 1, 1)?,
+        ore: Ore::create(alloc, 1, 1)?,
+        starts: List::new(alloc),
+        cash: BARE_CASH,
+    })
 }
 
 /// The map of a file for these rules, or the bare map, where no file is named.
@@ -36,7 +43,7 @@ fn read_map_or_bare<'a>(
 {
     match name {
         Some(name) => read_map_bytes(alloc, rules, name, given.map_bytes()),
-        None => Ok(bare_for(alloc, rules)?),
+        None => Ok(bare_map(alloc)?),
     }
 }
 
@@ -51,8 +58,8 @@ pub fn read_setup<'a>(
 ) -> Result<(Rules, Map), Stop<'a>>
     requires { length given.now.rules.items ≤ MAX_FILES }
     ensures made { ReturnsStep result (λ setup. record { rules = setup.0; map = setup.1 })
-        (setup_step (map (λ name. name.now) names.now)
-        (option_map (λ name. name.now) map_file.entry) (given_contents given.now)) }
+        (setup_step (map (λ name. name.now) names.now) (given_contents given.now).rules
+        (option_map (λ name. name.now) map_file.entry) (given_contents given.now).map_file) }
     ensures valid { IfOk result (λ setup. IsSetup (record { rules = setup.0; map = setup.1 })) }
 {
     let (rules, _skipped) = read_typed(alloc, names, &given.rules)?;
@@ -69,8 +76,8 @@ pub fn read_maker<'a>(
 ) -> Result<GameMaker, Stop<'a>>
     requires { length given.now.rules.items ≤ MAX_FILES }
     ensures { ReturnsStep result (λ maker. maker)
-        (setup_step (map (λ name. name.now) names.now)
-        (option_map (λ name. name.now) map_file.entry) (given_contents given.now)) }
+        (setup_step (map (λ name. name.now) names.now) (given_contents given.now).rules
+        (option_map (λ name. name.now) map_file.entry) (given_contents given.now).map_file) }
 {
     let (rules, made) = read_setup(alloc, names, map_file, given)?;
     Ok(GameMaker::new(Rc::new(alloc, rules)?, Rc::new(alloc, made)?))
