@@ -13,6 +13,6 @@ use Rattle.local_command.specs.LocalText.{local_step}
 -- game of the script's seed and clients.
 abbrev pub local_match_step : DrillPlain → Contents → Step (List ℕ)
 local_match_step query contents = do
-  setup ← setup_step query.rules query.map_file contents
+  setup ← setup_step query.rules contents.rules query.map_file contents.map_file
   local_step game_after game_hash game_summary (game_start setup) query.script
-    (unwrap_or contents.script [])
+      (unwrap_or contents.script [])

@@ -1,11 +1,9 @@
 //! The commands that may wait for threads or links.
-ghost use Rattle.std.specs.Prelude.{◌≡◌, ◌≤◌, Some, length, map, string_bytes};
-ghost use Rattle.drill_words.specs.declared.limits.TheConstants.{MAX_DRILL_BYTES};
-ghost use Rattle.command_words.specs.declared.TheConstants.{MAX_FILES};
+ghost use Rattle.std.specs.Prelude.{◌≡◌, ◌≤◌, length, map, string_bytes};
 ghost use Rattle.command_words.specs.RequestPlain.{Local, HasFewFiles, plain_drill, plain_of};
 ghost use Rattle.command_words.specs.Reading.{request_of};
 ghost use Rattle.command_answers.specs.Causes.{causes_of};
-ghost use Rattle.command_answers.specs.Given.{given_contents};
+ghost use Rattle.command_answers.specs.Given.{script_contents};
 ghost use Rattle.command_answers.specs.Outside.{outside};
 ghost use Rattle.command_answers.specs.Stop.{ReturnsStep};
 ghost use Rattle.match_commands.specs.Locals.{local_match_step};
@@ -121,10 +119,7 @@ fn run_local_match<D: Disk, K: Sink, G: Gate + Sync, R: Threads + Wait + Sync>(
 {
     let names = query.rules.as_slice();
     match read_script_files(alloc, disk, names, query.map_file, query.script) {
-        Ok((given, script)) => {
-            let text = match_text(rt, alloc, query, &given, &script, gate);
-            print_text(alloc, text, out)
-        }
+        Ok(given) => print_text(alloc, match_text(rt, alloc, query, &given, gate), out),
         Err(stop) => print_stop(alloc, stop, out),
     }
 }
@@ -134,15 +129,15 @@ fn match_text<'a, G: Gate + Sync, R: Threads + Wait + Sync>(
     rt: &R,
     alloc: Global,
     query: &DrillQuery<'a>,
-    given: &GivenFiles,
-    script: &[u8],
+    given: &(GivenFiles, Vec<u8>),
     gate: &G,
 ) -> Result<Vec<u8>, Stop<'a>>
-    requires rules { length given.now.rules.items ≤ MAX_FILES }
-    requires short { length script.now ≤ MAX_DRILL_BYTES }
-    ensures { ReturnsStep result (λ text. text.items) (local_match_step (plain_drill query.now)
-        (record (given_contents given.now) { script = Some script.now })) }
+    requires rules { length given.now.0.rules.items ≤ MAX_FILES }
+    requires script { length given.now.1.items ≤ MAX_DRILL_BYTES }
+    ensures { ReturnsStep result (λ text. text.items)
+        (local_match_step (plain_drill query.now) (script_contents given.now)) }
 {
-    let maker = read_maker(alloc, query.rules.as_slice(), query.map_file, given)?;
+    let (files, script) = given;
+    let maker = read_maker(alloc, query.rules.as_slice(), query.map_file, files)?;
     local_text(rt, alloc, &maker, query.script, script, gate)
 }
