@@ -1,5 +1,5 @@
 //! The commands that may wait for threads or links.
-ghost use Rattle.std.specs.Prelude.{◌≡◌, ◌≤◌, length, map, string_bytes};
+ghost use Rattle.std.specs.Prelude.{◌≡◌, ◌≤◌, length, map, option_map, slice_get, string_bytes};
 ghost use Rattle.command_words.specs.RequestPlain.{Local, HasFewFiles, plain_drill, plain_of};
 ghost use Rattle.command_words.specs.Reading.{request_of};
 ghost use Rattle.command_answers.specs.Causes.{causes_of};
@@ -8,7 +8,7 @@ ghost use Rattle.command_answers.specs.Outside.{outside};
 ghost use Rattle.command_answers.specs.Stop.{ReturnsStep};
 ghost use Rattle.match_commands.specs.Locals.{local_match_step};
 ghost use Rattle.match_commands.specs.Run.{Runs, RunsRequest};
-ghost use Rattle.match_commands.specs.TopCalls.{waiting, waiting_request};
+ghost use Rattle.match_commands.specs.TopCalls.{names_waiting, waiting, waiting_request};
 
 use command_answers::{
     GivenFiles, OUT_OF_MEMORY, Stop, print_stop, print_text, read_script_files, refuse_words,
@@ -24,7 +24,9 @@ use std::thread::Threads;
 
 /// Whether the word after the program's name is a command of [`run_waiting`], and no one of
 /// [`run`](crate::run).
-pub fn may_wait(words: &[String]) -> bool {
+pub fn may_wait(words: &[String]) -> bool
+    ensures { result ≡ names_waiting (option_map string_bytes (slice_get words.now 1)) }
+{
     match words.get(1) {
         Some(command) => command.as_str() == "local",
         None => false,
