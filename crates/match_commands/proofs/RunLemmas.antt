@@ -1,6 +1,7 @@
 -- A whole run: from the request that the words name, or that they name none.
+use Rattle.std.specs.Prelude.{option_and_then}
 use Rattle.std.proofs.Common.{◌≡◌, ◌⊎◌, ℕ, List, Option, Some, Ok, Err, IsOk, refl, sym, subst, ◌∙◌, inl, inr}
-use Rattle.command_words.specs.RequestPlain.{RequestPlain, Drill, Yaml, Check, Route, Make}
+use Rattle.command_words.specs.RequestPlain.{RequestPlain, Drill, Yaml, Check, Route, Make, Local}
 use Rattle.game_io.specs.Files.{Files}
 use Rattle.command_answers.specs.declared.statuses.TheConstants.{DONE, OUT_OF_MEMORY}
 use Rattle.base.specs.Steps.{◌>>=◌}
@@ -10,6 +11,7 @@ use Rattle.rule_commands.specs.RuleFiles.{yaml_step}
 use Rattle.rule_commands.specs.Checks.{check_step}
 use Rattle.rule_commands.specs.Routes.{route_step}
 use Rattle.match_commands.specs.Drills.{drill_step}
+use Rattle.match_commands.specs.Locals.{local_match_step}
 use Rattle.match_commands.specs.Made.{make_step}
 use Rattle.command_answers.specs.Causes.{Causes, IsQuiet}
 use Rattle.command_answers.specs.Outside.{Outside}
@@ -29,6 +31,7 @@ given_done (Yaml names) contents ok = text_done (yaml_step names contents.rules)
 given_done (Check map_file names) contents ok = text_done (check_step names map_file contents) ok
 given_done (Route query) contents ok = text_done (route_step query contents) ok
 given_done (Make number) contents ok = text_done (make_step number) ok
+given_done (Local query) contents ok = text_done (local_match_step query contents) ok
 
 read_done :
     (request : RequestPlain) (step : Step Contents) → IsOk (step >>= answer_of request) → (replied (step >>= answer_of request)).status ≡ DONE
@@ -48,7 +51,7 @@ complete_of request files status causes old new quiet (inl (inr memory)) faultle
 complete_of request files status causes old new quiet (inr fault) faultless = absurd (quiet.read fault.1)
 
 -- The words name a request, which was run.
-request_runs :
+pub request_runs :
     (request : RequestPlain) (status : ℕ) (causes : Causes) (old new : Outside) →
     RunsRequest request status causes old new → Runs (Some request) status causes old new
 request_runs request status causes old new runs = record {
@@ -64,8 +67,9 @@ request_runs request status causes old new runs = record {
   later = runs.later;
 }
 
-pub accepted_runs :
-    (named : Option RequestPlain) (request : RequestPlain) (status : ℕ) (causes : Causes) (old new : Outside) →
-    named ≡ Some request → RunsRequest request status causes old new → Runs named status causes old new
-accepted_runs named request status causes old new is runs =
-    subst (λ named. Runs named status causes old new) (sym is) (request_runs request status causes old new runs)
+-- The words name a request, which was run or refused by the call whose own requests are these.
+pub named_runs :
+    (own : RequestPlain → Option RequestPlain) (named : Option RequestPlain) (request : RequestPlain) (status : ℕ) (causes : Causes) (old new : Outside) →
+    named ≡ Some request → Runs (own request) status causes old new → Runs (option_and_then own named) status causes old new
+named_runs own named request status causes old new is runs =
+    subst (λ named. Runs (option_and_then own named) status causes old new) (sym is) runs

@@ -3,6 +3,7 @@ use Rattle.std.specs.Prelude.{ℕ, List, map, Option, None, Some, Ok, IsOk}
 use Rattle.base.specs.Steps.{◌>>=◌}
 use Rattle.game_io.specs.Files.{Files}
 use Rattle.command_words.specs.RequestPlain.{RequestPlain, Drill, Yaml, Check, Route, Make}
+use Rattle.command_words.specs.RequestPlain.{Local}
 use Rattle.command_answers.specs.Reply.{Reply, done}
 use Rattle.command_answers.specs.Step.{Step, replied}
 use Rattle.command_answers.specs.WantedFiles.{WantedFiles, no_files, rule_file}
@@ -12,6 +13,7 @@ use Rattle.rule_commands.specs.RuleFiles.{yaml_step}
 use Rattle.rule_commands.specs.Checks.{check_step}
 use Rattle.rule_commands.specs.Routes.{route_step}
 use Rattle.match_commands.specs.Drills.{drill_step}
+use Rattle.match_commands.specs.Locals.{local_match_step}
 use Rattle.match_commands.specs.Made.{make_step}
 
 -- The files that a request wants to be read.
@@ -21,6 +23,7 @@ wanted (Yaml names) = record no_files { rules = map rule_file names }
 wanted (Check map_file names) = rules_and_map names map_file
 wanted (Route query) = rules_and_map query.rules (Some query.map_file)
 wanted (Make number) = no_files
+wanted (Local query) = with_script query.script (rules_and_map query.rules query.map_file)
 
 -- The file that a request names to be written, if it names one.
 abbrev pub written_by : RequestPlain → Option (List ℕ)
@@ -29,6 +32,7 @@ written_by (Yaml names) = None
 written_by (Check map_file names) = None
 written_by (Route query) = None
 written_by (Make number) = None
+written_by (Local query) = None
 
 -- The reply of a command that prints a text alone, or its refusal.
 abbrev pub text_reply : Step (List ℕ) → Step Reply
@@ -42,6 +46,7 @@ answer_of (Yaml names) contents = text_reply (yaml_step names contents.rules)
 answer_of (Check map_file names) contents = text_reply (check_step names map_file contents)
 answer_of (Route query) contents = text_reply (route_step query contents)
 answer_of (Make number) contents = text_reply (make_step number)
+answer_of (Local query) contents = text_reply (local_match_step query contents)
 
 -- The answer to a request whose files have these contents.
 abbrev pub given_reply : RequestPlain → Contents → Reply

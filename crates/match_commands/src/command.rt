@@ -5,6 +5,7 @@ ghost use Rattle.command_words.specs.Reading.{request_of};
 ghost use Rattle.command_answers.specs.Causes.{causes_of};
 ghost use Rattle.command_answers.specs.Outside.{outside};
 ghost use Rattle.match_commands.specs.Run.{Runs, RunsRequest};
+ghost use Rattle.match_commands.specs.TopCalls.{returning, returning_request};
 
 use crate::making::make_text;
 use crate::preparing::prepare_drill;
@@ -19,8 +20,9 @@ use game_io::{Disk, Sink};
 use rule_commands::{check_text, route_text, yaml_text};
 use std::alloc::Global;
 
-/// Runs the command that the words name; the first word is the program's name. It changes no file
-/// that the words don't name to be written, and returns:
+/// Runs the command that the words name, where it is one that always returns; the first word is the
+/// program's name. All other commands are those of [`run_waiting`](crate::run_waiting), and are
+/// refused here as words. It changes no file that the words don't name to be written, and returns:
 ///
 /// - 0, the command is done, and exactly its text was written;
 /// - 2, the words are refused;
@@ -31,7 +33,8 @@ use std::alloc::Global;
 pub fn run<D: Disk, K: Sink>(alloc: Global, words: &[String], disk: &mut D, out: &mut K) -> u8
     ensures { let old = outside (D.state disk.old) (K.state out.old) in
         let new = outside (D.state disk.new) (K.state out.new) in
-        Runs (request_of (map string_bytes words.now)) result (causes_of old new) old new }
+        Runs (returning_request (request_of (map string_bytes words.now))) result
+        (causes_of old new) old new }
 {
     match read_words(alloc, words) {
         Ok(request) => run_request(alloc, &request, disk, out),
@@ -40,7 +43,7 @@ pub fn run<D: Disk, K: Sink>(alloc: Global, words: &[String], disk: &mut D, out:
     }
 }
 
-/// Runs the command of a request.
+/// Runs the command of a request, where it always returns, and refuses every other one as words.
 fn run_request<D: Disk, K: Sink>(
     alloc: Global,
     request: &Request<'_>,
@@ -50,7 +53,7 @@ fn run_request<D: Disk, K: Sink>(
     requires { HasFewFiles request.now }
     ensures { let old = outside (D.state disk.old) (K.state out.old) in
         let new = outside (D.state disk.new) (K.state out.new) in
-        RunsRequest (plain_of request.now) result (causes_of old new) old new }
+        Runs (returning (plain_of request.now)) result (causes_of old new) old new }
 {
     match request {
         Request::Drill(query) => run_script(alloc, query, disk, out),
@@ -58,6 +61,7 @@ fn run_request<D: Disk, K: Sink>(
         Request::Check { map_file, rules } => run_check(alloc, *map_file, rules, disk, out),
         Request::Route(query) => run_route(alloc, query, disk, out),
         Request::Make { number } => print_text(alloc, make_text(alloc, *number), out),
+        Request::Local(_) => refuse_words(out),
     }
 }
 
