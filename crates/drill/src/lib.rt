@@ -32,3 +32,4 @@ pub use outcome::Outcome;
 pub use peers::Peers;
 pub use run::run_drill;
 pub use run_fault::RunFault;
+pub use text::{add_end_line, add_hash, add_world};
