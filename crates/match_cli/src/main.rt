@@ -1,26 +1,9 @@
-//! The program `lockstep`: it reads its words, runs the command that they name over a disk, and
-//! prints the answer.
-//!
-//! `run` is the whole program over any disk and any sink. Its clause says what is printed and which
-//! status is answered, for every list of words and every content of the files. `main` hands it the
-//! real ones.
+//! The program `lockstep`: it hands its words, the real files and the real output to `run`.
 #![tactic(auto)]
 
-mod check;
-mod command;
-mod files;
-mod print;
-mod refusals;
-mod route_fault;
-mod routes;
-mod rules;
-mod statuses;
-mod stop;
-mod worlds;
-
-use crate::statuses::OUT_OF_MEMORY;
-pub use command::run;
+use command_answers::OUT_OF_MEMORY;
 use game_io::{FileDisk, StdSink};
+use match_commands::run;
 use std::io::ErrorKind;
 use std::process::ExitCode;
 use std::{env, io};
@@ -48,5 +31,3 @@ fn main(rt: HostRuntime) -> ExitCode {
     ExitCode::from(run(rt.alloc(), &words, &mut disk, &mut out))
 }
 
-#[cfg(test)]
-mod tests;
