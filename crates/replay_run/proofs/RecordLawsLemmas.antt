@@ -53,6 +53,21 @@ first_agrees :
     first_difference hash_at ((n, hash) ∷ rest) ≡ first_difference hash_at rest
 first_agrees hash_at n hash rest same = rw same refl
 
+unequal : (a b : ℕ) → (a == b) ≡ false → a ≡ b → ⊥
+unequal a b test same = grind (arith, nat_tests)
+
+least_of_mark :
+    (hash_at : ℕ → ℕ) (first : ℕ × ℕ) (rest : List (ℕ × ℕ)) (frames : ℕ) →
+    (first.1 ≢ hash_at first.0 → frames ≤ first.0) →
+    ((i : ℕ) (mark : ℕ × ℕ) → slice_get rest i ≡ Some mark → mark.1 ≢ hash_at mark.0 →
+    frames ≤ mark.0) →
+    (i : ℕ) (mark : ℕ × ℕ) → slice_get (first ∷ rest) i ≡ Some mark →
+    mark.1 ≢ hash_at mark.0 → frames ≤ mark.0
+least_of_mark hash_at first rest frames here later zero mark at =
+    let same : first ≡ mark = cc in
+    subst (λ (m : ℕ × ℕ). m.1 ≢ hash_at m.0 → frames ≤ m.0) same here
+least_of_mark hash_at first rest frames here later (suc i) mark at = later i mark at
+
 -- The first differing mark is the one with the fewest frames before it.
 least_from :
     (hash_at : ℕ → ℕ) (n : ℕ) (parts : List Part) (d : Difference) →
@@ -77,7 +92,7 @@ least_from hash_at n (Mark hash ∷ parts) d is =
           here = later.here;
           differs = later.differs;
           least =
-              least_of_mark (n, hash) (marks_after n parts) d.frames
+              least_of_mark hash_at (n, hash) (marks_after n parts) d.frames
               (λ other. absurd (other equal)) later.least;
         }
     by_test false other rest =
@@ -94,31 +109,39 @@ least_from hash_at n (Mark hash ∷ parts) d is =
               omega (arith, frames, marks_from n (Mark hash ∷ parts) i mark at);
         }
 
-    unequal : (a b : ℕ) → (a == b) ≡ false → a ≡ b → ⊥
-    unequal a b test same = grind (arith, nat_tests)
-
-    least_of_mark :
-        (first : ℕ × ℕ) (rest : List (ℕ × ℕ)) (frames : ℕ) →
-        (first.1 ≢ hash_at first.0 → frames ≤ first.0) →
-        ((i : ℕ) (mark : ℕ × ℕ) → slice_get rest i ≡ Some mark → mark.1 ≢ hash_at mark.0 →
-        frames ≤ mark.0) →
-        (i : ℕ) (mark : ℕ × ℕ) → slice_get (first ∷ rest) i ≡ Some mark →
-        mark.1 ≢ hash_at mark.0 → frames ≤ mark.0
-    least_of_mark first rest frames here later zero mark at =
-        let same : first ≡ mark = cc in
-        subst (λ (m : ℕ × ℕ). m.1 ≢ hash_at m.0 → frames ≤ m.0) same here
-    least_of_mark first rest frames here later (suc i) mark at = later i mark at
-
 pub least_difference :
     (hash_at : ℕ → ℕ) (parts : List Part) (d : Difference) →
     first_difference hash_at (marks_of parts) ≡ Some d →
     IsLeastDifference hash_at (marks_of parts) d
 least_difference hash_at parts d is = least_from hash_at 0 parts d is
 
+never_none :
+    (hash_at : ℕ → ℕ) (n hash : ℕ) (rest : List (ℕ × ℕ)) → (hash == hash_at n) ≡ false →
+    first_difference hash_at ((n, hash) ∷ rest) ≡ None → ⊥
+never_none hash_at n hash rest differs none =
+    let found : first_difference hash_at ((n, hash) ∷ rest)
+    ≡ Some (difference_at hash_at (n, hash)) = rw differs refl in
+    let never : None ≡ Some (difference_at hash_at (n, hash)) = sym none ∙ found in
+    cc
+
+agree_cons :
+    (hash_at : ℕ → ℕ) (first : ℕ × ℕ) (rest : List (ℕ × ℕ)) → first.1 ≡ hash_at first.0 →
+    AllAgree hash_at rest → (i : ℕ) (mark : ℕ × ℕ) → slice_get (first ∷ rest) i ≡ Some mark →
+    mark.1 ≡ hash_at mark.0
+agree_cons hash_at first rest here later zero mark at =
+    let same : first ≡ mark = cc in
+    subst (λ (m : ℕ × ℕ). m.1 ≡ hash_at m.0) same here
+agree_cons hash_at first rest here later (suc i) mark at = later i mark at
+
+nothing_there :
+    (hash_at : ℕ → ℕ) (i : ℕ) (mark : ℕ × ℕ) → slice_get [] i ≡ Some mark →
+    mark.1 ≡ hash_at mark.0
+nothing_there hash_at i mark at = absurd cc
+
 agree_from :
     (hash_at : ℕ → ℕ) (marks : List (ℕ × ℕ)) → first_difference hash_at marks ≡ None →
     AllAgree hash_at marks
-agree_from hash_at [] none i mark at = absurd cc
+agree_from hash_at [] none = nothing_there hash_at
 agree_from hash_at ((n, hash) ∷ marks) none =
     by_test (hash == hash_at n) refl (agree_from hash_at marks)
   where
@@ -126,17 +149,11 @@ agree_from hash_at ((n, hash) ∷ marks) none =
         (same : Bool) → (hash == hash_at n) ≡ same →
         (first_difference hash_at marks ≡ None → AllAgree hash_at marks) →
         AllAgree hash_at ((n, hash) ∷ marks)
-    by_test true same rest zero mark at =
+    by_test true same rest =
         let equal : hash ≡ hash_at n = grind (arith, nat_tests) in
-        let is : (n, hash) ≡ mark = cc in
-        subst (λ (m : ℕ × ℕ). m.1 ≡ hash_at m.0) is equal
-    by_test true same rest (suc i) mark at =
-        rest (sym (first_agrees hash_at n hash marks same) ∙ none) i mark at
-    by_test false other rest i mark at =
-        absurd (let found : first_difference hash_at ((n, hash) ∷ marks)
-        ≡ Some (difference_at hash_at (n, hash)) = rw other refl in
-        let never : None ≡ Some (difference_at hash_at (n, hash)) = sym none ∙ found in
-        cc)
+        agree_cons hash_at (n, hash) marks equal
+        (rest (sym (first_agrees hash_at n hash marks same) ∙ none))
+    by_test false other rest = absurd (never_none hash_at n hash marks other none)
 
 pub no_difference :
     (hash_at : ℕ → ℕ) (parts : List Part) → first_difference hash_at (marks_of parts) ≡ None →
@@ -170,7 +187,7 @@ marks_more :
     (n : ℕ) (parts : List Part) (frame : List Entry) (hash : ℕ) →
     marks_after n ((parts ++ Frame frame ∷ []) ++ Mark hash ∷ [])
     ≡ marks_after n parts ++ (n + length (frames_of parts) + 1, hash) ∷ []
-marks_more n [] frame hash = refl
+marks_more n [] frame hash = ap (λ (k : ℕ). (k, hash) ∷ []) (omega arith)
 marks_more n (Frame entries ∷ parts) frame hash =
     marks_more (n + 1) parts frame hash
     ∙ ap (λ (k : ℕ). marks_after (n + 1) parts ++ (k, hash) ∷ []) (omega arith)
@@ -178,7 +195,7 @@ marks_more n (Mark mark ∷ parts) frame hash =
     ap (λ (others : List (ℕ × ℕ)). (n, mark) ∷ others) (marks_more n parts frame hash)
 
 -- The first frames of a source.
-first_frames : (ℕ → List Entry) → ℕ → List (List Entry)
+abbrev first_frames : (ℕ → List Entry) → ℕ → List (List Entry)
 first_frames frames zero = []
 first_frames frames (suc n) = first_frames frames n ++ frames n ∷ []
 
@@ -187,7 +204,6 @@ length_added [] x = refl
 length_added (y ∷ xs) x = omega (arith, length_added xs x)
 
 first_count : (frames : ℕ → List Entry) (n : ℕ) → length (first_frames frames n) ≡ n
-unfolding first_frames
 first_count frames zero = refl
 first_count frames (suc n) =
     omega (arith, length_added (first_frames frames n) (frames n), first_count frames n)
@@ -203,28 +219,28 @@ get_last : (xs : List (List Entry)) (y : List Entry) → slice_get (xs ++ y ∷ 
 get_last [] y = refl
 get_last (x ∷ xs) y = get_last xs y
 
+next_get :
+    (frames : ℕ → List Entry) (n k : ℕ) →
+    (k < n → slice_get (first_frames frames n) k ≡ Some (frames k)) → (k < n) ⊎ (k ≡ n) →
+    slice_get (first_frames frames (suc n)) k ≡ Some (frames k)
+next_get frames n k before (inl less) =
+    get_before (first_frames frames n) (frames n) k (omega (arith, less, first_count frames n))
+    ∙ before less
+next_get frames n k before (inr same) =
+    let last : k ≡ length (first_frames frames n) = omega (arith, same, first_count frames n) in
+    ap (slice_get (first_frames frames (suc n))) last
+    ∙ get_last (first_frames frames n) (frames n)
+    ∙ ap (λ (i : ℕ). Some (frames i)) (sym same)
+
 first_get :
     (frames : ℕ → List Entry) (n k : ℕ) → k < n →
     slice_get (first_frames frames n) k ≡ Some (frames k)
-unfolding first_frames
 first_get frames zero k below = absurd (omega (arith, below))
-first_get frames (suc n) k below = by_place (grind (arith, below))
-  where
-    by_place :
-        (k < n) ⊎ (k ≡ n) → slice_get (first_frames frames (suc n)) k ≡ Some (frames k)
-    by_place (inl less) =
-        get_before (first_frames frames n) (frames n) k (omega (arith, less, first_count frames n))
-        ∙ first_get frames n k less
-    by_place (inr same) =
-        let last : k ≡ length (first_frames frames n) = omega (arith, same, first_count frames n) in
-        ap (slice_get (first_frames frames (suc n))) last
-        ∙ get_last (first_frames frames n) (frames n)
-        ∙ ap (λ (i : ℕ). Some (frames i)) (sym same)
+first_get frames (suc n) k below = next_get frames n k (first_get frames n k) (grind arith)
 
 frames_recorded :
     (frames : ℕ → List Entry) (hash : ℕ → ℕ) (n : ℕ) →
     frames_of (recorded frames hash n) ≡ first_frames frames n
-unfolding first_frames
 frames_recorded frames hash zero = refl
 frames_recorded frames hash (suc n) =
     frames_more (recorded frames hash n) (frames n) (hash n)
@@ -248,19 +264,17 @@ frame_recorded frames hash n k below =
 agree_more :
     (hash_at : ℕ → ℕ) (marks : List (ℕ × ℕ)) (n hash : ℕ) → AllAgree hash_at marks →
     hash ≡ hash_at n → AllAgree hash_at (marks ++ (n, hash) ∷ [])
-agree_more hash_at [] n hash agree here zero mark at =
-    let is : (n, hash) ≡ mark = cc in
-    subst (λ (m : ℕ × ℕ). m.1 ≡ hash_at m.0) is here
-agree_more hash_at [] n hash agree here (suc i) mark at = absurd cc
-agree_more hash_at (first ∷ marks) n hash agree here zero mark at = agree 0 mark at
-agree_more hash_at (first ∷ marks) n hash agree here (suc i) mark at =
-    agree_more hash_at marks n hash (λ j m a. agree (suc j) m a) here i mark at
+agree_more hash_at [] n hash agree here =
+    agree_cons hash_at (n, hash) [] here (nothing_there hash_at)
+agree_more hash_at (first ∷ marks) n hash agree here =
+    agree_cons hash_at first (marks ++ (n, hash) ∷ []) (agree 0 first refl)
+    (agree_more hash_at marks n hash (λ i mark at. agree (suc i) mark at) here)
 
 marks_recorded :
     (frames : ℕ → List Entry) (hash hash_at : ℕ → ℕ) (n : ℕ) →
     ((k : ℕ) → k < n → hash k ≡ hash_at (k + 1)) →
     AllAgree hash_at (marks_of (recorded frames hash n))
-marks_recorded frames hash hash_at zero same = λ i mark at. absurd cc
+marks_recorded frames hash hash_at zero same = nothing_there hash_at
 marks_recorded frames hash hash_at (suc n) same =
     let before = recorded frames hash n in
     let last : length (frames_of before) + 1 ≡ n + 1 =
@@ -301,12 +315,10 @@ record_replayed m first_hash rules seed columns n =
 marks_agree_anew :
     (hash_at other : ℕ → ℕ) (marks : List (ℕ × ℕ)) → ((n : ℕ) → hash_at n ≡ other n) →
     AllAgree other (map (anew hash_at) marks)
-marks_agree_anew hash_at other [] same i mark at = absurd cc
-marks_agree_anew hash_at other (first ∷ marks) same zero mark at =
-    let is : anew hash_at first ≡ mark = cc in
-    subst (λ (m : ℕ × ℕ). m.1 ≡ other m.0) is (same first.0)
-marks_agree_anew hash_at other (first ∷ marks) same (suc i) mark at =
-    marks_agree_anew hash_at other marks same i mark at
+marks_agree_anew hash_at other [] same = nothing_there other
+marks_agree_anew hash_at other (first ∷ marks) same =
+    agree_cons other (anew hash_at first) (map (anew hash_at) marks) (same first.0)
+    (marks_agree_anew hash_at other marks same)
 
 -- A migrated replay gives what the old one gives, if no mark of that differs.
 pub migrated_replayed :

@@ -1,6 +1,7 @@
 -- A migration gone over part by part writes the migrated replay.
 use Rattle.std.specs.Prelude.{◌≡◌, ℕ, ◌+◌, ◌<◌, ◌≤◌, ◌^◌, Bool, true, false, List, [], ◌∷◌, ◌++◌}
 use Rattle.std.specs.Prelude.{length, Option, Some, None}
+use Rattle.std.specs.Global.{Vec}
 use Rattle.std.specs.List.{AllByRecursion}
 use Rattle.std.proofs.Common.{refl, sym, ap, ap₂, subst, ◌∙◌, arith, append_assoc}
 use Rattle.std.proofs.lemmas.List.{append-nil}
@@ -19,11 +20,12 @@ use Rattle.replay_file.specs.ReplayBytes.{header_bytes, replay_bytes, FitsReplay
 use Rattle.replay_file.specs.ValidReplay.{IsValidReplay}
 use Rattle.replay_run.specs.declared.difference.Difference.{Difference}
 use Rattle.replay_run.specs.declared.replayed.Replayed.{Replayed}
-use Rattle.replay_run.specs.Migrating.{marked_part, marks_in}
+use Rattle.replay_run.specs.declared.migration.Migration.TheVariants.{Migrated}
+use Rattle.replay_run.specs.Migrating.{marked_part, marks_in, Migrates}
 use Rattle.replay_run.specs.Passing.{first_of, passed}
 use Rattle.replay_run.specs.Rerun.{Rerun, difference_of, first_difference, frame_count}
 use Rattle.replay_run.specs.Rerun.{hash_in, mark_count, mark_hash, migrated_over, world_in}
-use Rattle.replay_run.specs.RerunLemmas.{IsSoFar}
+use Rattle.replay_run.specs.RerunLemmas.{IsSoFar, all_passed}
 
 -- No mark stands directly after a mark, so there are few.
 one_more : Bool → ℕ
@@ -39,7 +41,7 @@ few_after :
     (version : ℕ) (s : Standing) (n : ℕ) (parts : List Part) → EachMayFollow version s parts →
     length (marks_after n parts) + one_more s.marked ≤ length (frames_of parts) + 1
 unfolding one_more
-few_after version s n [] follow = at_most s.marked
+few_after version s n [] follow = omega (arith, at_most s.marked)
 few_after version s n (Frame entries ∷ parts) follow =
     let rest = few_after version (after_part s (Frame entries)) (n + 1) parts follow.1 in
     omega (arith, rest, at_most s.marked)
@@ -66,23 +68,26 @@ pub record IsWritten {W : Type 0}
   pub fits :
       AllByRecursion FitsPart (marked_anew (new_hash run r) frames left) →
       AllByRecursion FitsPart (migrated_over run r).parts
-  pub marks : marks + length (marks_after frames left) ≡ mark_count r
+  pub count : marks + length (marks_after frames left) ≡ mark_count r
   pub few : mark_count r ≤ MAX_FRAMES + 1
 
 -- Nothing but the header was written.
 pub written_begins :
-    {W : Type 0} (run : Rerun W) (r : Replay) (head : List ℕ) → IsValidReplay r →
-    frame_count r ≤ MAX_FRAMES → IsWritten run r head r.parts 0 head 0
-written_begins run r head valid few =
-    record {
+    {W : Type 0} (run : Rerun W) (r : Replay) (head written : List ℕ) (left : List Part)
+    (so_far : Replayed W) → IsValidReplay r → IsSoFar run r left so_far → left ≡ r.parts →
+    written ≡ head → IsWritten run r head left 0 written 0
+written_begins run r head written left so_far valid is all headed =
+    let here : IsWritten run r head r.parts 0 head 0 = record {
       bytes = refl;
       fits = λ all. all;
-      marks = refl;
-      few = omega (arith, few_marks r valid, few);
-    }
+      count = omega arith;
+      few = omega (arith, few_marks r valid, is.few);
+    } in
+    subst (λ (bytes : List ℕ). IsWritten run r head left 0 bytes 0) (sym headed)
+    (subst (λ (parts : List Part). IsWritten run r head parts 0 head 0) (sym all) here)
 
 -- One more part was written.
-pub written_more :
+written_more :
     {W : Type 0} (run : Rerun W) (r : Replay) (head : List ℕ) (part : Part) (left : List Part)
     (so_far : Replayed W) (old new : List ℕ) (marks more : ℕ) → IsSoFar run r (part ∷ left) so_far →
     new ≡ old ++ part_bytes (marked_part
@@ -99,7 +104,7 @@ written_more run r head (Frame entries) left so_far old new marks more is added 
           ap (λ (xs : List ℕ). xs ++ rest) added
           ∙ append_assoc old (part_bytes (Frame entries)) rest ∙ written.bytes;
       fits = λ all. written.fits (fits, all);
-      marks = omega (arith, written.marks, none);
+      count = omega (arith, written.count, none);
       few = written.few;
     }
 written_more run r head (Mark file) left so_far old new marks more is added fits one written =
@@ -113,19 +118,50 @@ written_more run r head (Mark file) left so_far old new marks more is added fits
           ∙ written.bytes;
       fits = λ all.
           written.fits (subst (λ (h : ℕ). FitsPart (Mark h)) here fits, all);
-      marks = omega (arith, written.marks, one);
+      count = omega (arith, written.count, one);
       few = written.few;
     }
 
+-- The same where the part is the first of those that were left.
+pub written_step :
+    {W : Type 0} (run : Rerun W) (r : Replay) (head : List ℕ) (part : Part)
+    (left rest : List Part) (so_far next : Replayed W) (old new : List ℕ) (marks more : ℕ) →
+    IsSoFar run r left so_far → left ≡ part ∷ rest →
+    next ≡ passed run.after (mark_hash run r.version) so_far part →
+    new ≡ old ++ part_bytes (marked_part (run.hash next.world) part) →
+    FitsPart (marked_part (run.hash next.world) part) → more ≡ marks_in part →
+    IsWritten run r head left so_far.frames old marks →
+    IsWritten run r head rest next.frames new (marks + more)
+written_step run r head part left rest so_far next old new marks more is taken passes added fits few written =
+    let there : IsSoFar run r (part ∷ rest) so_far =
+    subst (λ (parts : List Part). IsSoFar run r parts so_far) taken is in
+    let before : IsWritten run r head (part ∷ rest) so_far.frames old marks =
+    subst (λ (parts : List Part). IsWritten run r head parts so_far.frames old marks) taken written in
+    subst (λ (s : Replayed W). IsWritten run r head rest s.frames new (marks + more)) (sym passes)
+    (written_more run r head part rest so_far old new marks more there
+    (added
+    ∙ ap (λ (s : Replayed W). old ++ part_bytes (marked_part (run.hash s.world) part)) passes)
+    (subst (λ (s : Replayed W). FitsPart (marked_part (run.hash s.world) part)) passes fits) few
+    before)
+
 -- The count of marks stays small.
-pub marks_fit :
+marks_fit :
     {W : Type 0} (run : Rerun W) (r : Replay) (head : List ℕ) (part : Part) (left : List Part)
     (frames : ℕ) (written : List ℕ) (marks more : ℕ) → more ≡ marks_in part →
     IsWritten run r head (part ∷ left) frames written marks → marks + more < 2 ^ 32
 marks_fit run r head (Frame entries) left frames written marks more none is =
-    omega (arith, is.marks, is.few, none)
+    omega (arith, is.count, is.few, none)
 marks_fit run r head (Mark file) left frames written marks more one is =
-    omega (arith, is.marks, is.few, one)
+    omega (arith, is.count, is.few, one)
+
+pub marks_fit_left :
+    {W : Type 0} (run : Rerun W) (r : Replay) (head : List ℕ) (part : Part)
+    (left rest : List Part) (frames : ℕ) (written : List ℕ) (marks more : ℕ) →
+    left ≡ part ∷ rest → more ≡ marks_in part → IsWritten run r head left frames written marks →
+    marks + more < 2 ^ 32
+marks_fit_left run r head part left rest frames written marks more taken few is =
+    marks_fit run r head part rest frames written marks more few
+    (subst (λ (parts : List Part). IsWritten run r head parts frames written marks) taken is)
 
 -- A difference that was found is that of the replay.
 pub difference_found :
@@ -137,19 +173,24 @@ difference_found run r left so_far d is found =
 
 -- All was written.
 pub all_written :
-    {W : Type 0} (run : Rerun W) (r : Replay) (so_far : Replayed W) (head written bytes : List ℕ)
-    (marks : ℕ) → IsValidReplay r → FitsReplay r →
-    head ≡ header_bytes VERSION r.rules r.seed r.clients → IsSoFar run r [] so_far →
-    IsWritten run r head [] so_far.frames written marks → bytes ≡ written ++ end_bytes →
-    Spells r.rules bytes (migrated_over run r) × (so_far.frames ≡ frame_count r)
-    × (marks ≡ mark_count r)
+    {W : Type 0} (run : Rerun W) (r : Replay) (so_far : Replayed W) (left : List Part)
+    (head written : List ℕ) (bytes : Vec ℕ) (marks : ℕ) → IsValidReplay r → FitsReplay r →
+    head ≡ header_bytes VERSION r.rules r.seed r.clients → IsSoFar run r left so_far →
+    so_far.difference ≡ None → left ≡ [] →
+    IsWritten run r head left so_far.frames written marks → bytes.items ≡ written ++ end_bytes →
+    Migrates run r (Migrated bytes so_far.frames marks)
 unfolding replay_bytes
-all_written run r so_far head written bytes marks valid fits headed is all ended =
+all_written run r so_far left head written bytes marks valid fits headed is none ended all finished =
     let new = migrated_over run r in
     let header = header_bytes VERSION r.rules r.seed r.clients in
+    let last : IsSoFar run r [] so_far =
+    subst (λ (parts : List Part). IsSoFar run r parts so_far) ended is in
+    let whole : IsWritten run r head [] so_far.frames written marks =
+    subst (λ (parts : List Part). IsWritten run r head parts so_far.frames written marks) ended
+    all in
     let body : written ≡ head ++ parts_bytes new.parts =
-    sym (append-nil written) ∙ all.bytes in
-    let spells : Spells r.rules bytes new = record {
+    sym (append-nil written) ∙ whole.bytes in
+    let spells : Spells r.rules bytes.items new = record {
       rules = refl;
       valid = migrated_valid (new_hash run r) r valid;
       fits = record {
@@ -157,12 +198,20 @@ all_written run r so_far head written bytes marks valid fits headed is all ended
         rules = fits.rules;
         seed = fits.seed;
         clients = fits.clients;
-        parts = all.fits tt;
+        parts = whole.fits tt;
       };
       spelled =
-          ended
+          finished
           ∙ ap (λ (xs : List ℕ). xs ++ end_bytes)
           (body ∙ ap (λ (h : List ℕ). h ++ parts_bytes new.parts) headed)
           ∙ append_assoc header (parts_bytes new.parts) end_bytes;
     } in
-    (spells, omega (arith, is.count), omega (arith, all.marks))
+    let replays = all_passed run r [] so_far last refl in (
+      sym (ap (λ (s : Replayed W). s.difference) replays) ∙ none,
+      spells,
+      omega (arith, last.count),
+      omega (arith, whole.count),
+    )
+
+pub ruleset migrate_steps =
+    (written_begins, written_step, marks_fit_left, difference_found, all_written)

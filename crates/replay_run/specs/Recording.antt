@@ -1,5 +1,5 @@
 -- The replay of a match.
-use Rattle.std.specs.Prelude.{ℕ, zero, suc, ◌+◌, List, [], ◌∷◌, ◌++◌, slice_get, unwrap_or}
+use Rattle.std.specs.Prelude.{ℕ, zero, suc, ◌+◌, List, [], ◌∷◌, ◌++◌, slice_index_or}
 use Rattle.game_orders.specs.declared.entry.Entry.{Entry}
 use Rattle.frame_core.specs.Column.{Column}
 use Rattle.frame_core.specs.Match.{Match, agreed_hash}
@@ -18,7 +18,7 @@ recorded frames hash_after (suc n) =
 -- The same with marks that stand in a list, one for each frame.
 abbrev pub recorded_by : List Column → (marks : List ℕ) → ℕ → List Part
 recorded_by columns marks n =
-    recorded (frame_at columns) (λ k. unwrap_or (slice_get marks k) 0) n
+    recorded (frame_at columns) (λ k. slice_index_or marks k 0) n
 
 -- The hash of the agreed world after frame n.
 abbrev pub hash_after_frame : {W : Type 0} → Match W → List Column → ℕ → ℕ

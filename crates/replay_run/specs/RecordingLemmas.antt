@@ -1,10 +1,11 @@
 -- The replay of a match is valid, and its bytes are those that were written.
 use Rattle.std.specs.Prelude.{◌≡◌, ℕ, zero, suc, ◌+◌, ◌<◌, ◌≤◌, ◌^◌, Bool, true, false, not, ◌&&◌}
 use Rattle.std.specs.Prelude.{List, [], ◌∷◌, ◌++◌, length, map, replicate, slice_get}
-use Rattle.std.specs.Prelude.{Option, Some, None, unwrap_or}
+use Rattle.std.specs.Prelude.{Option, Some, None, Result, Ok, Err, IfOk, slice_index_or}
+use Rattle.std.specs.Global.{Vec}
 use Rattle.std.specs.List.{AllByRecursion, list_any}
 use Rattle.std.proofs.Common.{refl, sym, ap, ap₂, subst, ◌∙◌, arith, add-one, append_assoc}
-use Rattle.std.proofs.lemmas.Option.{slice_get_past}
+use Rattle.std.proofs.lemmas.Option.{get_or_from_slice_get}
 use Rattle.game_orders.specs.declared.order.Order.{Order}
 use Rattle.game_orders.specs.declared.entry.Entry.{Entry}
 use Rattle.game_orders.specs.declared.entry.Entry.TheVariants.{Play, Leave}
@@ -139,22 +140,20 @@ pub record_agreed :
     marks ≡ agreed_marks m columns n →
     recorded_by columns marks n ≡ recorded (frame_at columns) (hash_after_frame m columns) n
 record_agreed m columns marks n are =
-    record_same (frame_at columns) (λ k. unwrap_or (slice_get marks k) 0)
-    (hash_after_frame m columns) n
-    (λ k below. ap (λ (o : Option ℕ). unwrap_or o 0)
+    record_same (frame_at columns) (λ k. slice_index_or marks k 0) (hash_after_frame m columns) n
+    (λ k below. get_or_from_slice_get marks k (hash_after_frame m columns k) 0
     (ap (λ (xs : List ℕ). slice_get xs k) are ∙ agreed_mark m columns n k below))
 
 -- One more frame and its mark are written.
 pub frame_written :
-    (columns : List Column) (marks : List ℕ) (n mark : ℕ) (old mid new after : List ℕ) →
-    old ≡ after ++ parts_bytes (recorded_by columns marks n) →
-    mid ≡ old ++ part_bytes (Frame (frame_at columns n)) →
-    new ≡ mid ++ part_bytes (Mark mark) → slice_get marks n ≡ Some mark →
+    (columns : List Column) (marks : List ℕ) (n : ℕ) (frame : List Entry) (mark : ℕ)
+    (old mid new after : List ℕ) → old ≡ after ++ parts_bytes (recorded_by columns marks n) →
+    mid ≡ old ++ part_bytes (Frame frame) → new ≡ mid ++ part_bytes (Mark mark) →
+    frame ≡ frame_at columns n → mark ≡ slice_index_or marks n 0 →
     new ≡ after ++ parts_bytes (recorded_by columns marks (n + 1))
-frame_written columns marks n mark old mid new after so_far frame marked at =
+frame_written columns marks n frame mark old mid new after so_far added marked is at =
     let before = recorded_by columns marks n in
-    let f = Frame (frame_at columns n) in
-    let hash : unwrap_or (slice_get marks n) 0 ≡ mark = ap (λ (o : Option ℕ). unwrap_or o 0) at in
+    let f = Frame frame in
     let all : parts_bytes ((before ++ f ∷ []) ++ Mark mark ∷ [])
     ≡ (parts_bytes before ++ part_bytes f) ++ part_bytes (Mark mark) =
     bytes_more (before ++ f ∷ []) (Mark mark)
@@ -163,30 +162,30 @@ frame_written columns marks n mark old mid new after so_far frame marked at =
     ≡ after ++ ((parts_bytes before ++ part_bytes f) ++ part_bytes (Mark mark)) =
     marked
     ∙ ap (λ (xs : List ℕ). xs ++ part_bytes (Mark mark))
-    (frame ∙ ap (λ (xs : List ℕ). xs ++ part_bytes f) so_far
+    (added ∙ ap (λ (xs : List ℕ). xs ++ part_bytes f) so_far
     ∙ append_assoc after (parts_bytes before) (part_bytes f))
     ∙ append_assoc after (parts_bytes before ++ part_bytes f) (part_bytes (Mark mark)) in
-    let last : recorded_by columns marks (suc n) ≡ (before ++ f ∷ []) ++ Mark mark ∷ [] =
-    ap (λ (h : ℕ). (before ++ f ∷ []) ++ Mark h ∷ []) hash in
+    let last : (before ++ f ∷ []) ++ Mark mark ∷ [] ≡ recorded_by columns marks (suc n) =
+    ap₂ (λ (e : List Entry) (h : ℕ). (before ++ Frame e ∷ []) ++ Mark h ∷ []) is at in
     grouped ∙ ap (λ (xs : List ℕ). after ++ xs) (sym all)
-    ∙ ap (λ (ps : List Part). after ++ parts_bytes ps) (sym last)
-    ∙ ap (λ (k : ℕ). after ++ parts_bytes (recorded_by columns marks k)) (sym add-one)
+    ∙ ap (λ (ps : List Part). after ++ parts_bytes ps) last
+    ∙ ap (λ (k : ℕ). after ++ parts_bytes (recorded_by columns marks k)) (sym (add-one n))
 
 -- One more frame and its mark fit.
 pub frame_fits_too :
-    (columns : List Column) (marks : List ℕ) (n mark : ℕ) →
-    AllByRecursion FitsPart (recorded_by columns marks n) →
-    FitsPart (Frame (frame_at columns n)) → mark < 2 ^ 64 → slice_get marks n ≡ Some mark →
+    (columns : List Column) (marks : List ℕ) (n : ℕ) (frame : List Entry) (mark : ℕ) →
+    AllByRecursion FitsPart (recorded_by columns marks n) → FitsPart (Frame frame) →
+    mark < 2 ^ 64 → frame ≡ frame_at columns n → mark ≡ slice_index_or marks n 0 →
     AllByRecursion FitsPart (recorded_by columns marks (n + 1))
-frame_fits_too columns marks n mark so_far frame fits at =
-    let hash : mark ≡ unwrap_or (slice_get marks n) 0 =
-    ap (λ (o : Option ℕ). unwrap_or o 0) (sym at) in
+frame_fits_too columns marks n frame mark so_far fits below is at =
+    let before = recorded_by columns marks n in
     let both =
-    all_added FitsPart (recorded_by columns marks n ++ Frame (frame_at columns n) ∷ [])
-    (Mark (unwrap_or (slice_get marks n) 0))
-    (all_added FitsPart (recorded_by columns marks n) (Frame (frame_at columns n)) so_far frame)
-    (subst (λ (h : ℕ). h < 2 ^ 64) hash fits) in
-    subst (λ (k : ℕ). AllByRecursion FitsPart (recorded_by columns marks k)) (sym add-one) both
+    all_added FitsPart (before ++ Frame frame ∷ []) (Mark mark)
+    (all_added FitsPart before (Frame frame) so_far fits) below in
+    let last : (before ++ Frame frame ∷ []) ++ Mark mark ∷ [] ≡ recorded_by columns marks (suc n) =
+    ap₂ (λ (e : List Entry) (h : ℕ). (before ++ Frame e ∷ []) ++ Mark h ∷ []) is at in
+    subst (λ (k : ℕ). AllByRecursion FitsPart (recorded_by columns marks k)) (sym (add-one n))
+    (subst (AllByRecursion FitsPart) last both)
 
 -- What was written is the spelling of the match's replay.
 pub record_spells :
@@ -231,3 +230,20 @@ record_spells m rules seed clients ticked columns marks head parts bytes count l
           (parted ∙ ap₂ (λ (h : List ℕ) (ps : List Part). h ++ parts_bytes ps) head_is same)
           ∙ append_assoc header (parts_bytes all) end_bytes;
     }
+
+-- The same of a call that may be out of memory.
+pub record_returns :
+    {W E : Type 0} (m : Match W) (rules seed clients ticked : ℕ) (columns : List Column)
+    (marks head parts : List ℕ) (result : Result (Vec ℕ) E) → clients ≡ length columns →
+    1 ≤ clients → clients ≤ MAX_CLIENTS → rules < 2 ^ 64 → seed < 2 ^ 32 → ticked ≤ MAX_FRAMES →
+    AreReady columns ticked → AllByRecursion FitsPart (recorded_by columns marks ticked) →
+    head ≡ header_bytes VERSION rules seed clients →
+    parts ≡ head ++ parts_bytes (recorded_by columns marks ticked) →
+    IfOk result (λ bytes. bytes.items ≡ parts ++ end_bytes) →
+    m.clients ≡ length columns → marks ≡ agreed_marks m columns ticked →
+    IfOk result (λ bytes. Spells rules bytes.items (replay_of m rules seed columns ticked))
+record_returns m rules seed clients ticked columns marks head parts (Ok bytes) count least most rules_fit seed_fits few ready fits headed parted ended here are =
+    record_spells m rules seed clients ticked columns marks head parts bytes.items count least most
+    rules_fit seed_fits few ready fits headed parted ended here are
+record_returns m rules seed clients ticked columns marks head parts (Err error) count least most rules_fit seed_fits few ready fits headed parted ended here are =
+    tt

@@ -40,29 +40,30 @@ pub record IsSoFar {W : Type 0}
 
 -- Nothing was gone over yet.
 pub begins :
-    {W : Type 0} (run : Rerun W) (r : Replay) (so_far : Replayed W) → IsValidReplay r →
-    so_far.difference ≡ None → so_far.frames ≡ 0 → so_far.world ≡ run.start →
-    IsSoFar run r r.parts so_far
-begins run r so_far valid none zero world =
+    {W : Type 0} (run : Rerun W) (r : Replay) (left : List Part) (so_far : Replayed W) →
+    IsValidReplay r → left ≡ r.parts → so_far.difference ≡ None → so_far.frames ≡ 0 →
+    so_far.world ≡ run.start → IsSoFar run r left so_far
+begins run r left so_far valid all none no_frames world =
     let obeys = valid_obeys r valid in
     let frames : drop so_far.frames (frames_of r.parts) ≡ frames_of r.parts =
-    ap (λ (n : ℕ). drop n (frames_of r.parts)) zero in
+    ap (λ (n : ℕ). drop n (frames_of r.parts)) no_frames in
     let at_start : run.start ≡ world_in run r.parts so_far.frames =
-    ap (λ (n : ℕ). world_in run r.parts n) (sym zero) in
+    ap (λ (n : ℕ). world_in run r.parts n) (sym no_frames) in
     let marks :
     first_of so_far.difference
     (first_difference (hash_in run r) (marks_after so_far.frames r.parts))
     ≡ difference_of run r =
     ap₂ (λ (d : Option Difference) (n : ℕ).
-    first_of d (first_difference (hash_in run r) (marks_after n r.parts))) none zero in
-    record {
+    first_of d (first_difference (hash_in run r) (marks_after n r.parts))) none no_frames in
+    let here : IsSoFar run r r.parts so_far = record {
       frames = frames;
-      count = ap (λ (n : ℕ). n + frame_count r) zero ∙ omega arith;
+      count = ap (λ (n : ℕ). n + frame_count r) no_frames ∙ omega arith;
       world = world ∙ at_start;
       difference = marks;
       each = obeys.each;
       few = omega (arith, obeys.few, few_frames r.version);
-    }
+    } in
+    subst (λ (parts : List Part). IsSoFar run r parts so_far) (sym all) here
 
 -- The first of the frames that are left.
 next_frame :
@@ -77,7 +78,11 @@ next_frame (y ∷ xs) zero x rest is =
     (ap (λ (e : List Entry). Some e) first, others)
 next_frame (y ∷ xs) (suc n) x rest is =
     let more = next_frame xs n x rest is in
-    (more.0, more.1)
+    let after : drop (n + 1) xs ≡ drop (suc n) xs =
+    ap (λ (k : ℕ). drop k xs) (add-one n) in
+    let whole : drop (suc n + 1) (y ∷ xs) ≡ drop (suc n) xs =
+    ap (λ (k : ℕ). drop k (y ∷ xs)) (add-one (suc n)) in
+    (more.0, whole ∙ sym after ∙ more.1)
 
 -- A frame is gone over.
 frame_passed :
@@ -153,8 +158,18 @@ one_passed run r left (Frame entries) so_far is =
     frame_passed run r left entries so_far (mark_hash run r.version) is
 one_passed run r left (Mark file) so_far is = mark_passed run r left file so_far is
 
+-- The same where the part is the first of those that were left.
+pub part_step :
+    {W : Type 0} (run : Rerun W) (r : Replay) (left rest : List Part) (part : Part)
+    (so_far new : Replayed W) → IsSoFar run r left so_far → left ≡ part ∷ rest →
+    new ≡ passed run.after (mark_hash run r.version) so_far part → IsSoFar run r rest new
+part_step run r left rest part so_far new is taken passes =
+    subst (IsSoFar run r rest) (sym passes)
+    (one_passed run r rest part so_far
+    (subst (λ (parts : List Part). IsSoFar run r parts so_far) taken is))
+
 -- The next part may be passed.
-pub fits_next :
+fits_next :
     {W : Type 0} (run : Rerun W) (r : Replay) (left : List Part) (part : Part)
     (so_far : Replayed W) (clients_of steps : W → ℕ) → IsSoFar run r (part ∷ left) so_far →
     clients_of so_far.world ≡ r.clients → steps so_far.world ≡ so_far.frames →
@@ -163,10 +178,25 @@ fits_next run r left (Frame entries) so_far clients_of steps is clients count =
     (is.each.0.0 ∙ sym clients, count, omega (arith, is.count, is.few))
 fits_next run r left (Mark file) so_far clients_of steps is clients count = tt
 
+pub fits_left :
+    {W : Type 0} (run : Rerun W) (r : Replay) (left rest : List Part) (part : Part)
+    (so_far : Replayed W) (clients_of steps : W → ℕ) → IsSoFar run r left so_far →
+    left ≡ part ∷ rest → clients_of so_far.world ≡ r.clients →
+    steps so_far.world ≡ so_far.frames → FitsPass clients_of steps so_far part
+fits_left run r left rest part so_far clients_of steps is taken clients count =
+    fits_next run r rest part so_far clients_of steps
+    (subst (λ (parts : List Part). IsSoFar run r parts so_far) taken is) clients count
+
+abbrev replayed_with : {W : Type 0} → Option Difference → ℕ → W → Replayed W
+replayed_with difference frames world =
+    record { difference = difference; frames = frames; world = world }
+
 pub same_replayed :
     {W : Type 0} (a b : Replayed W) → a.difference ≡ b.difference → a.frames ≡ b.frames →
     a.world ≡ b.world → a ≡ b
-same_replayed a b difference frames world = cc
+same_replayed a b difference frames world =
+    ap₂ (λ (d : Option Difference) (n : ℕ). replayed_with d n a.world) difference frames
+    ∙ ap (replayed_with b.difference b.frames) world
 
 first_of_none : (d : Option Difference) → first_of d None ≡ d
 first_of_none None = refl
@@ -174,12 +204,16 @@ first_of_none (Some d) = refl
 
 -- All was gone over.
 pub all_passed :
-    {W : Type 0} (run : Rerun W) (r : Replay) (so_far : Replayed W) →
-    IsSoFar run r [] so_far → so_far ≡ replayed run r
-all_passed run r so_far is =
-    let frames : so_far.frames ≡ frame_count r = omega (arith, is.count) in
+    {W : Type 0} (run : Rerun W) (r : Replay) (left : List Part) (so_far : Replayed W) →
+    IsSoFar run r left so_far → left ≡ [] → so_far ≡ replayed run r
+all_passed run r left so_far is ended =
+    let last : IsSoFar run r [] so_far =
+    subst (λ (parts : List Part). IsSoFar run r parts so_far) ended is in
+    let frames : so_far.frames ≡ frame_count r = omega (arith, last.count) in
     let difference : so_far.difference ≡ difference_of run r =
-    sym (first_of_none so_far.difference) ∙ is.difference in
+    sym (first_of_none so_far.difference) ∙ last.difference in
     let world : so_far.world ≡ world_in run r.parts (frame_count r) =
-    is.world ∙ ap (world_in run r.parts) frames in
+    last.world ∙ ap (world_in run r.parts) frames in
     same_replayed so_far (replayed run r) difference frames world
+
+pub ruleset replay_steps = (begins, part_step, fits_left, all_passed)

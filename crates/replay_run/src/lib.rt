@@ -25,7 +25,9 @@ mod text;
 
 pub use difference::Difference;
 pub use first_hash::FirstHash;
-pub use laws::{a_migrated_replay_gives_the_same, a_record_gives_the_match, the_least_mark_differs};
+pub use laws::{
+    a_migrated_replay_gives_the_same, a_record_gives_the_match, the_least_mark_differs,
+};
 pub use migration::{Migration, migrate};
 pub use recording::record_of;
 pub use replayed::Replayed;

@@ -9,7 +9,7 @@ use crate::first_hash::FirstHash;
 use crate::replayed::Replayed;
 use base::NoMemory;
 use frame_core::Sim;
-use replay_file::{Part, Replay, ReplayWriter};
+use replay_file::{Part, Replay, ReplayWriter, replay_fits};
 use std::alloc::Global;
 
 /// What a migration comes to.
@@ -52,6 +52,7 @@ fn write_anew<S: Sim>(writer: &mut ReplayWriter, part: &Part, world: &S) -> Resu
 /// Runs a valid replay over an opening world of its clients, which has made no step, and writes it
 /// in the version that is written, with the same frames and with the world's hash at each mark.
 /// It ends at the first mark that differs. Out of memory is the only error.
+#[tactic(auto, using(crate::specs::RerunLemmas::replay_steps, crate::specs::MigratingLemmas::migrate_steps))]
 pub fn migrate<S: FirstHash>(alloc: Global, world: S, r: &Replay) -> Result<Migration, NoMemory>
     requires valid { IsValidReplay r.now }
     requires clients { S.clients_of world ≡ r.now.clients }
@@ -60,6 +61,7 @@ pub fn migrate<S: FirstHash>(alloc: Global, world: S, r: &Replay) -> Result<Migr
         (rerun_over S.after S.hash_of S.first_hash_of S.summary_of world) r.now) }
 {
     let version = r.version;
+    replay_fits(r);
     let mut writer = ReplayWriter::create(alloc, r.rules, r.seed, r.clients)?;
     let mut run = Replayed {
         difference: None,

@@ -1,4 +1,4 @@
-ghost use Rattle.std.specs.Prelude.{◌≡◌, ◌<◌, ◌≤◌, ◌++◌, length, IfOk, OnOk};
+ghost use Rattle.std.specs.Prelude.{◌≡◌, ◌<◌, ◌≤◌, ◌++◌, ◌^◌, length, slice_index_or, IfOk, OnOk};
 ghost use Rattle.std.specs.List.{AllByRecursion};
 ghost use Rattle.frame_core.specs.Match.{Match};
 ghost use Rattle.frame_core.specs.Ready.{frame_at};
@@ -13,6 +13,15 @@ use replay_file::ReplayWriter;
 use server_core::Server;
 use std::alloc::Global;
 
+/// The mark of frame `n`.
+fn mark_at(marks: &[u64], n: u32) -> u64
+    requires { n < length marks.now }
+    ensures value { result ≡ slice_index_or marks.now n 0 }
+    ensures fits { result < 2 ^ 64 }
+{
+    marks[n as usize]
+}
+
 /// Writes the frames that a server ticked, each with a mark after it.
 fn write_frames<S: Sim>(writer: &mut ReplayWriter, server: &Server<S>) -> Result<(), NoMemory>
     ensures written { OnOk result (writer.new ≡ writer.old ++ parts_bytes
@@ -24,10 +33,7 @@ fn write_frames<S: Sim>(writer: &mut ReplayWriter, server: &Server<S>) -> Result
     let marks = server.marks();
     for n in 0..server.ticked() {
         writer.push_frame(&columns.frame(n))?;
-        let Some(mark) = marks.get(n as usize) else {
-            unreachable!()
-        };
-        writer.push_mark(*mark)?;
+        writer.push_mark(mark_at(marks, n))?;
     }
     Ok(())
 }

@@ -1,5 +1,5 @@
-ghost use Rattle.std.specs.Prelude.{◌≡◌, ◌+◌, ◌<◌, ◌^◌, length};
-ghost use Rattle.frame_core.specs.declared.sim.TheConstants.{MAX_STEPS};
+ghost use Rattle.std.specs.Prelude.{◌≡◌};
+ghost use Rattle.replay_file.specs.declared.part.Part.TheVariants as part;
 ghost use Rattle.replay_run.specs.Passing.{compared, hash_by, passed, FitsPass};
 
 use crate::difference::Difference;

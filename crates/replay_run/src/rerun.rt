@@ -7,6 +7,7 @@ use crate::replayed::Replayed;
 use replay_file::Replay;
 
 /// Runs a valid replay over an opening world of its clients, which has made no step.
+#[tactic(auto, using(crate::specs::RerunLemmas::replay_steps))]
 pub fn run_replay<S: FirstHash>(world: S, r: &Replay) -> Replayed<S>
     requires valid { IsValidReplay r.now }
     requires clients { S.clients_of world ≡ r.now.clients }
