@@ -288,6 +288,18 @@ marks_recorded frames hash hash_at (suc n) same =
     (marks_recorded frames hash hash_at n (λ k below. same k (omega (arith, below))))
     (same n (omega arith)))
 
+-- The worlds of the replay of a match are the agreed ones.
+world_recorded :
+    {W : Type 0} (m : Match W) (first_hash : W → ℕ) (rules seed : ℕ) (columns : List Column)
+    (n k : ℕ) → k ≤ n →
+    world_in (rerun_of m first_hash) (replay_of m rules seed columns n).parts k
+    ≡ agreed_world m columns k
+world_recorded m first_hash rules seed columns n k few =
+    folded_same m.after m.start (frame_in (replay_of m rules seed columns n).parts)
+    (frame_at columns) k
+    (λ j below. frame_recorded (frame_at columns) (hash_after_frame m columns) n j
+    (omega (arith, below, few)))
+
 -- The replay of a match gives the agreed world, and no mark of it differs.
 pub record_replayed :
     {W : Type 0} (m : Match W) (first_hash : W → ℕ) (rules seed : ℕ) (columns : List Column)
@@ -297,16 +309,15 @@ pub record_replayed :
 record_replayed m first_hash rules seed columns n =
     let run = rerun_of m first_hash in
     let r = replay_of m rules seed columns n in
-    let hash = hash_after_frame m columns in
-    let count : frame_count r ≡ n = count_recorded (frame_at columns) hash n in
-    let world_to = λ (k : ℕ) (few : k ≤ n).
-    folded_same m.after m.start (frame_in r.parts) (frame_at columns) k
-    (λ j below. frame_recorded (frame_at columns) hash n j (omega (arith, below, few))) in
+    let count : frame_count r ≡ n =
+    count_recorded (frame_at columns) (hash_after_frame m columns) n in
     let world : world_in run r.parts (frame_count r) ≡ agreed_world m columns n =
-    ap (world_in run r.parts) count ∙ world_to n (omega arith) in
+    ap (world_in run r.parts) count
+    ∙ world_recorded m first_hash rules seed columns n n (omega arith) in
     let agree : AllAgree (hash_in run r) (marks_of r.parts) =
-    marks_recorded (frame_at columns) hash (hash_in run r) n
-    (λ k below. ap m.hash (sym (world_to (k + 1) (omega (arith, below))))) in
+    marks_recorded (frame_at columns) (hash_after_frame m columns) (hash_in run r) n
+    (λ k below. ap m.hash
+    (sym (world_recorded m first_hash rules seed columns n (k + 1) (omega (arith, below))))) in
     same_replayed (replayed run r) (agreed_replayed m columns n)
     (none_differs (hash_in run r) (marks_of r.parts) agree) count world
 
@@ -326,7 +337,7 @@ pub migrated_replayed :
     replayed run (migrated_over run r) ≡ replayed run r
 migrated_replayed run r none =
     let new = migrated_over run r in
-    let hash = λ (n : ℕ). run.hash (world_in run r.parts n) in
+    let hash : ℕ → ℕ = λ n. run.hash (world_in run r.parts n) in
     let frames : frames_of new.parts ≡ frames_of r.parts = migrated_frames hash r in
     let world_same : (n : ℕ) → world_in run new.parts n ≡ world_in run r.parts n =
     λ n. folded_same run.after run.start (frame_in new.parts) (frame_in r.parts) n

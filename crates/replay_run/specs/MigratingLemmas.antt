@@ -25,7 +25,7 @@ use Rattle.replay_run.specs.Migrating.{marked_part, marks_in, Migrates}
 use Rattle.replay_run.specs.Passing.{first_of, passed}
 use Rattle.replay_run.specs.Rerun.{Rerun, difference_of, first_difference, frame_count}
 use Rattle.replay_run.specs.Rerun.{hash_in, mark_count, mark_hash, migrated_over, world_in}
-use Rattle.replay_run.specs.RerunLemmas.{IsSoFar, all_passed}
+use Rattle.replay_run.specs.RerunLemmas.{IsSoFar, difference_last}
 
 -- No mark stands directly after a mark, so there are few.
 one_more : Bool → ℕ
@@ -43,10 +43,12 @@ few_after :
 unfolding one_more
 few_after version s n [] follow = omega (arith, at_most s.marked)
 few_after version s n (Frame entries ∷ parts) follow =
-    let rest = few_after version (after_part s (Frame entries)) (n + 1) parts follow.1 in
+    let rest : length (marks_after (n + 1) parts) + 0 ≤ length (frames_of parts) + 1 =
+    few_after version (after_part s (Frame entries)) (n + 1) parts follow.1 in
     omega (arith, rest, at_most s.marked)
 few_after version s n (Mark hash ∷ parts) follow =
-    let rest = few_after version (after_part s (Mark hash)) n parts follow.1 in
+    let rest : length (marks_after n parts) + 1 ≤ length (frames_of parts) + 1 =
+    few_after version (after_part s (Mark hash)) n parts follow.1 in
     let none : one_more s.marked ≡ 0 = ap one_more follow.0 in
     omega (arith, rest, none)
 
@@ -122,6 +124,17 @@ written_more run r head (Mark file) left so_far old new marks more is added fits
       few = written.few;
     }
 
+abbrev IsWrittenAt :
+    {W : Type 0} → Rerun W → Replay → List ℕ → List Part → List ℕ → ℕ → Replayed W → Type 0
+IsWrittenAt run r head left written marks so_far =
+    IsWritten run r head left so_far.frames written marks
+
+abbrev bytes_at : {W : Type 0} → Rerun W → Part → List ℕ → Replayed W → List ℕ
+bytes_at run part old so_far = old ++ part_bytes (marked_part (run.hash so_far.world) part)
+
+abbrev FitsAt : {W : Type 0} → Rerun W → Part → Replayed W → Type 0
+FitsAt run part so_far = FitsPart (marked_part (run.hash so_far.world) part)
+
 -- The same where the part is the first of those that were left.
 pub written_step :
     {W : Type 0} (run : Rerun W) (r : Replay) (head : List ℕ) (part : Part)
@@ -137,12 +150,9 @@ written_step run r head part left rest so_far next old new marks more is taken p
     subst (λ (parts : List Part). IsSoFar run r parts so_far) taken is in
     let before : IsWritten run r head (part ∷ rest) so_far.frames old marks =
     subst (λ (parts : List Part). IsWritten run r head parts so_far.frames old marks) taken written in
-    subst (λ (s : Replayed W). IsWritten run r head rest s.frames new (marks + more)) (sym passes)
+    subst (IsWrittenAt run r head rest new (marks + more)) (sym passes)
     (written_more run r head part rest so_far old new marks more there
-    (added
-    ∙ ap (λ (s : Replayed W). old ++ part_bytes (marked_part (run.hash s.world) part)) passes)
-    (subst (λ (s : Replayed W). FitsPart (marked_part (run.hash s.world) part)) passes fits) few
-    before)
+    (added ∙ ap (bytes_at run part old) passes) (subst (FitsAt run part) passes fits) few before)
 
 -- The count of marks stays small.
 marks_fit :
@@ -205,9 +215,8 @@ all_written run r so_far left head written bytes marks valid fits headed is none
           ∙ ap (λ (xs : List ℕ). xs ++ end_bytes)
           (body ∙ ap (λ (h : List ℕ). h ++ parts_bytes new.parts) headed)
           ∙ append_assoc header (parts_bytes new.parts) end_bytes;
-    } in
-    let replays = all_passed run r [] so_far last refl in (
-      sym (ap (λ (s : Replayed W). s.difference) replays) ∙ none,
+    } in (
+      sym (difference_last run r so_far last) ∙ none,
       spells,
       omega (arith, last.count),
       omega (arith, whole.count),

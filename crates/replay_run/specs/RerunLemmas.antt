@@ -202,6 +202,13 @@ first_of_none : (d : Option Difference) → first_of d None ≡ d
 first_of_none None = refl
 first_of_none (Some d) = refl
 
+-- Where all was gone over, the difference is that of the replay.
+pub difference_last :
+    {W : Type 0} (run : Rerun W) (r : Replay) (so_far : Replayed W) → IsSoFar run r [] so_far →
+    so_far.difference ≡ difference_of run r
+difference_last run r so_far last =
+    sym (first_of_none so_far.difference) ∙ last.difference
+
 -- All was gone over.
 pub all_passed :
     {W : Type 0} (run : Rerun W) (r : Replay) (left : List Part) (so_far : Replayed W) →
@@ -210,8 +217,7 @@ all_passed run r left so_far is ended =
     let last : IsSoFar run r [] so_far =
     subst (λ (parts : List Part). IsSoFar run r parts so_far) ended is in
     let frames : so_far.frames ≡ frame_count r = omega (arith, last.count) in
-    let difference : so_far.difference ≡ difference_of run r =
-    sym (first_of_none so_far.difference) ∙ last.difference in
+    let difference = difference_last run r so_far last in
     let world : so_far.world ≡ world_in run r.parts (frame_count r) =
     last.world ∙ ap (world_in run r.parts) frames in
     same_replayed so_far (replayed run r) difference frames world
