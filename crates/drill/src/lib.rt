@@ -48,7 +48,7 @@ pub use outcome::Outcome;
 pub use peers::Peers;
 pub use run::{run_drill, run_without_report};
 pub use run_fault::RunFault;
-pub use text::{add_end_line, add_world};
+pub use text::{add_end_line, add_hash, add_world};
 
 #[cfg(test)]
 mod made_tests;

@@ -224,7 +224,7 @@ fn add_cash(text: &mut String, each: &[u32]) -> Result<(), NoMemory>
 
 /// Adds a hash, as 16 hexadecimal digits.
 #[tactic(auto, unfolding(drill_words::specs::Hash::hash_digits))]
-fn add_hash(text: &mut String, hash: u64) -> Result<(), NoMemory>
+pub fn add_hash(text: &mut String, hash: u64) -> Result<(), NoMemory>
     ensures { OnOk result (string_bytes text.new ≡ string_bytes text.old ++ hash_digits hash) }
 {
     add_hex(text, HASH_DIGITS, hash)
