@@ -17,7 +17,7 @@ use drill_words::{Event, MAX_EVENTS};
 pub(crate) fn add_round(draft: &mut Draft, round: u32) -> Result<(), NoMemory>
     requires { size draft.old + ROUND_SIZE ≤ MAX_EVENTS }
     ensures made { OnOk result (draft.new ≡ with_round round draft.old) }
-    ensures few { OnOk result (size draft.new ≤ size draft.old + 106) }
+    ensures few { OnOk result (size draft.new ≤ size draft.old + ROUND_SIZE) }
 {
     add_departure(draft, round)?;
     add_plays(draft, sealing_in(round))?;
@@ -134,7 +134,7 @@ fn add_echoes(draft: &mut Draft, told: u8, frame: u32) -> Result<(), NoMemory>
     requires most { told ≤ MADE_CLIENTS }
     requires room { size draft.old + ECHOES_SIZE ≤ MAX_EVENTS }
     ensures made { OnOk result (draft.new ≡ with_echoes told frame draft.old) }
-    ensures few { OnOk result (size draft.new ≤ size draft.old + 56) }
+    ensures few { OnOk result (size draft.new ≤ size draft.old + ECHOES_SIZE) }
 {
     add_some_entries(draft, told, frame)?;
     add_ticks(draft)?;
@@ -180,7 +180,7 @@ fn add_some_entries_to(draft: &mut Draft, told: u8, frame: u32, peer: u8) -> Res
 fn add_entries_again(draft: &mut Draft, told: u8, frame: u32) -> Result<(), NoMemory>
     requires most { told ≤ MADE_CLIENTS }
     ensures made { OnOk result (draft.new ≡ with_entries_again told frame draft.old) }
-    ensures few { OnOk result (size draft.new ≤ size draft.old + 16) }
+    ensures few { OnOk result (size draft.new ≤ size draft.old + MADE_CLIENTS * MADE_CLIENTS) }
 {
     for peer in (0..MADE_CLIENTS).rev() {
         add_entries_to(draft, told, frame, peer)?;
@@ -194,7 +194,7 @@ fn add_entries_to(draft: &mut Draft, told: u8, frame: u32, peer: u8) -> Result<(
     requires own { peer < MADE_CLIENTS }
     requires most { told ≤ MADE_CLIENTS }
     ensures made { OnOk result (draft.new ≡ with_entries_to told frame peer draft.old) }
-    ensures few { OnOk result (size draft.new ≤ size draft.old + 4) }
+    ensures few { OnOk result (size draft.new ≤ size draft.old + MADE_CLIENTS) }
 {
     for client in (0..told).rev() {
         draft.add(Event::Down {
@@ -210,7 +210,7 @@ fn add_entries_to(draft: &mut Draft, told: u8, frame: u32, peer: u8) -> Result<(
 #[tactic(auto, unfolding(crate::specs::MadeRound::with_ticks))]
 fn add_ticks(draft: &mut Draft) -> Result<(), NoMemory>
     ensures made { OnOk result (draft.new ≡ with_ticks draft.old) }
-    ensures few { OnOk result (size draft.new ≤ size draft.old + 4) }
+    ensures few { OnOk result (size draft.new ≤ size draft.old + MADE_CLIENTS) }
 {
     for peer in 0..MADE_CLIENTS {
         draft.add(Event::Tick { peer })?;
@@ -248,7 +248,7 @@ fn add_reports(draft: &mut Draft) -> Result<(), NoMemory>
 fn add_reports_up(draft: &mut Draft, first: u32) -> Result<(), NoMemory>
     requires { first ≤ MAX_EVENTS }
     ensures made { OnOk result (draft.new ≡ with_reports_up first draft.old) }
-    ensures few { OnOk result (size draft.new ≤ size draft.old + 4) }
+    ensures few { OnOk result (size draft.new ≤ size draft.old + MADE_CLIENTS) }
 {
     for peer in 0..MADE_CLIENTS {
         draft.add(Event::Up {
