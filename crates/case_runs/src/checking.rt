@@ -1,6 +1,7 @@
 use crate::case::{Case, CaseFile};
 use crate::case_reader::CaseReader;
 use crate::read_fault::ReadFault;
+use crate::server_world::server_world;
 use base::NoMemory;
 use game_io::{MemDisk, MemNet, MemSink, MemSource, NoGate};
 use match_commands::{may_wait, run, run_waiting};
@@ -41,13 +42,22 @@ fn is_right<R: Threads + Wait + Sync>(
     alloc: Global,
     case: &Case<'_>,
 ) -> Result<bool, NoMemory> {
-    let mut disk = MemDisk::new(alloc, Vec::new(alloc));
-    for file in &case.files {
-        disk.add(alloc, file.name, file.bytes)?;
-    }
+    let mut disk = case.disk(alloc)?;
     let mut out = MemSink::new(alloc, Vec::new(alloc));
     let status = run_case(rt, alloc, &case.words, &mut disk, &mut out);
-    Ok(status == case.status && out.bytes() == case.text && is_left(&disk, case))
+    let answered = status == case.status && out.bytes() == case.text;
+    Ok(answered && is_left(&disk, case) && is_world_right(alloc, case)?)
+}
+
+/// Whether the server of a drill is left in the world that the case has, if it has one.
+fn is_world_right(alloc: Global, case: &Case<'_>) -> Result<bool, NoMemory> {
+    let Some(wanted) = case.world else {
+        return Ok(true);
+    };
+    match server_world(alloc, case)? {
+        Some(text) => Ok(text.as_bytes() == wanted),
+        None => Ok(false),
+    }
 }
 
 /// Runs a command line, by the top call that has its command.

@@ -6,6 +6,8 @@ mod case;
 mod case_reader;
 mod checking;
 mod read_fault;
+mod server_world;
+mod world_text;
 
 use crate::checking::{Shown, run_cases};
 use crate::read_fault::ReadFault;
