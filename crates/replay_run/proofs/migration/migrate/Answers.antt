@@ -32,7 +32,7 @@ loop-part-preserved g c =
     rerun_over g.S.Sim.after g.S.Sim.hash_of g.S.FirstHash.first_hash_of g.S.Sim.summary_of
     c.args.world in
     let is = c.loop-part.invariant in
-    let none : c.pass.new.self.difference ≡ None = Prim.search rules in (
+    let none : c.pass.new.self.difference ≡ None = search rules in (
       c.pass.ensures.clients ∙ is.0,
       c.pass.ensures.steps is.1,
       none,
