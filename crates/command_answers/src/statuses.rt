@@ -15,6 +15,3 @@ pub const FAULT_WRITE: u8 = 5;
 
 /// Out of memory.
 pub const OUT_OF_MEMORY: u8 = 6;
-
-/// A mark of a replay differs from the hash of the world there.
-pub const MARK_DIFFERS: u8 = 7;

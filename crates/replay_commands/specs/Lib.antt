@@ -1,4 +1,0 @@
-pub mod Answers
-pub mod Refusals
-pub mod Replays
-pub mod RulesNumber
