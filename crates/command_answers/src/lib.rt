@@ -2,10 +2,10 @@
 //!
 //! A [`Reply`](../specs/Reply.antt) is a status, a text, and a file that is written after it. A
 //! command is a sequence of steps ([`Stop`] in code, `specs/Step.antt` in definitions): each has a
-//! value, or ends the command with a reply. [`read_rules`], [`read_files`] and [`read_script_files`]
-//! read what a command names, and [`print_text`], [`print_stop`] and [`refuse_words`] print its
-//! answer; their clauses say what was read and printed over any disk and any sink, whichever of
-//! their calls fail.
+//! value, or ends the command with a reply. [`read_rules`], [`read_files`] and
+//! [`read_script_files`] read what a command names, and [`print_text`], [`print_stop`] and
+//! [`refuse_words`] print its answer; their clauses say what was read and printed over any disk and
+//! any sink, whichever of their calls fail.
 #![tactic(auto)]
 
 mod files;
