@@ -18,10 +18,10 @@ pub record EndsAt (rank : ℕ) (xs : List Listed) (at : ℕ) : Type 0 where
   pub before : (k : ℕ) (d : Listed) → k < at → k < length xs → rank_of (get_or xs k d) < rank
   pub after : (k : ℕ) (d : Listed) → at ≤ k → k < length xs → rank ≤ rank_of (get_or xs k d)
 
-ltb_true : (a b : ℕ) → ltb a b ≡ true → a < b
+pub ltb_true : (a b : ℕ) → ltb a b ≡ true → a < b
 ltb_true a b met = grind (arith, nat_tests)
 
-ltb_false : (a b : ℕ) → ltb a b ≡ false → b ≤ a
+pub ltb_false : (a b : ℕ) → ltb a b ≡ false → b ≤ a
 ltb_false a b fails = grind (arith, nat_tests)
 
 pub ends_from_point : (rank : ℕ) (xs : List Listed) (at : ℕ) → IsPartitionPoint (λ (e : Listed). ltb (rank_of e) rank ≡ true) (λ (e : Listed). ltb (rank_of e) rank ≡ false) xs at → EndsAt rank xs at

@@ -5,3 +5,4 @@ pub mod Holders
 pub mod TableCalls
 pub mod KindLists
 pub mod KindCalls
+pub mod NextKinds

@@ -1,6 +1,6 @@
 -- Actors listed by owner and kind.
-use Rattle.std.specs.Prelude.{◌≡◌, ℕ, ◌+◌, ◌*◌, ◌<◌, ◌≤◌, ◌==◌, ◌&&◌, nat_lt, not, Bool}
-use Rattle.std.specs.Prelude.{List, [], ◌∷◌, map, filter, length, if◌then◌else◌}
+use Rattle.std.specs.Prelude.{◌≡◌, ◌≢◌, ℕ, ◌+◌, ◌*◌, ◌<◌, ◌≤◌, ◌==◌, ◌&&◌, nat_lt, not, Bool}
+use Rattle.std.specs.Prelude.{List, [], ◌∷◌, map, filter, length, Option, Some, None, if◌then◌else◌}
 use Rattle.std.specs.List.{All}
 use Rattle.std.specs.List.Sorted.{IsNonDecreasingBy}
 use Rattle.game_model.specs.declared.actor.Actor.{Actor}
@@ -20,6 +20,27 @@ owner_and_kind_of a = (a.body.owner, a.kind)
 abbrev pub ids_of_kind : List Actor → (owner kind : ℕ) → List ℕ
 ids_of_kind actors owner kind = ids_of (filter (is_of owner kind) actors)
 
+-- An actor as the table lists it.
+abbrev pub listed_as : Actor → Listed
+listed_as a = record { owner = a.body.owner; kind = a.kind; id = a.id }
+
+-- The actors of an owner and a kind, in order, as the table lists them.
+abbrev pub listed_of : List Actor → (owner kind : ℕ) → List Listed
+listed_of actors owner kind = map listed_as (filter (is_of owner kind) actors)
+
+-- The least number above another one; without one the least of all.
+abbrev pub next_number : Option ℕ → ℕ
+next_number None = 0
+next_number (Some n) = n + 1
+
+-- The owner has an actor of this kind, the least from a number on. Without such a kind it has none
+-- from this number on.
+abbrev pub IsNextKind : List Actor → (owner from : ℕ) → Option ℕ → Type 0
+IsNextKind actors owner from (Some kind) =
+    (from ≤ kind) × (ids_of_kind actors owner kind ≢ [])
+    × ((k : ℕ) → from ≤ k → k < kind → ids_of_kind actors owner k ≡ [])
+IsNextKind actors owner from None = (k : ℕ) → from ≤ k → ids_of_kind actors owner k ≡ []
+
 -- The entry is one of this owner and this kind.
 abbrev pub is_listed : (owner kind : ℕ) → Listed → Bool
 is_listed owner kind e = (e.owner == owner) && (e.kind == kind)
@@ -30,6 +51,13 @@ listed_id e = e.id
 -- The ids of the entries of an owner and a kind, in order.
 abbrev pub ids_listed : List Listed → (owner kind : ℕ) → List ℕ
 ids_listed entries owner kind = map listed_id (filter (is_listed owner kind) entries)
+
+-- The same of the entries.
+abbrev pub IsNextListed : List Listed → (owner from : ℕ) → Option ℕ → Type 0
+IsNextListed entries owner from (Some kind) =
+    (from ≤ kind) × (ids_listed entries owner kind ≢ [])
+    × ((k : ℕ) → from ≤ k → k < kind → ids_listed entries owner k ≡ [])
+IsNextListed entries owner from None = (k : ℕ) → from ≤ k → ids_listed entries owner k ≡ []
 
 -- Entries are sorted by owner, then by kind, then by id.
 abbrev pub rank_of : Listed → ℕ

@@ -2,7 +2,7 @@ ghost use Rattle.std.specs.Prelude.{◌≡◌, ◌+◌, ◌<◌, ◌≤◌, ◌=
 ghost use Rattle.std.specs.Prelude.{slice_range, IfOk};
 ghost use Rattle.std.specs.List.{list_any};
 
-use crate::listed::{ID_NUMBERS, Listed};
+use crate::listed::{ID_NUMBERS, KIND_NUMBERS, Listed};
 use base::NoMemory;
 use game_model::MAX_ACTORS;
 use std::alloc::Global;
@@ -28,7 +28,7 @@ impl Model for KindIndex {
 }
 
 impl KindIndex {
-    ghost use Rattle.actor_table.specs.Kinds.{is_listed, GainsId, MovesId};
+    ghost use Rattle.actor_table.specs.Kinds.{is_listed, next_number, GainsId, IsNextListed, MovesId};
 
     /// No actors, with room for [`MAX_ACTORS`]. Out of memory is its only error.
     pub(crate) fn create(alloc: Global) -> Result<KindIndex, NoMemory>
@@ -48,6 +48,32 @@ impl KindIndex {
         let from = self.entries.partition_point(|e| e.rank() < first);
         let to = self.entries.partition_point(|e| e.rank() < end);
         part(&self.entries, from, to)
+    }
+
+    /// The least kind above one, or of all, of which an owner has an actor; found by halving.
+    /// `None` exactly where there is none.
+    pub(crate) fn next_kind(&self, owner: u8, above: Option<u16>) -> Option<u16>
+        ensures { IsNextListed self.now owner (next_number above) result }
+    {
+        let from = match above {
+            Some(kind) => u64::from(kind) + 1,
+            None => 0,
+        };
+        self.kind_from(owner, from)
+    }
+
+    /// The least kind from a number on of which an owner has an actor.
+    fn kind_from(&self, owner: u8, from: u64) -> Option<u16>
+        requires { from ≤ KIND_NUMBERS }
+        ensures { IsNextListed self.now owner from result }
+    {
+        let first = (u64::from(owner) * KIND_NUMBERS + from) * ID_NUMBERS;
+        let at = self.entries.partition_point(|e| e.rank() < first);
+        if at < self.entries.len() && self.entries[at].owner == owner {
+            Some(self.entries[at].kind)
+        } else {
+            None
+        }
     }
 
     /// Adds an actor at its place. There is room.

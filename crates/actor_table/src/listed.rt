@@ -2,7 +2,7 @@ ghost use Rattle.std.specs.Prelude.{◌≡◌};
 ghost use Rattle.actor_table.specs.Kinds.{rank_of};
 
 /// How many numbers a kind can have.
-const KIND_NUMBERS: u64 = 65_536;
+pub(crate) const KIND_NUMBERS: u64 = 65_536;
 
 /// How many ids there can be.
 pub(crate) const ID_NUMBERS: u64 = 4_294_967_296;

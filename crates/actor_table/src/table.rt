@@ -1,8 +1,8 @@
 ghost use Rattle.std.specs.Prelude.{◌≡◌, ◌<◌, [], ◌∷◌, ◌++◌, length, false, Some, is_some};
-ghost use Rattle.std.specs.Prelude.{◌↔◌, slice_get, filter, map, IfOk, IsSome, IsTrue};
+ghost use Rattle.std.specs.Prelude.{◌↔◌, slice_get, filter, IfOk, IfSome, IsSome, IsTrue};
 ghost use Rattle.std.specs.List.{All};
 ghost use Rattle.std.specs.Option.{option_copied, option_map};
-ghost use Rattle.game_model.specs.World.{actor_of, ids_of, is_alive, is_occupied};
+ghost use Rattle.game_model.specs.World.{actor_of, ids_of, is_alive, is_occupied, living_of};
 ghost use Rattle.actor_table.specs.ActorList.{holder_of};
 ghost use Rattle.game_model.specs.ActorChanges.{with_body, moved_to};
 ghost use Rattle.actor_table.specs.ActorList.{without_dead_at, without_id};
@@ -37,7 +37,7 @@ impl Model for ActorTable {
 
 impl ActorTable {
     ghost use Rattle.actor_table.specs.Table.{IsTable};
-    ghost use Rattle.actor_table.specs.Kinds.{ids_of_kind, listed_id};
+    ghost use Rattle.actor_table.specs.Kinds.{listed_of, next_number, IsNextKind};
 
     /// No actors on a map of this size, with room for [`MAX_ACTORS`]. Out of memory is its only
     /// error.
@@ -92,6 +92,18 @@ impl ActorTable {
         self.roster.get(id)
     }
 
+    /// The living actor of an id, in logarithmic time. `None` exactly where there is none.
+    pub fn living(&self, id: u32) -> Option<&Actor>
+        ensures living { option_copied result ≡ living_of self.now.actors id }
+        ensures found { IfSome result (λ a. Some a.now ≡ actor_of self.now.actors id) }
+    {
+        let _ids_rise = self.len();
+        let Some(a) = self.get(id) else {
+            return None;
+        };
+        if a.body.health > 0 { Some(a) } else { None }
+    }
+
     /// The id of the actor that holds a cell, at once. `None` exactly where there is none, as at
     /// any cell off the map.
     pub fn at_cell(&self, p: CPos) -> Option<u32>
@@ -107,9 +119,17 @@ impl ActorTable {
 
     /// The actors of an owner and a kind, by rising id, in logarithmic time.
     pub fn of_kind(&self, owner: u8, kind: u16) -> &[Listed]
-        ensures { map listed_id result.now ≡ ids_of_kind self.now.actors owner kind }
+        ensures { result.now ≡ listed_of self.now.actors owner kind }
     {
         self.kinds.of(owner, kind)
+    }
+
+    /// The least kind above one, or of all, of which an owner has an actor, in logarithmic time.
+    /// `None` exactly where there is none.
+    pub fn next_kind(&self, owner: u8, above: Option<u16>) -> Option<u16>
+        ensures { IsNextKind self.now.actors owner (next_number above) result }
+    {
+        self.kinds.next_kind(owner, above)
     }
 
     /// Adds an actor. There is room, its cell is on the map and free, and its id is above all ids.

@@ -1,5 +1,5 @@
--- The cases of the step of an attack, and the living actor of an id.
-use Rattle.std.proofs.Common.{◌≡◌, ◌≢◌, ℕ, zero, suc, ◌<◌, eqb, Bool, true, false, ◌&&◌, cond, List, [], ◌∷◌, length, get_or, Some, None, inl, inr, refl, sym, arith}
+-- The cases of the step of an attack.
+use Rattle.std.proofs.Common.{◌≡◌, ◌≢◌, ℕ, eqb, Bool, true, false, Some, None, inl, inr, refl, sym}
 use Rattle.std.specs.Prelude.{nat_le}
 use Rattle.std.proofs.lemmas.Bool.Decides.{eqb_tells}
 use Rattle.world_units.specs.Cells.{dist_sq_of, square}
@@ -10,54 +10,14 @@ use Rattle.game_model.specs.declared.actor.Actor.{Actor}
 use Rattle.game_model.specs.ActorChanges.{changed_at}
 use Rattle.game_model.specs.Grid.{Grid}
 use Rattle.game_model.specs.Setup.{Setup}
-use Rattle.game_model.specs.World.{actor_of, living_of, is_alive}
+use Rattle.game_model.specs.World.{actor_of, living_of}
+use Rattle.game_model.specs.Kinds.{kind_of, range_in}
 use Rattle.game_tick.specs.Acts.{popped}
 use Rattle.game_tick.specs.Attacking.{after_attack, hit_by, points_of, reloading}
-use Rattle.game_tick.specs.Kinds.{kind_of, range_in}
+use Rattle.game_model.specs.FoundLemmas.{IdsRise, found_id}
 use Rattle.actor_table.specs.Table.{Table}
-use Rattle.motion.specs.ChangeLemmas.{IdsRise, found_id}
 use Rattle.motion.specs.Steps.{gone_by_id}
 use Rattle.combat.specs.Attacks.{IsFought}
-
--- The living actor of an id is the one that is found, if that lives.
-pub living_found : (actors : List Actor) (id : ℕ) (a : Actor) → Some a ≡ actor_of actors id → is_alive a ≡ true → Some a ≡ living_of actors id
-living_found [] id a found lives = absurd (cc)
-living_found (b ∷ actors) id a found lives = elim (eqb_tells b.id id) [
-  | inl hit ↦ here hit.0
-  | inr miss ↦ rw miss.0 (living_found actors id a (rw miss.0 at found) lives)
-]
-  where
-    here : eqb b.id id ≡ true → Some a ≡ cond (eqb b.id id && is_alive b) (Some b) (living_of actors id)
-    here met = let is : Some a ≡ Some b = rw met at found in let same : b ≡ a = cc in rw met (rw same (rw lives refl))
-
-pub living_none : (actors : List Actor) (id : ℕ) → None ≡ actor_of actors id → None ≡ living_of actors id
-living_none [] id none = refl
-living_none (b ∷ actors) id none = elim (eqb_tells b.id id) [
-  | inl hit ↦ let some : None ≡ Some b = rw hit.0 at none in absurd (cc)
-  | inr miss ↦ rw miss.0 (living_none actors id (rw miss.0 at none))
-]
-
--- No later actor has the id of the first.
-none_later : (actors : List Actor) (id : ℕ) → ((k : ℕ) (d : Actor) → k < length actors → (get_or actors k d).id ≢ id) → None ≡ living_of actors id
-none_later [] id differs = refl
-none_later (b ∷ actors) id differs = elim (eqb_tells b.id id) [
-  | inl hit ↦ absurd (differs zero b (omega arith) hit.1)
-  | inr miss ↦ rw miss.0 (none_later actors id (λ k d within. differs (suc k) d (omega arith)))
-]
-
-pub living_dead : (actors : List Actor) (id : ℕ) (a : Actor) → IdsRise actors → Some a ≡ actor_of actors id → is_alive a ≡ false → None ≡ living_of actors id
-living_dead [] id a rise found dead = refl
-living_dead (b ∷ actors) id a rise found dead = elim (eqb_tells b.id id) [
-  | inl hit ↦ here hit.0 hit.1
-  | inr miss ↦ rw miss.0 (living_dead actors id a (λ i j d lt within. rise (suc i) (suc j) d (omega arith) (omega arith)) (rw miss.0 at found) dead)
-]
-  where
-    here : eqb b.id id ≡ true → b.id ≡ id → None ≡ cond (eqb b.id id && is_alive b) (Some b) (living_of actors id)
-    here met named =
-        let is : Some a ≡ Some b = rw met at found in
-        let same : b ≡ a = cc in
-        let later : None ≡ living_of actors id = none_later actors id (λ k d within equal. let above : b.id < (get_or actors k d).id = rise zero (suc k) d (omega arith) (omega arith) in omega arith) in
-        rw met (rw same (rw dead later))
 
 module _ (setup : Setup) (built : Grid Bool) (dice : Place) (t : Table) (id target waits : ℕ) (a : Actor) (found : Some a ≡ actor_of t.actors id) where
   -- The target lives no more.

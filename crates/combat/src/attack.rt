@@ -1,14 +1,14 @@
 ghost use Rattle.std.specs.Prelude.{◌≡◌, ◌-◌, ◌^◌, ◌<◌, Some};
 ghost use Rattle.game_model.specs.declared.actor.Actor.{Actor};
 ghost use Rattle.game_model.specs.World.{actor_of};
+ghost use Rattle.game_model.specs.Setup.{setup_in};
 ghost use Rattle.game_tick.specs.Attacking.{after_attack};
 ghost use Rattle.grid_routes.specs.Routing.{IsSameSize};
-ghost use Rattle.motion.specs.Ground.{FitsMap, built_in, setup_in};
+ghost use Rattle.motion.specs.Ground.{FitsMap, built_in};
 ghost use Rattle.combat.specs.Attacks.{IsFought, after_first, fought_by_id};
 
 use crate::fields::{is_in_range, moves};
 use crate::shot::fire;
-use crate::target::living;
 use activities::Activity;
 use actor_table::ActorTable;
 use game_model::Ground;
@@ -40,7 +40,7 @@ fn attack(
         return;
     };
     let (kind, from, reload) = (a.kind, a.cell, a.body.reload);
-    let Some(aim) = living(t, target) else {
+    let Some(aim) = t.living(target) else {
         pop_head(t, id);
         return;
     };

@@ -2,8 +2,7 @@ ghost use Rattle.std.specs.Prelude.{◌≡◌, nat_le, IfSome};
 ghost use Rattle.world_units.specs.Cells.{dist_sq_of, square};
 ghost use Rattle.rule_traits.specs.Rules.{moves};
 ghost use Rattle.rule_traits.specs.ValidRules.{IsValidArmament};
-ghost use Rattle.game_model.specs.ValidWorld.{reload_in};
-ghost use Rattle.game_tick.specs.Kinds.{kind_of, range_in};
+ghost use Rattle.game_model.specs.Kinds.{reload_in, kind_of, range_in};
 
 use rule_traits::{Armament, Rules};
 use world_units::{CPos, dist_sq};

@@ -10,7 +10,6 @@
 mod attack;
 mod fields;
 mod shot;
-mod target;
 
 pub use attack::attack_step;
 

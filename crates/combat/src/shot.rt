@@ -1,8 +1,8 @@
 ghost use Rattle.std.specs.Prelude.{◌≡◌, ◌-◌, ◌^◌, ◌<◌};
 ghost use Rattle.twister.specs.Place.{after_word};
 ghost use Rattle.game_model.specs.ActorChanges.{changed_at};
+ghost use Rattle.game_model.specs.Kinds.{kind_of};
 ghost use Rattle.game_tick.specs.Attacking.{hit_by, points_of, reloading};
-ghost use Rattle.game_tick.specs.Kinds.{kind_of};
 
 use crate::fields::{armament_of, reload_of};
 use actor_table::ActorTable;

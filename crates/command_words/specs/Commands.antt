@@ -66,6 +66,10 @@ route_app = with_rule ends_app file_names
 unfoldable pub make_app : App
 make_app = with_rule (new_app (codes "make")) (required_number (codes "number"))
 
+-- `local --script FILE --map FILE RULES`, where the map may be left out.
+unfoldable pub local_app : App
+local_app = with_rule (played_app (codes "local") (codes "script")) file_names
+
 -- A command that one of its subcommands must follow, without words for help or the version.
 unfoldable pub bare_app : App
 bare_app = on_top (λ shape. record shape {
@@ -86,4 +90,4 @@ asking_app = with_subcommand (with_subcommand first_app check_app.top) route_app
 
 -- The whole command line.
 unfoldable pub lockstep_app : App
-lockstep_app = with_subcommand asking_app make_app.top
+lockstep_app = with_subcommand (with_subcommand asking_app make_app.top) local_app.top

@@ -13,6 +13,7 @@ use Rattle.command_words.specs.declared.TheConstants.{MAX_FILES}
 use Rattle.rule_values.specs.Cells.{cell_of}
 use Rattle.world_units.specs.declared.cell.CPos.{CPos}
 use Rattle.command_words.specs.RequestPlain.{RequestPlain, Drill, Yaml, Check, Route, Make}
+use Rattle.command_words.specs.RequestPlain.{Local}
 use Rattle.command_words.specs.RequestPlain.{DrillPlain, RoutePlain}
 use Rattle.command_words.specs.Commands.{lockstep_app}
 
@@ -94,6 +95,7 @@ command_request command found =
     else if bytes_eq command (codes "route") then option_map Route (route_in found)
     else if bytes_eq command (codes "make")
     then option_map Make (number_in (codes "number") found)
+    else if bytes_eq command (codes "local") then option_map Local (drill_in found)
     else None
 
 -- The request of the command that the words name, if they name one.
@@ -114,6 +116,7 @@ least_names command =
     else if bytes_eq command (codes "yaml") then Some 1
     else if bytes_eq command (codes "check") then Some 1
     else if bytes_eq command (codes "route") then Some 1
+    else if bytes_eq command (codes "local") then Some 0
     else None
 
 -- The command takes positional arguments, and their number is not allowed.

@@ -32,6 +32,7 @@ pub data RequestPlain : Type 0 where
   Check : (map_file : Option (List ℕ)) → (rules : List (List ℕ)) → RequestPlain
   Route : RoutePlain → RequestPlain
   Make : (number : ℕ) → RequestPlain
+  Local : DrillPlain → RequestPlain
 
 abbrev pub plain_name : Option (Bor (List ℕ)) → Option (List ℕ)
 plain_name = option_map (λ name. name.now)
@@ -61,6 +62,7 @@ plain_of (request.Yaml files) = Yaml files
 plain_of (request.Check map_file rules) = Check (plain_name map_file) rules
 plain_of (request.Route query) = Route (plain_route query)
 plain_of (request.Make number) = Make number
+plain_of (request.Local query) = Local (plain_drill query)
 
 -- A request has at most `MAX_FILES` positional arguments.
 abbrev pub HasFewFiles : Request → Type 0
@@ -69,3 +71,4 @@ HasFewFiles (request.Yaml files) = length files ≤ MAX_FILES
 HasFewFiles (request.Check map_file rules) = length rules ≤ MAX_FILES
 HasFewFiles (request.Route query) = length query.rules ≤ MAX_FILES
 HasFewFiles (request.Make number) = Unit {0}
+HasFewFiles (request.Local query) = length query.rules ≤ MAX_FILES

@@ -1,6 +1,7 @@
 ghost use Rattle.std.specs.Prelude.{◌≡◌, IfOk, false};
 ghost use Rattle.command_words.specs.Commands.{bare_app, played_app, drill_app, yaml_app};
 ghost use Rattle.command_words.specs.Commands.{check_app, routed_app, ends_app, route_app, make_app};
+ghost use Rattle.command_words.specs.Commands.{local_app};
 ghost use Rattle.command_words.specs.Commands.{first_app, asking_app, lockstep_app};
 ghost use Rattle.command_words.specs.Commands.{option_named, required_option, required_number};
 ghost use Rattle.command_words.specs.Commands.{file_names};
@@ -18,7 +19,8 @@ pub(crate) fn lockstep_command<'a>(alloc: Global) -> Result<Command<'a>, NoMemor
     ensures { IfOk result (λ command. app_of command ≡ lockstep_app) }
 {
     let make = make_command(alloc)?;
-    asking_commands(alloc)?.subcommand(make)
+    let local = local_command(alloc)?;
+    asking_commands(alloc)?.subcommand(make)?.subcommand(local)
 }
 
 /// The command of the program with the subcommands that only ask about rules and maps, too.
@@ -118,6 +120,14 @@ fn routed_command<'a>(alloc: Global) -> Result<Command<'a>, NoMemory>
     let map = required_option(alloc, "map");
     let kind = required_option(alloc, "kind");
     Command::new(alloc, "route").arg(map)?.arg(kind)
+}
+
+#[tactic(auto, unfolding(crate::specs::Commands::local_app))]
+fn local_command<'a>(alloc: Global) -> Result<Command<'a>, NoMemory>
+    ensures { IfOk result (Follows local_app) }
+{
+    let names = file_names(alloc);
+    played_command(alloc, "local", "script")?.arg(names)
 }
 
 #[tactic(auto, unfolding(crate::specs::Commands::make_app))]

@@ -1,9 +1,9 @@
 use crate::file_names::FileNames;
 
-/// What `drill` asks for: a run of the drill that a file holds.
+/// What `drill` and `local` ask for: a match by what a file holds, a drill or a script.
 #[derive(Debug, Drop)]
 pub struct DrillQuery<'a> {
-    /// The name of the drill's file.
+    /// The name of that file.
     pub script: &'a str,
 
     /// The name of the map's file, if one is given.

@@ -97,6 +97,7 @@ fn request_for<'a>(
             rules: names_in(alloc, found, 1)?,
         }),
         "route" => Ok(Request::Route(route_in(alloc, found)?)),
+        "local" => Ok(Request::Local(drill_in(alloc, found)?)),
         "make" => Ok(Request::Make {
             number: number_in(found, "number").ok_or(WordsFault::Refused)?,
         }),

@@ -33,4 +33,8 @@ pub enum Request<'a> {
         /// The number of the match.
         number: u32,
     },
+
+    /// `local --script FILE --map FILE RULES`: play the script that the file holds on threads of
+    /// this machine, over the map and the rules.
+    Local(DrillQuery<'a>),
 }

@@ -22,7 +22,7 @@ use Rattle.drill.specs.Shown.{shown_server, shown_peers}
 use Rattle.drill.specs.RunningMatch.{RunState, progress_of, match_from, IsWhole, IsSound}
 use Rattle.drill.specs.Opening.{fresh_run}
 use Rattle.drill.specs.RunsEvents.{PrintsLines, CutsLines, RunsEvents}
-use Rattle.drill.specs.Drilled.{Agree, Reports}
+use Rattle.drill.specs.Drilled.{Agree, IsLeftBy, Reports}
 use Rattle.drill.proofs.RunningMatchLemmas.{all_got}
 use Rattle.drill.proofs.OpeningLemmas.{opening_whole, opening_sound, opening_progress}
 use Rattle.drill.proofs.RunsEventsLemmas.{all_lines_wrote, lines_cut, last_lines_cut, server_is}
@@ -186,6 +186,34 @@ closing_cut m events old mid new run run' text text' server peers fault run_is t
       leaves = tt;
     }
 
+-- What the events left.
+pub all_left :
+    {W : Type 0} (m : Match W) (events : List Event) (out out' : Option (List ℕ)) (run run' : RunState W) (text text' : List ℕ)
+    (left : Drilled W) → run ≡ opened m → text ≡ [] → run'.clients ≡ run.clients → run'.lag ≡ run.lag →
+    RunsEvents {E = RunFault} (match_from m.after m.hash m.summary run) 0 events run out text run' out' text' (Ok tt) →
+    left.server ≡ run'.server → left.peers ≡ run'.peers → IsLeftBy m events left
+all_left {W} m events out out' run run' text text' left run_is text_is clients_are lag_is runs server_eq peers_eq =
+    record {
+      server = server_eq ∙ left_server m events out out' run' text' all;
+      peers = peers_eq ∙ left_peers m events out out' run' text' clients_is lag_eq all;
+      columns = ap (λ (s : ServerState _). length s.columns) server_eq ∙ all.whole.columns ∙ clients_is;
+      count = ap length peers_eq ∙ all.whole.peers ∙ clients_is;
+      agree =
+          let P : ServerState W → Type 0 = λ s. Agree m s left.peers in
+          let Q : List (PeerState W) → Type 0 = λ ps. Agree m run'.server ps in
+          subst P (sym server_eq)
+          (subst Q (sym peers_eq)
+          (sound_agree m run' (left_by m events out out' run' text' all).1));
+    } where
+      all : RunsAll {E = RunFault} m events out run' out' text' (Ok tt)
+      all = opened_runs m events run run' out out' text text' (Ok tt) run_is text_is runs
+
+      clients_is : run'.clients ≡ m.clients
+      clients_is = clients_are ∙ ap (λ (r : RunState _). r.clients) run_is
+
+      lag_eq : run'.lag ≡ m.lag
+      lag_eq = lag_is ∙ ap (λ (r : RunState _). r.lag) run_is
+
 -- The whole report was written.
 pub report_written :
     {W : Type 0} (m : Match W) (events : List Event) (old mid new : SinkState) (run run' : RunState W) (text text' text'' : List ℕ)
@@ -208,18 +236,7 @@ report_written {W} m events old mid new run run' text text' text'' left run_is t
             failed = λ is. absurd cc;
           };
       leaves =
-          record {
-            server = server_eq ∙ left_server m events old.written mid.written run' text' all;
-            peers = peers_eq ∙ left_peers m events old.written mid.written run' text' clients_is lag_eq all;
-            columns = ap (λ (s : ServerState _). length s.columns) server_eq ∙ all.whole.columns ∙ clients_is;
-            count = ap length peers_eq ∙ all.whole.peers ∙ clients_is;
-            agree =
-                let P : ServerState W → Type 0 = λ s. Agree m s left.peers in
-                let Q : List (PeerState W) → Type 0 = λ ps. Agree m run'.server ps in
-                subst P (sym server_eq)
-                (subst Q (sym peers_eq)
-                (sound_agree m run' (left_by m events old.written mid.written run' text' all).1));
-          };
+          all_left m events old.written mid.written run run' text text' left run_is text_is clients_are lag_is runs server_eq peers_eq;
     } where
       all : RunsAll {E = RunFault} m events old.written run' mid.written text' (Ok tt)
       all = opened_runs m events run run' old.written mid.written text text' (Ok tt) run_is text_is runs

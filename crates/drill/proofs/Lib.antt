@@ -10,3 +10,4 @@ pub mod TickedLemmas
 pub mod FoundLemmas
 pub mod SealedLemmas
 pub mod GrownLemmas
+pub mod DraftLemmas

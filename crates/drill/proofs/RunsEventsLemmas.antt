@@ -2,7 +2,7 @@
 use Rattle.std.proofs.Common.{◌≡◌, ℕ, Bool, true, zero, suc, ◌+◌, ◌≤◌, List, [], ◌∷◌, ◌++◌}
 use Rattle.std.proofs.Common.{length, map, drop}
 use Rattle.std.proofs.Common.{refl, sym, ap, ap₂, subst, ◌∙◌, arith, append-nil, append_assoc}
-use Rattle.std.specs.Prelude.{Option, Some, Result, Ok, Err, OnOk, OnErr, slice_get}
+use Rattle.std.specs.Prelude.{Option, None, Some, Result, Ok, Err, OnOk, OnErr, slice_get}
 use Rattle.std.specs.List.{AllByRecursion, list_all}
 use Rattle.std.proofs.lemmas.Bool.{and_parts}
 use Rattle.base.specs.Written.{Wrote, WrotePrefix, WroteUpTo, nothing_yet, one_more, prefix_of}
@@ -68,33 +68,57 @@ flush_prints out out' text text' (Err fault) wrote empty = tt
 pub prints_nothing : (out : Option (List ℕ)) (text : List ℕ) → PrintsLines out text out text []
 prints_nothing out text first rest whole upto = upto
 
+line_is :
+    {W : Type 0} (m : Match W) (number : ℕ) (event : Event) (progress : Progress) (outcome : Outcome) →
+    outcome ≡ outcome_of m progress event → outcome_line number outcome ≡ outcome_lines number (outcomes m progress (event ∷ []))
+line_is m number event progress outcome is = ap (outcome_line number) is ∙ sym (append-nil _)
+
+-- A line after a text was printed.
+pub line_prints :
+    {E : Type 0} (out out' : Option (List ℕ)) (text mid text' line : List ℕ) (result : Result (Unit {0}) E) → mid ≡ text ++ line →
+    OnOk result (PrintsLines out mid out' text' []) → OnOk result (PrintsLines out text out' text' line)
+line_prints out out' text mid text' line (Ok done) mid_is prints = λ first rest whole upto.
+    prints first rest whole (regroup first out text mid line line rest whole mid_is refl upto)
+line_prints out out' text mid text' line (Err fault) mid_is prints = tt
+
+told_nothing : (first : Option (List ℕ)) (old new : List ℕ) → Wrote first None old → Wrote first None new
+told_nothing None old new wrote = refl
+told_nothing (Some held) old new wrote = absurd cc
+
+-- Where the sink tells nothing and nothing is kept back, no line need be made.
+pub untold_prints : (line : List ℕ) → PrintsLines None [] None [] line
+untold_prints line first rest whole upto =
+    record {
+      prefix = upto.prefix ++ line;
+      joined = append_assoc upto.prefix line rest ∙ upto.joined;
+      wrote = told_nothing first upto.prefix (upto.prefix ++ line) upto.wrote;
+    }
+
 -- An event that ran, and whose line was printed or cut off.
 pub event_ran :
     {W E F : Type 0} (match_of : W → Match W) (number : ℕ) (event : Event) (run run' : RunState W)
-    (out out' : Option (List ℕ)) (text mid text' : List ℕ) (outcome : Outcome) (result : Result (Unit {0}) E) →
+    (out out' : Option (List ℕ)) (text text' : List ℕ) (outcome : Outcome) (result : Result (Unit {0}) E) →
     RunsEvent {E = F} match_of event run run' (Ok outcome) →
-    mid ≡ text ++ outcome_line number outcome → OnOk result (PrintsLines out mid out' text' []) →
-    OnErr result (WrotePrefix out out' mid) →
+    OnOk result (PrintsLines out text out' text' (outcome_line number outcome)) →
+    OnErr result (CutsLines out text out' (outcome_line number outcome)) →
     RunsEvents {E = E} match_of number (event ∷ []) run out text run' out' text' result
-event_ran match_of number event run run' out out' text mid text' outcome (Ok done) ran mid_is prints cut =
+event_ran {W} {E} {F} match_of number event run run' out out' text text' outcome (Ok done) ran prints cut =
     record {
       whole = ran.whole;
       left = λ start sound. ((ran.follows start sound).0.left, (ran.follows start sound).1);
-      printed = λ start sound first rest whole upto.
-          prints first rest whole
-          (regroup first out text mid (outcome_line number outcome) _ rest whole mid_is
-          (append-nil _ ∙ ap (outcome_line number) (sym (ran.follows start sound).0.outcome_is)) upto);
+      printed = λ start sound.
+          subst (PrintsLines out text out' text')
+          (line_is (match_of start) number event (progress_of run) outcome (ran.follows start sound).0.outcome_is) prints;
       cut = tt;
     }
-event_ran match_of number event run run' out out' text mid text' outcome (Err fault) ran mid_is prints cut =
+event_ran {W} {E} {F} match_of number event run run' out out' text text' outcome (Err fault) ran prints cut =
     record {
       whole = tt;
       left = tt;
       printed = tt;
-      cut = λ start sound first rest whole upto.
-          prefix_put first out out' mid rest whole
-          (regroup first out text mid (outcome_line number outcome) _ rest whole mid_is
-          (append-nil _ ∙ ap (outcome_line number) (sym (ran.follows start sound).0.outcome_is)) upto) cut;
+      cut = λ start sound.
+          subst (CutsLines out text out')
+          (line_is (match_of start) number event (progress_of run) outcome (ran.follows start sound).0.outcome_is) cut;
     }
 
 -- Memory ran out before anything was written.

@@ -8,3 +8,8 @@ pub mod Opening
 pub mod RunsEvents
 pub mod Drilled
 pub mod Agreement
+pub mod Drawing
+pub mod MadeOrders
+pub mod Draft
+pub mod MadeRound
+pub mod MadeDrill

@@ -40,8 +40,9 @@ pub(crate) fn add_closing<S: Sim>(text: &mut String, left: &Drilled<S>) -> Resul
     add_end_line(text)
 }
 
-/// Adds the line of each column.
-fn add_columns(text: &mut String, columns: &Columns) -> Result<(), NoMemory>
+/// Adds the line of each column. It fails only where it is out of memory, and then a prefix of the
+/// lines may have been added.
+pub fn add_columns(text: &mut String, columns: &Columns) -> Result<(), NoMemory>
     ensures { OnOk result (string_bytes text.new
         ≡ string_bytes text.old ++ column_lines 0 columns.now) }
 {

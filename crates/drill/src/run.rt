@@ -1,29 +1,26 @@
 //! Runs drills.
 ghost use Rattle.std.specs.Prelude.{◌≡◌, ◌<◌, ◌≤◌, ◌++◌, [], ◌∷◌, true, string_bytes, length, OnOk};
-ghost use Rattle.std.specs.Prelude.{OnErr, IsErrOf};
+ghost use Rattle.std.specs.Prelude.{OnErr, IsErrOf, IfOk};
 ghost use Rattle.std.specs.List.{list_all};
 ghost use Rattle.base.specs.Cause.{Rose};
-ghost use Rattle.base.specs.Written.{Wrote, WrotePrefix};
 ghost use Rattle.drill_words.specs.Event.{event_fits};
 ghost use Rattle.drill_words.specs.EventView.{event_of};
 ghost use Rattle.drill.specs.Report.{closing};
 ghost use Rattle.drill.specs.RunningMatch.{match_from, IsWhole};
 ghost use Rattle.drill.specs.RunsEvents.{PrintsLines, CutsLines, RunsEvents};
-ghost use Rattle.drill.specs.Drilled.{match_of, Reports};
+ghost use Rattle.drill.specs.Drilled.{match_of, IsLeftBy, Reports};
 
 use crate::closing::add_closing;
 use crate::drilled::Drilled;
+use crate::event_lines::{EventLines, NoLines, PrintedLines, Untold, flush};
 use crate::opening::open;
 use crate::run_fault::RunFault;
 use crate::running_match::RunningMatch;
-use crate::text::add_outcome_line;
+use base::NoMemory;
 use drill_words::{Drill, EventList, EventView, MAX_EVENTS};
 use frame_core::{Maker, Sim};
 use game_io::Sink;
-use std::alloc::Global;
-
-/// So many bytes of text are gathered before they are written.
-const PIECE: usize = 65_536;
+use std::alloc::{AllocError, Global};
 
 /// Runs a drill, and writes its report: a line for each event as it happens, then the closing
 /// lines for each client's column, each peer, the server and each alarm, and `end`.
@@ -46,22 +43,43 @@ pub fn run_drill<M: Maker, K: Sink>(
     let Ok(mut run) = open(alloc, maker, d.seed, d.clients, d.lag) else {
         return Err(RunFault::NoMemory);
     };
-    let mut text = String::new(alloc);
-    if let Err(fault) = run_events(&mut run, &d.events, &mut text, out) {
+    let mut lines = PrintedLines {
+        text: String::new(alloc),
+    };
+    if let Err(fault) = run_events(&mut run, &d.events, &mut lines, out) {
         return Err(fault);
     }
     let left = run.into_drilled();
-    if let Err(fault) = finish(&left, &mut text, out) {
+    if let Err(fault) = finish(&left, &mut lines.text, out) {
         return Err(fault);
     }
     Ok(left)
 }
 
-/// Runs all events, and prints their lines.
-fn run_events<W: Sim, K: Sink>(
+/// Runs a drill as [`run_drill`] does, and hands back the same, but makes no report. It fails only
+/// where it is out of memory.
+pub fn run_without_report<M: Maker>(
+    alloc: Global,
+    d: &Drill,
+    maker: &M,
+) -> Result<Drilled<M::World>, NoMemory>
+    ensures { IfOk result (λ left. IsLeftBy
+        (match_of M.World.after M.World.hash_of M.World.summary_of (M.made maker.now)
+        d.now.seed d.now.clients d.now.lag)
+        d.now.events left) }
+{
+    let mut run = open(alloc, maker, d.seed, d.clients, d.lag)?;
+    let Ok(()) = run_events(&mut run, &d.events, &mut NoLines, &mut Untold) else {
+        return Err(AllocError);
+    };
+    Ok(run.into_drilled())
+}
+
+/// Runs all events, and takes their lines.
+fn run_events<W: Sim, K: Sink, L: EventLines<K>>(
     run: &mut RunningMatch<W>,
     events: &EventList,
-    text: &mut String,
+    lines: &mut L,
     out: &mut K,
 ) -> Result<(), RunFault>
     requires whole { IsWhole run.old }
@@ -70,27 +88,27 @@ fn run_events<W: Sim, K: Sink>(
     ensures clients { run.new.clients ≡ run.old.clients }
     ensures lag { run.new.lag ≡ run.old.lag }
     ensures runs { RunsEvents (match_from W.after W.hash_of W.summary_of run.old) 0 events.now
-        run.old (K.state out.old).written (string_bytes text.old)
-        run.new (K.state out.new).written (string_bytes text.new) result }
+        run.old (K.state out.old).written (L.kept lines.old)
+        run.new (K.state out.new).written (L.kept lines.new) result }
     ensures later { (K.state out.old).faults ≤ (K.state out.new).faults }
     ensures failed { IsErrOf result RunFault.Write →
         Rose (K.state out.old).faults (K.state out.new).faults }
 {
     for number in 0..events.len() {
         let event = events.get(number);
-        if let Err(fault) = print_event(run, number as u32, event, text, out) {
+        if let Err(fault) = take_event(run, number as u32, event, lines, out) {
             return Err(fault);
         }
     }
     Ok(())
 }
 
-/// Runs an event, and prints its line.
-fn print_event<W: Sim, K: Sink>(
+/// Runs an event, and takes its line.
+fn take_event<W: Sim, K: Sink, L: EventLines<K>>(
     run: &mut RunningMatch<W>,
     number: u32,
     event: EventView<'_>,
-    text: &mut String,
+    lines: &mut L,
     out: &mut K,
 ) -> Result<(), RunFault>
     requires whole { IsWhole run.old }
@@ -98,8 +116,8 @@ fn print_event<W: Sim, K: Sink>(
     ensures clients { run.new.clients ≡ run.old.clients }
     ensures lag { run.new.lag ≡ run.old.lag }
     ensures runs { RunsEvents (match_from W.after W.hash_of W.summary_of run.old)
-        number (event_of event.entry ∷ []) run.old (K.state out.old).written (string_bytes text.old)
-        run.new (K.state out.new).written (string_bytes text.new) result }
+        number (event_of event.entry ∷ []) run.old (K.state out.old).written (L.kept lines.old)
+        run.new (K.state out.new).written (L.kept lines.new) result }
     ensures later { (K.state out.old).faults ≤ (K.state out.new).faults }
     ensures failed { IsErrOf result RunFault.Write →
         Rose (K.state out.old).faults (K.state out.new).faults }
@@ -107,25 +125,7 @@ fn print_event<W: Sim, K: Sink>(
     let Ok(outcome) = run.run_event(event) else {
         return Err(RunFault::NoMemory);
     };
-    let Ok(()) = add_outcome_line(text, number, &outcome) else {
-        return Err(RunFault::NoMemory);
-    };
-    flush_if_full(text, out)
-}
-
-/// Writes the text that is kept back, if it is a piece.
-fn flush_if_full<K: Sink>(text: &mut String, out: &mut K) -> Result<(), RunFault>
-    ensures printed { OnOk result (PrintsLines (K.state out.old).written (string_bytes text.old)
-        (K.state out.new).written (string_bytes text.new) []) }
-    ensures prefix { OnErr result
-        (WrotePrefix (K.state out.old).written (K.state out.new).written (string_bytes text.old)) }
-    ensures later { (K.state out.old).faults ≤ (K.state out.new).faults }
-    ensures failed { OnErr result (Rose (K.state out.old).faults (K.state out.new).faults) }
-{
-    if text.len() < PIECE {
-        return Ok(());
-    }
-    flush(text, out)
+    lines.take(number, &outcome, out)
 }
 
 /// Prints the closing lines, and all that is kept back.
@@ -148,23 +148,4 @@ fn finish<W: Sim, K: Sink>(
         return Err(RunFault::NoMemory);
     };
     flush(text, out)
-}
-
-/// Writes the text that is kept back.
-fn flush<K: Sink>(text: &mut String, out: &mut K) -> Result<(), RunFault>
-    ensures wrote { OnOk result
-        (Wrote (K.state out.old).written (K.state out.new).written (string_bytes text.old)) }
-    ensures empty { OnOk result (string_bytes text.new ≡ []) }
-    ensures prefix { OnErr result
-        (WrotePrefix (K.state out.old).written (K.state out.new).written (string_bytes text.old)) }
-    ensures later { (K.state out.old).faults ≤ (K.state out.new).faults }
-    ensures failed { OnErr result (Rose (K.state out.old).faults (K.state out.new).faults) }
-{
-    match out.put(text.as_bytes()) {
-        Ok(()) => {
-            text.clear();
-            Ok(())
-        }
-        Err(_) => Err(RunFault::Write),
-    }
 }

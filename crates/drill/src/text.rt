@@ -187,17 +187,18 @@ pub(crate) fn add_alarm_line(text: &mut String, client: u8, alarm: Alarm) -> Res
     writeln!(text)
 }
 
-/// Adds the last line of a report.
+/// Adds the last line of a report, `end`. It fails only where it is out of memory.
 #[tactic(auto, unfolding(crate::specs::Text::end_line))]
-pub(crate) fn add_end_line(text: &mut String) -> Result<(), NoMemory>
+pub fn add_end_line(text: &mut String) -> Result<(), NoMemory>
     ensures { OnOk result (string_bytes text.new ≡ string_bytes text.old ++ end_line) }
 {
     writeln!(text, "end")
 }
 
-/// Adds the rest of a line that shows a world.
+/// Adds the rest of a line that shows a world: its hash, its number of actors, and the cash of its
+/// clients. It fails only where it is out of memory.
 #[tactic(auto, unfolding(crate::specs::Text::world_text))]
-pub(crate) fn add_world<S: Sim>(text: &mut String, world: &S) -> Result<(), NoMemory>
+pub fn add_world<S: Sim>(text: &mut String, world: &S) -> Result<(), NoMemory>
     ensures { OnOk result (string_bytes text.new
         ≡ string_bytes text.old ++ world_text S.hash_of S.summary_of world.now) }
 {
@@ -223,7 +224,7 @@ fn add_cash(text: &mut String, each: &[u32]) -> Result<(), NoMemory>
 
 /// Adds a hash, as 16 hexadecimal digits.
 #[tactic(auto, unfolding(drill_words::specs::Hash::hash_digits))]
-fn add_hash(text: &mut String, hash: u64) -> Result<(), NoMemory>
+pub fn add_hash(text: &mut String, hash: u64) -> Result<(), NoMemory>
     ensures { OnOk result (string_bytes text.new ≡ string_bytes text.old ++ hash_digits hash) }
 {
     add_hex(text, HASH_DIGITS, hash)

@@ -1,2 +1,3 @@
 mod RemainingLemmas
 mod PlannedFaults
+mod LinkLemmas

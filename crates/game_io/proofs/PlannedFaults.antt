@@ -17,7 +17,7 @@ past_made : (call before now : ℕ) → before < now → call ≡ before → con
 past_made call before now h is = grind (arith, nat_tests)
 
 -- One planned call more at the front.
-past-cons :
+pub past-cons :
     (calls : ℕ) (planned : FailingCall) (rest : List FailingCall) →
     count_by (is_past calls) (planned ∷ rest) ≡ cond (nat_lt planned.call calls) 1 0 + count_by (is_past calls) rest
 past-cons calls planned rest = sum_by-cons (λ x. cond (is_past calls x) 1 0) planned rest

@@ -7,3 +7,5 @@ pub mod Files
 pub mod DiskState
 pub mod PlannedBytes
 pub mod PlannedFiles
+pub mod NetState
+pub mod PlannedLinks

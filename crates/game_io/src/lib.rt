@@ -1,12 +1,13 @@
-//! The outside as the core sees it: where bytes come from, where they go, and files.
+//! The outside as the core sees it: where bytes come from, where they go, files, and links.
 //!
-//! Each of `Source`, `Sink` and `Disk` has a count of faults that never falls, and may tell its
-//! contents. A call fails only where the count rose in it, and what an object tells changes only as
-//! the call says. The memory forms tell all that they hold and fail at the calls that they were
+//! Each of `Source`, `Sink`, `Disk` and `Net` has a count of faults that never falls, and may tell
+//! its contents. A call fails only where the count rose in it, and what an object tells changes only
+//! as the call says. The memory forms tell all that they hold and fail at the calls that they were
 //! told to; the adapters over std's writers and files tell nothing. A `Gate` holds the threads of a
 //! match where a test wants them held. It stands on `base`.
 #![tactic(auto)]
 
+mod coming_link;
 mod disk;
 mod disk_error;
 mod failed;
@@ -15,8 +16,11 @@ mod file_disk;
 mod gate;
 mod hold_gate;
 mod mem_disk;
+mod mem_link;
+mod mem_net;
 mod mem_sink;
 mod mem_source;
+mod net;
 mod remaining;
 mod schedule;
 mod sink;
@@ -24,6 +28,8 @@ mod source;
 mod std_sink;
 mod stored_file;
 mod sure_disk;
+mod sure_link;
+mod sure_net;
 mod sure_sink;
 mod sure_source;
 #[cfg(test)]
@@ -37,11 +43,14 @@ pub use file_disk::FileDisk;
 pub use gate::{Gate, NoGate};
 pub use hold_gate::{HoldGate, MAX_HOLD_TURNS};
 pub use mem_disk::MemDisk;
+pub use mem_net::MemNet;
 pub use mem_sink::MemSink;
 pub use mem_source::MemSource;
+pub use net::{MAX_LINKS, Net};
 pub use sink::Sink;
 pub use source::Source;
 pub use std_sink::StdSink;
 pub use sure_disk::SureDisk;
+pub use sure_net::SureNet;
 pub use sure_sink::SureSink;
 pub use sure_source::SureSource;

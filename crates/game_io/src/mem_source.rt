@@ -34,6 +34,13 @@ impl MemSource {
             schedule: Schedule::new(failing),
         }
     }
+
+    /// The bytes that are left.
+    pub fn left(&self) -> &[u8]
+        ensures { result.now ≡ self.now.bytes }
+    {
+        self.source.left()
+    }
 }
 
 impl Source for MemSource {

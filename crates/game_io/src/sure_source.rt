@@ -27,6 +27,13 @@ impl SureSource {
     {
         SureSource { bytes, taken: 0 }
     }
+
+    /// The bytes that are left.
+    pub fn left(&self) -> &[u8]
+        ensures { result.now ≡ self.now }
+    {
+        &self.bytes[self.taken..]
+    }
 }
 
 impl Source for SureSource {

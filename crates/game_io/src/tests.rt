@@ -217,3 +217,88 @@ fn real_files_are_read_and_written(rt: HostRuntime) -> Result<(), Fail> {
     fs::remove_file(&rt, &name)?;
     Ok(())
 }
+
+/// A letter for a link that is used, and how many links there are then. It takes two bytes, puts
+/// `ab`, and hands the link back. A digit tells how many bytes were taken; `f`, `t` and `p` that the
+/// net failed, the take, or the put.
+fn use_link<N: Net>(net: &mut N) -> (char, u32) {
+    let number = net.links();
+    if number >= MAX_LINKS {
+        return ('n', number);
+    }
+    let Ok((mut input, mut output)) = net.accept() else {
+        return ('f', net.links());
+    };
+    let mut room = [0u8; 2];
+    let taken = input.take(&mut room);
+    let put = output.put(b"ab");
+    net.take_back(number, input, output);
+    let letter = match (taken, put) {
+        (Ok(0), Ok(())) => '0',
+        (Ok(1), Ok(())) => '1',
+        (Ok(_), Ok(())) => '2',
+        (Err(_), Ok(())) => 't',
+        (_, Err(_)) => 'p',
+    };
+    (letter, net.links())
+}
+
+/// A net with two links to come, of three bytes and of one, in which one call is to fail.
+fn failing_net(alloc: Global, call: u32) -> Result<MemNet, AllocError> {
+    let mut net = MemNet::new(alloc, failing(alloc, call, Remains::Old)?);
+    net.add(b"abc".to_vec(alloc)?, Vec::new(alloc), Vec::new(alloc))?;
+    net.add(b"x".to_vec(alloc)?, Vec::new(alloc), Vec::new(alloc))?;
+    Ok(net)
+}
+
+#[test]
+fn chosen_calls_of_a_net_fail(rt: HostRuntime) -> Result<(), Fail> {
+    let rows = [
+        (0, true, [('2', 1), ('1', 2), ('0', 3)], 1),
+        (1, false, [('f', 0), ('2', 1), ('1', 2)], 1),
+        (2, false, [('2', 1), ('f', 1), ('1', 2)], 1),
+        (3, false, [('2', 1), ('1', 2), ('f', 2)], 1),
+        (4, false, [('2', 1), ('1', 2), ('0', 3)], 0),
+    ];
+    for (call, deaf, answers, faults) in rows {
+        let mut net = failing_net(rt.alloc(), call)?;
+        assert_eq!(rt; net.listen("here").is_err(), deaf);
+        let used = [use_link(&mut net), use_link(&mut net), use_link(&mut net)];
+        assert_eq!(rt; used, answers);
+        assert_eq!(rt; net.faults(), faults);
+    }
+    Ok(())
+}
+
+#[test]
+fn chosen_calls_of_a_link_fail(rt: HostRuntime) -> Result<(), Fail> {
+    let rows = [
+        (0, 1, 't', "ab", "abc", 1),
+        (1, 0, 'p', "a", "c", 1),
+        (0, 0, 'p', "a", "abc", 2),
+        (1, 1, '2', "ab", "c", 0),
+    ];
+    for (take, put, letter, written, left, faults) in rows {
+        let mut net = MemNet::new(rt.alloc(), Vec::new(rt.alloc()));
+        let takes = failing(rt.alloc(), take, Remains::Old)?;
+        let puts = failing(rt.alloc(), put, Remains::Prefix(1))?;
+        net.add(b"abc".to_vec(rt.alloc())?, takes, puts)?;
+        assert_eq!(rt; net.link_faults(0), 0);
+        assert_eq!(rt; use_link(&mut net), (letter, 1));
+        assert_eq!(rt; net.written(0), Some(written.as_bytes()));
+        assert_eq!(rt; net.left(0), Some(left.as_bytes()));
+        assert_eq!(rt; net.link_faults(0), faults);
+    }
+    Ok(())
+}
+
+#[test]
+fn a_sure_net_gives_its_links(rt: HostRuntime) -> Result<(), Fail> {
+    let mut net = SureNet::new(rt.alloc());
+    net.add(b"abc".to_vec(rt.alloc())?)?;
+    assert_eq!(rt; net.listen("here").is_ok(), true);
+    let used = [use_link(&mut net), use_link(&mut net)];
+    assert_eq!(rt; used, [('2', 1), ('0', 2)]);
+    assert_eq!(rt; (net.faults(), net.link_faults(0)), (0, 0));
+    Ok(())
+}

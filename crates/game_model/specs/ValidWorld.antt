@@ -1,6 +1,5 @@
 -- Valid worlds: every bound that holds of a world after so many frames.
-use Rattle.std.specs.Prelude.{◌≡◌, ◌≢◌, ◌<◌, ◌≤◌, ◌*◌, max, ℕ, Bool, true, ◌&&◌, List, length}
-use Rattle.std.specs.Prelude.{Option, Some, None, is_some, IfSome}
+use Rattle.std.specs.Prelude.{◌≡◌, ◌≢◌, ◌<◌, ◌≤◌, ◌*◌, max, ℕ, true, List, length, is_some, IfSome}
 use Rattle.std.specs.List.{All, AllPairs}
 use Rattle.std.specs.Option.{IsSomeAnd}
 use Rattle.world_units.specs.declared.angle.TheConstants.{FULL_TURN}
@@ -11,9 +10,6 @@ use Rattle.activities.specs.declared.activity.Activity.{Activity}
 use Rattle.activities.specs.declared.activity.Activity.TheVariants.{Move, Attack, Harvest, Deliver}
 use Rattle.activities.specs.declared.queue.TheConstants.{MAX_ACTIVITIES}
 use Rattle.rule_traits.specs.declared.kind.Kind.{Kind}
-use Rattle.rule_traits.specs.declared.trait_fields.Armament.{Armament}
-use Rattle.rule_traits.specs.declared.trait_fields.Buildable.{Buildable}
-use Rattle.rule_traits.specs.declared.trait_fields.Harvester.{Harvester}
 use Rattle.rule_traits.specs.Rules.{kind_at, hp_of, moves}
 use Rattle.game_model.specs.declared.actor.Actor.{Actor}
 use Rattle.game_model.specs.declared.actor.Body.{Body}
@@ -27,43 +23,13 @@ use Rattle.game_model.specs.Grid.{IsOn}
 use Rattle.game_model.specs.Setup.{Setup}
 use Rattle.game_model.specs.ValidMap.{IsOreOf, IsOwner}
 use Rattle.game_model.specs.World.{HasClients, clients_of}
+use Rattle.game_model.specs.Kinds.{capacity_in, load_delay_in, unload_delay_in, reload_in}
+use Rattle.game_model.specs.Kinds.{duration_in, gathers, is_unit}
 
 -- A pace within its limits.
 pub record IsPace (pace : ℕ) : Type 0 where
   pub least : 1 ≤ pace
   pub most : pace ≤ MAX_PACE
-
--- A kind gathers ore where it moves and has Harvester.
-abbrev pub gathers : Kind → Bool
-gathers kind = moves kind && is_some kind.harvester
-
--- The most bales that a kind holds: none without Harvester.
-abbrev pub capacity_in : Option Harvester → ℕ
-capacity_in (Some harvester) = harvester.capacity
-capacity_in None = 0
-
--- The turns that it takes to load a bale, and to unload one.
-abbrev pub load_delay_in : Option Harvester → ℕ
-load_delay_in (Some harvester) = harvester.load_delay
-load_delay_in None = 0
-
-abbrev pub unload_delay_in : Option Harvester → ℕ
-unload_delay_in (Some harvester) = harvester.unload_delay
-unload_delay_in None = 0
-
--- The turns from shot to shot: 0 without Armament.
-abbrev pub reload_in : Option Armament → ℕ
-reload_in (Some armament) = armament.reload
-reload_in None = 0
-
--- The turns that it takes to build a unit of the kind.
-abbrev pub duration_in : Option Buildable → ℕ
-duration_in (Some buildable) = buildable.duration
-duration_in None = 0
-
--- A kind is a unit that can be built where it has Buildable and moves.
-abbrev pub is_unit : Kind → Bool
-is_unit kind = is_some kind.buildable && moves kind
 
 -- The leg of an actor of the kind.
 pub record IsLegOf (kind : Kind) (leg : Leg) : Type 0 where

@@ -1,5 +1,6 @@
 -- What becomes of an actor's activities.
-use Rattle.std.specs.Prelude.{nat_lt, if◌then◌else◌, Bool, true, false, List, [], ◌∷◌, ◌++◌, drop, length}
+use Rattle.std.specs.Prelude.{nat_lt, if◌then◌else◌, Bool, true, false, List, [], ◌∷◌, ◌++◌, drop}
+use Rattle.std.specs.Prelude.{length}
 use Rattle.activities.specs.declared.activity.Activity.{Activity}
 use Rattle.activities.specs.declared.queue.TheConstants.{MAX_ACTIVITIES}
 use Rattle.game_model.specs.declared.actor.Actor.{Actor}

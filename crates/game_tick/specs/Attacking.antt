@@ -1,5 +1,6 @@
 -- The step of an Attack.
-use Rattle.std.specs.Prelude.{ℕ, ◌+◌, ◌-◌, ◌==◌, nat_le, if◌then◌else◌, Bool, List, Option, Some, None}
+use Rattle.std.specs.Prelude.{ℕ, ◌+◌, ◌-◌, ◌==◌, nat_le, if◌then◌else◌, Bool, List, Option, Some}
+use Rattle.std.specs.Prelude.{None}
 use Rattle.world_units.specs.Cells.{dist_sq_of, square}
 use Rattle.twister.specs.Place.{Place, after_word}
 use Rattle.twister.specs.Sequence.{draw_of}
@@ -10,10 +11,9 @@ use Rattle.game_model.specs.declared.actor.Actor.{Actor}
 use Rattle.game_model.specs.ActorChanges.{changed_at}
 use Rattle.game_model.specs.Grid.{Grid}
 use Rattle.game_model.specs.Setup.{Setup}
-use Rattle.game_model.specs.ValidWorld.{reload_in}
+use Rattle.game_model.specs.Kinds.{reload_in, kind_of, range_in, damage_in, spread_in}
 use Rattle.game_model.specs.World.{living_of}
 use Rattle.game_tick.specs.Acts.{popped}
-use Rattle.game_tick.specs.Kinds.{kind_of, range_in, damage_in, spread_in}
 use Rattle.game_tick.specs.Moving.{gone_towards}
 
 -- The actors after the step, and the place in the sequence of random words from which the next one
@@ -52,7 +52,8 @@ fought_with setup built dice actors a kind waits (Some target) =
     if a.body.reload == 0
     then record {
       actors =
-          changed_at (changed_at actors target.id (hit_by (points_of kind dice))) a.id (reloading kind);
+          changed_at (changed_at actors target.id (hit_by (points_of kind dice))) a.id
+          (reloading kind);
       dice = after_word dice;
     }
     else record { actors = actors; dice = dice }
@@ -70,4 +71,5 @@ fought_with setup built dice actors a kind waits (Some target) =
 unfoldable pub after_attack :
     Setup → Grid Bool → Place → List Actor → Actor → (target waits : ℕ) → Fought
 after_attack setup built dice actors a target waits =
-    fought_with setup built dice actors a (kind_of setup.rules a.kind) waits (living_of actors target)
+    fought_with setup built dice actors a (kind_of setup.rules a.kind) waits
+    (living_of actors target)

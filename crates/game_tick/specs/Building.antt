@@ -15,8 +15,8 @@ use Rattle.game_model.specs.Grid.{at_cell}
 use Rattle.game_model.specs.Setup.{Setup}
 use Rattle.game_model.specs.Walks.{cost_at}
 use Rattle.game_model.specs.World.{is_occupied, new_actor}
+use Rattle.game_model.specs.Kinds.{kind_of, costs_in}
 use Rattle.game_tick.specs.declared.limits.TheConstants.{LAST_ID}
-use Rattle.game_tick.specs.Kinds.{kind_of, costs_in}
 
 -- The actors and the next id after the step.
 pub record Built : Type 0 where
@@ -31,15 +31,18 @@ with_builds builds a = record a { body = record a.body { builds = builds } }
 abbrev pub is_open : Setup → List Actor → Kind → Option CPos → Bool
 is_open setup actors product None = false
 is_open setup actors product (Some p) =
-    nat_lt 0 (cost_at (costs_in product.mobile) (at_cell setup.map.terrain p)) && not (is_occupied actors p)
+    nat_lt 0 (cost_at (costs_in product.mobile) (at_cell setup.map.terrain p)) && not
+    (is_occupied actors p)
 
 -- The least direction in which a unit of the kind finds such a neighbour of a cell.
 abbrev pub exit_of : Setup → List Actor → Kind → CPos → Option ℕ
 exit_of setup actors product p =
-    find (λ d. is_open setup actors product (neighbour_of setup.map.width setup.map.height p d)) directions
+    find (λ d. is_open setup actors product (neighbour_of setup.map.width setup.map.height p d))
+    directions
 
 -- The actors after a unit came out into a cell in direction d, and the build is done.
-abbrev pub came_out : Setup → List Actor → (next_id : ℕ) → Actor → Build → List Build → (d : ℕ) → Option CPos → Built
+abbrev pub came_out :
+    Setup → List Actor → (next_id : ℕ) → Actor → Build → List Build → (d : ℕ) → Option CPos → Built
 came_out setup actors next_id a build rest d None = record { actors = actors; next_id = next_id }
 came_out setup actors next_id a build rest d (Some p) =
     record {
@@ -50,7 +53,8 @@ came_out setup actors next_id a build rest d (Some p) =
     }
 
 -- The unit comes out where there is an exit; else the build waits, done.
-abbrev pub finished : Setup → List Actor → (next_id : ℕ) → Actor → Build → List Build → Option ℕ → Built
+abbrev pub finished :
+    Setup → List Actor → (next_id : ℕ) → Actor → Build → List Build → Option ℕ → Built
 finished setup actors next_id a build rest None =
     record {
       actors = changed_at actors a.id (with_builds (record build { left = 0 } ∷ rest));

@@ -1,5 +1,6 @@
 -- Proofs about the step of the first build of an actor.
-use Rattle.std.specs.Prelude.{◌≡◌, ◌≢◌, ℕ, ◌+◌, ◌-◌, ◌==◌, ◌<◌, ◌≤◌, ◌&&◌, Bool, true, false, if◌then◌else◌, nat_lt, not}
+use Rattle.std.specs.Prelude.{◌≡◌, ◌≢◌, ℕ, ◌+◌, ◌-◌, ◌==◌, ◌<◌, ◌≤◌, ◌&&◌, Bool, true, false}
+use Rattle.std.specs.Prelude.{if◌then◌else◌, nat_lt, not}
 use Rattle.std.specs.Prelude.{List, [], ◌∷◌, ◌++◌, length, Option, Some, None, IsSomeAnd, refl}
 use Rattle.std.specs.List.{All}
 use Rattle.std.proofs.Common.{subst, inl, arith}
@@ -23,13 +24,16 @@ use Rattle.game_model.specs.Setup.{Setup}
 use Rattle.game_model.specs.StartLemmas.{new_body_of}
 use Rattle.game_model.specs.ValidWorld.{IsBodyOf, IsBuildOf, IsSoundActor, IsUnderWay}
 use Rattle.game_model.specs.Walks.{cost_at}
-use Rattle.game_model.specs.World.{full_health_of, is_alive, is_occupied, living_of, new_actor, new_body}
+use Rattle.game_model.specs.World.{full_health_of, is_alive, is_occupied, living_of, new_actor}
+use Rattle.game_model.specs.World.{new_body}
+use Rattle.game_model.specs.Kinds.{costs_in, kind_of}
 use Rattle.game_tick.specs.declared.limits.TheConstants.{LAST_ID}
-use Rattle.game_tick.specs.Building.{Built, after_build, built_first, came_out, exit_of, finished, has_room, is_open, with_builds}
-use Rattle.game_tick.specs.Kinds.{costs_in, kind_of}
+use Rattle.game_tick.specs.Building.{Built, after_build, built_first, came_out, exit_of, finished}
+use Rattle.game_tick.specs.Building.{has_room, is_open, with_builds}
 use Rattle.game_tick.specs.ChangesLemmas.{All-changed, All-found, changed, length-changed_at}
-use Rattle.game_tick.specs.MovingLemmas.{find_passes, free_cell, on_from_test}
-use Rattle.game_tick.specs.SoundLemmas.{AreSound, IsHurt, Steps, all_sound, body_of, some_weaker, sound_builds}
+use Rattle.game_tick.specs.WayLemmas.{find_passes, free_cell, on_from_test}
+use Rattle.game_tick.specs.SoundLemmas.{AreSound, IsHurt, Steps, all_sound, body_of, some_weaker}
+use Rattle.game_tick.specs.SoundLemmas.{sound_builds}
 
 -- Other builds of an actor.
 pub builds_steps :
@@ -38,7 +42,8 @@ pub builds_steps :
     All (IsBuildOf setup.rules (kind_of setup.rules a.kind)) builds →
     Steps setup clients next_id (changed_at actors a.id (with_builds builds)) (with_builds builds a)
 builds_steps setup clients next_id actors a builds steps count each =
-    changed setup clients next_id (IsHurt setup.rules) actors a (with_builds builds) steps refl (inl refl)
+    changed setup clients next_id (IsHurt setup.rules) actors a (with_builds builds) steps refl
+    (inl refl)
     (sound_builds setup clients next_id a builds steps.sound count each) steps.fine
 
 -- A new id makes no actor less sound.
@@ -68,7 +73,9 @@ appended setup clients next_id actors new are room id free sound hurt =
           record {
             each =
                 All-push (IsSoundActor setup clients (next_id + 1)) actors new
-                (All-weaker (IsSoundActor setup clients next_id) (IsSoundActor setup clients (next_id + 1)) (sound_later setup clients next_id) actors are.ready.each)
+                (All-weaker (IsSoundActor setup clients next_id)
+                (IsSoundActor setup clients (next_id + 1)) (sound_later setup clients next_id)
+                actors are.ready.each)
                 sound;
             rise =
                 all_pairs_push (λ (x y : Actor). x.id < y.id) actors new are.ready.rise
@@ -91,16 +98,21 @@ on_by true width height q p is found =
 on_by false width height q p is found = absurd cc
 
 neighbour_on_by :
-    (width height : ℕ) (to : Option CPos) (p : CPos) → if_on width height to ≡ Some p → IsOn width height p
-neighbour_on_by width height (Some q) p found = on_by (is_on width height q) width height q p refl found
+    (width height : ℕ) (to : Option CPos) (p : CPos) → if_on width height to ≡ Some p →
+    IsOn width height p
+neighbour_on_by width height (Some q) p found =
+    on_by (is_on width height q) width height q p refl found
 neighbour_on_by width height None p found = absurd cc
 
 open_by :
-    (setup : Setup) (actors : List Actor) (product : Kind) (to : Option CPos) (p : CPos) → to ≡ Some p →
+    (setup : Setup) (actors : List Actor) (product : Kind) (to : Option CPos) (p : CPos) →
+    to ≡ Some p →
     is_open setup actors product to ≡ true → is_occupied actors p ≡ false
 open_by setup actors product (Some q) p same passes =
     let at : q ≡ p = grind arith in
-    let parts = and_parts (nat_lt 0 (cost_at (costs_in product.mobile) (at_cell setup.map.terrain q))) (not (is_occupied actors q)) passes in
+    let parts =
+    and_parts (nat_lt 0 (cost_at (costs_in product.mobile) (at_cell setup.map.terrain q)))
+    (not (is_occupied actors q)) passes in
     subst (λ r. is_occupied actors r ≡ false) at (not-true (is_occupied actors q) parts.1)
 open_by setup actors product None p same passes = absurd cc
 
@@ -126,7 +138,8 @@ sound_unit setup clients next_id a build p d sound least on is =
       cell = on;
       facing = omega arith;
       body =
-          some_weaker (kind_at setup.rules build.kind) (IsUnderWay build.left) (λ kind. IsBodyOf setup kind (new_body a.body.owner (dir_angle_of d) health))
+          some_weaker (kind_at setup.rules build.kind) (IsUnderWay build.left)
+          (λ kind. IsBodyOf setup kind (new_body a.body.owner (dir_angle_of d) health))
           (λ kind way. new_body_of setup kind a.body.owner (dir_angle_of d) health) is.product;
     }
 
@@ -135,19 +148,26 @@ abbrev pub AreBuilt : Setup → (clients : ℕ) → Built → Type 0
 AreBuilt setup clients built = AreSound setup clients built.next_id built.actors
 
 came_out_sound :
-    (setup : Setup) (clients next_id : ℕ) (actors : List Actor) (a : Actor) (build : Build) (rest : List Build) (d : ℕ) (to : Option CPos) →
+    (setup : Setup) (clients next_id : ℕ) (actors : List Actor) (a : Actor) (build : Build)
+    (rest : List Build) (d : ℕ) (to : Option CPos) →
     neighbour_of setup.map.width setup.map.height a.cell d ≡ to →
     is_open setup actors (kind_of setup.rules build.kind) to ≡ true →
-    Steps setup clients next_id actors a → living_of actors a.id ≡ Some a → length actors < MAX_ACTORS →
+    Steps setup clients next_id actors a → living_of actors a.id ≡ Some a →
+    length actors < MAX_ACTORS →
     IsBuildOf setup.rules (kind_of setup.rules a.kind) build →
     AreSound setup clients next_id (changed_at actors a.id (with_builds rest)) →
     AreBuilt setup clients (came_out setup actors next_id a build rest d to)
-came_out_sound setup clients next_id actors a build rest d None to passes steps living room is after =
+came_out_sound setup clients next_id actors a build rest d None to passes steps living room is
+    after =
     all_sound setup clients next_id actors a steps
-came_out_sound setup clients next_id actors a build rest d (Some p) to passes steps living room is after =
-    let free = free_cell actors p (open_by setup actors (kind_of setup.rules build.kind) (Some p) p refl passes) in
+came_out_sound setup clients next_id actors a build rest d (Some p) to passes steps living room
+    is after =
+    let free =
+    free_cell actors p
+    (open_by setup actors (kind_of setup.rules build.kind) (Some p) p refl passes) in
     let apart : a.cell ≢ p =
-    All-found (λ (b : Actor). b.cell ≢ p) (λ (b : Actor). (b.id == a.id) && is_alive b) actors a free living in
+    All-found (λ (b : Actor). b.cell ≢ p) (λ (b : Actor). (b.id == a.id) && is_alive b) actors a
+    free living in
     let on = neighbour_on_by setup.map.width setup.map.height (step_of a.cell d) p to in
     appended setup clients next_id (changed_at actors a.id (with_builds rest))
     (new_actor setup.rules next_id build.kind a.body.owner p (dir_angle_of d)) after
@@ -157,18 +177,25 @@ came_out_sound setup clients next_id actors a build rest d (Some p) to passes st
     (new_hurt (kind_at setup.rules build.kind) (IsUnderWay build.left) is.product)
 
 finished_sound :
-    (setup : Setup) (clients next_id : ℕ) (actors : List Actor) (a : Actor) (build : Build) (rest : List Build) (exit : Option ℕ) →
+    (setup : Setup) (clients next_id : ℕ) (actors : List Actor) (a : Actor) (build : Build)
+    (rest : List Build) (exit : Option ℕ) →
     exit_of setup actors (kind_of setup.rules build.kind) a.cell ≡ exit →
-    Steps setup clients next_id actors a → living_of actors a.id ≡ Some a → length actors < MAX_ACTORS →
+    Steps setup clients next_id actors a → living_of actors a.id ≡ Some a →
+    length actors < MAX_ACTORS →
     IsBuildOf setup.rules (kind_of setup.rules a.kind) build →
     AreSound setup clients next_id (changed_at actors a.id (with_builds rest)) →
-    AreSound setup clients next_id (changed_at actors a.id (with_builds (record build { left = 0 } ∷ rest))) →
+    AreSound setup clients next_id
+    (changed_at actors a.id (with_builds (record build { left = 0 } ∷ rest))) →
     AreBuilt setup clients (finished setup actors next_id a build rest exit)
-finished_sound setup clients next_id actors a build rest None found steps living room is after waits = waits
-finished_sound setup clients next_id actors a build rest (Some d) found steps living room is after waits =
+finished_sound setup clients next_id actors a build rest None found steps living room is after
+    waits = waits
+finished_sound setup clients next_id actors a build rest (Some d) found steps living room is
+    after waits =
     let product : Kind = kind_of setup.rules build.kind in
-    let test : ℕ → Bool = λ e. is_open setup actors product (neighbour_of setup.map.width setup.map.height a.cell e) in
-    came_out_sound setup clients next_id actors a build rest d (neighbour_of setup.map.width setup.map.height a.cell d) refl
+    let test : ℕ → Bool =
+    λ e. is_open setup actors product (neighbour_of setup.map.width setup.map.height a.cell e) in
+    came_out_sound setup clients next_id actors a build rest d
+    (neighbour_of setup.map.width setup.map.height a.cell d) refl
     (find_passes test directions d found) steps living room is after
 
 less_left :
@@ -179,37 +206,47 @@ less_left rules kind build left less is =
       producer = is.producer;
       product =
           some_weaker (kind_at rules build.kind) (IsUnderWay build.left) (IsUnderWay left)
-          (λ product way. record { unit = way.unit; rest = omega (arith, less, way.rest) }) is.product;
+          (λ product way. record { unit = way.unit; rest = omega (arith, less, way.rest) })
+          is.product;
     }
 
 built_by :
-    (done : Bool) (setup : Setup) (clients next_id : ℕ) (actors : List Actor) (a : Actor) (build : Build) (rest : List Build) →
+    (done : Bool) (setup : Setup) (clients next_id : ℕ) (actors : List Actor) (a : Actor)
+    (build : Build) (rest : List Build) →
     ((build.left - 1 == 0) && has_room actors next_id) ≡ done →
     Steps setup clients next_id actors a → living_of actors a.id ≡ Some a →
     IsBuildOf setup.rules (kind_of setup.rules a.kind) build →
     AreSound setup clients next_id (changed_at actors a.id (with_builds rest)) →
-    ((left : ℕ) → left ≤ build.left → AreSound setup clients next_id (changed_at actors a.id (with_builds (record build { left = left } ∷ rest)))) →
+    ((left : ℕ) → left ≤ build.left →
+    AreSound setup clients next_id
+    (changed_at actors a.id (with_builds (record build { left = left } ∷ rest)))) →
     AreBuilt setup clients (
     if done
-    then finished setup actors next_id a build rest (exit_of setup actors (kind_of setup.rules build.kind) a.cell)
+    then finished setup actors next_id a build rest
+    (exit_of setup actors (kind_of setup.rules build.kind) a.cell)
     else record {
       actors = changed_at actors a.id (with_builds (record build { left = build.left - 1 } ∷ rest));
       next_id = next_id;
     })
 built_by true setup clients next_id actors a build rest is steps living one after replaced =
-    let room = and_parts (nat_lt (length actors) MAX_ACTORS) (nat_lt next_id LAST_ID) (and_parts (build.left - 1 == 0) (has_room actors next_id) is).1 in
-    finished_sound setup clients next_id actors a build rest (exit_of setup actors (kind_of setup.rules build.kind) a.cell) refl steps living
+    let room =
+    and_parts (nat_lt (length actors) MAX_ACTORS) (nat_lt next_id LAST_ID)
+    (and_parts (build.left - 1 == 0) (has_room actors next_id) is).1 in
+    finished_sound setup clients next_id actors a build rest
+    (exit_of setup actors (kind_of setup.rules build.kind) a.cell) refl steps living
     (ltb-true (length actors) MAX_ACTORS room.0) one after (replaced 0 (omega arith))
 built_by false setup clients next_id actors a build rest is steps living one after replaced =
     replaced (build.left - 1) (omega arith)
 
 first_by :
-    (done : Bool) (setup : Setup) (clients next_id : ℕ) (actors : List Actor) (a : Actor) (build : Build) (rest : List Build) →
+    (done : Bool) (setup : Setup) (clients next_id : ℕ) (actors : List Actor) (a : Actor)
+    (build : Build) (rest : List Build) →
     ((build.left - 1 == 0) && has_room actors next_id) ≡ done → a.body.builds ≡ build ∷ rest →
     Steps setup clients next_id actors a → living_of actors a.id ≡ Some a →
     AreBuilt setup clients (
     if done
-    then finished setup actors next_id a build rest (exit_of setup actors (kind_of setup.rules build.kind) a.cell)
+    then finished setup actors next_id a build rest
+    (exit_of setup actors (kind_of setup.rules build.kind) a.cell)
     else record {
       actors = changed_at actors a.id (with_builds (record build { left = build.left - 1 } ∷ rest));
       next_id = next_id;
@@ -219,15 +256,22 @@ first_by done setup clients next_id actors a build rest is has steps living =
     let P : Build → Type 0 = IsBuildOf setup.rules kind in
     let body = body_of setup clients next_id a steps.sound in
     let all : All P (build ∷ rest) = subst (All P) has body.builds in
-    let count : length (build ∷ rest) ≤ MAX_BUILDS = subst (λ (bs : List Build). length bs ≤ MAX_BUILDS) has body.build_count in
+    let count : length (build ∷ rest) ≤ MAX_BUILDS =
+    subst (λ (bs : List Build). length bs ≤ MAX_BUILDS) has body.build_count in
     let one : P build = All-head P build rest all in
     let others : All P rest = All-tail P build rest all in
-    let replaced : (left : ℕ) → left ≤ build.left → AreSound setup clients next_id (changed_at actors a.id (with_builds (record build { left = left } ∷ rest))) =
+    let replaced :
+    (left : ℕ) → left ≤ build.left → AreSound setup clients next_id
+    (changed_at actors a.id (with_builds (record build { left = left } ∷ rest))) =
     λ left less. all_sound setup clients next_id _ _
-    (builds_steps setup clients next_id actors a (record build { left = left } ∷ rest) steps (omega (arith, count))
-    (All-cons P (record build { left = left }) rest (less_left setup.rules kind build left less one) others)) in
+    (builds_steps setup clients next_id actors a (record build { left = left } ∷ rest) steps
+    (omega (arith, count))
+    (All-cons P (record build { left = left }) rest
+    (less_left setup.rules kind build left less one) others))
+    in
     built_by done setup clients next_id actors a build rest is steps living one
-    (all_sound setup clients next_id _ _ (builds_steps setup clients next_id actors a rest steps (omega (arith, count)) others))
+    (all_sound setup clients next_id _ _
+    (builds_steps setup clients next_id actors a rest steps (omega (arith, count)) others))
     replaced
 
 built_by_room :
@@ -237,7 +281,8 @@ built_by_room :
 built_by_room setup clients next_id actors a [] has steps living =
     all_sound setup clients next_id actors a steps
 built_by_room setup clients next_id actors a (build ∷ rest) has steps living =
-    first_by ((build.left - 1 == 0) && has_room actors next_id) setup clients next_id actors a build rest refl has steps living
+    first_by ((build.left - 1 == 0) && has_room actors next_id) setup clients next_id actors a build
+    rest refl has steps living
 
 -- The step of the first build.
 pub build_sound :

@@ -18,7 +18,8 @@ length-changed_at [] id change = refl
 length-changed_at (a ∷ actors) id change = ap suc (length-changed_at actors id change)
 
 pub get_or-changed_at :
-    (actors : List Actor) (id : ℕ) (change : Actor → Actor) (k : ℕ) (d : Actor) → k < length actors →
+    (actors : List Actor) (id : ℕ) (change : Actor → Actor) (k : ℕ) (d : Actor) →
+    k < length actors →
     get_or (changed_at actors id change) k d
     ≡ (if (get_or actors k d).id == id then change (get_or actors k d) else get_or actors k d)
 get_or-changed_at [] id change k d within = absurd (omega arith)
@@ -48,8 +49,10 @@ pub becomes :
     (k : ℕ) (d : Actor) → k < length actors →
     Becomes a (change a) (get_or actors k d) (get_or (changed_at actors a.id change) k d)
 becomes actors a change only k d within =
-    subst (Becomes a (change a) (get_or actors k d)) (sym (get_or-changed_at actors a.id change k d within))
-    (becomes_by ((get_or actors k d).id == a.id) a (get_or actors k d) change refl (only k d within))
+    subst (Becomes a (change a) (get_or actors k d))
+    (sym (get_or-changed_at actors a.id change k d within))
+    (becomes_by ((get_or actors k d).id == a.id) a (get_or actors k d) change refl
+    (only k d within))
 
 holds_after :
     (P : Actor → Type 0) (a c x y : Actor) → Becomes a c x y → P x → P c → P y
@@ -87,7 +90,12 @@ pub rise_after :
 rise_after actors a change only same rise = λ i j d less within.
     let inside : j < length actors = omega (arith, within, length-changed_at actors a.id change) in
     let low : i < length actors = omega arith in
-    omega (arith, rise i j d less inside, same_after (λ (b : Actor). b.id) actors a change only same i d low, same_after (λ (b : Actor). b.id) actors a change only same j d inside)
+    omega (
+      arith,
+      rise i j d less inside,
+      same_after (λ (b : Actor). b.id) actors a change only same i d low,
+      same_after (λ (b : Actor). b.id) actors a change only same j d inside,
+    )
 
 -- Nobody holds the cell, or the actor itself does.
 abbrev pub IsFreeFor : List Actor → Actor → CPos → Type 0
@@ -97,15 +105,23 @@ cells_after :
     (a c x y u v : Actor) → Becomes a c x y → Becomes a c u v → x.id < u.id → x.cell ≢ u.cell →
     ((c.cell ≡ a.cell) ⊎ ((x.cell ≢ c.cell) × (u.cell ≢ c.cell))) → y.cell ≢ v.cell
 cells_after a c x y u v (inl other) (inl next) less apart free =
-    λ same. apart (sym (ap (λ (b : Actor). b.cell) other.1) ∙ same ∙ ap (λ (b : Actor). b.cell) next.1)
+    λ same.
+    apart (sym (ap (λ (b : Actor). b.cell) other.1) ∙ same ∙ ap (λ (b : Actor). b.cell) next.1)
 cells_after a c x y u v (inl other) (inr next) less apart (inl same) =
-    λ is. apart (sym (ap (λ (b : Actor). b.cell) other.1) ∙ is ∙ ap (λ (b : Actor). b.cell) next.1 ∙ same ∙ sym (ap (λ (b : Actor). b.cell) next.0))
+    λ is.
+    apart
+    (sym (ap (λ (b : Actor). b.cell) other.1) ∙ is ∙ ap (λ (b : Actor). b.cell) next.1 ∙ same ∙ sym
+    (ap (λ (b : Actor). b.cell) next.0))
 cells_after a c x y u v (inl other) (inr next) less apart (inr free) =
     λ is. free.0 (sym (ap (λ (b : Actor). b.cell) other.1) ∙ is ∙ ap (λ (b : Actor). b.cell) next.1)
 cells_after a c x y u v (inr here) (inl next) less apart (inl same) =
-    λ is. apart (ap (λ (b : Actor). b.cell) here.0 ∙ sym same ∙ sym (ap (λ (b : Actor). b.cell) here.1) ∙ is ∙ ap (λ (b : Actor). b.cell) next.1)
+    λ is.
+    apart
+    (ap (λ (b : Actor). b.cell) here.0 ∙ sym same ∙ sym (ap (λ (b : Actor). b.cell) here.1) ∙ is
+    ∙ ap (λ (b : Actor). b.cell) next.1)
 cells_after a c x y u v (inr here) (inl next) less apart (inr free) =
-    λ is. free.1 (sym (ap (λ (b : Actor). b.cell) next.1) ∙ sym is ∙ ap (λ (b : Actor). b.cell) here.1)
+    λ is.
+    free.1 (sym (ap (λ (b : Actor). b.cell) next.1) ∙ sym is ∙ ap (λ (b : Actor). b.cell) here.1)
 cells_after a c x y u v (inr here) (inr next) less apart free =
     let first : x.id ≡ a.id = ap (λ (b : Actor). b.id) here.0 in
     let second : u.id ≡ a.id = ap (λ (b : Actor). b.id) next.0 in
@@ -128,14 +144,17 @@ apart_after actors a change only free rise apart = λ i j d less within.
     let inside : j < length actors = omega (arith, within, length-changed_at actors a.id change) in
     let low : i < length actors = omega arith in
     let after : List Actor = changed_at actors a.id change in
-    cells_after a (change a) (get_or actors i d) (get_or after i d) (get_or actors j d) (get_or after j d)
+    cells_after a (change a) (get_or actors i d) (get_or after i d) (get_or actors j d)
+    (get_or after j d)
     (becomes actors a change only i d low) (becomes actors a change only j d inside)
     (rise i j d less inside) (apart i j d less inside)
     (free_of_two actors a (change a).cell i j d free low inside)
 
 -- The actors are ready for steps, this one is the only one of its id, and the two predicates of a
 -- valid world hold of it.
-pub record Stands (setup : Setup) (clients next_id : ℕ) (H : Actor → Type 0) (actors : List Actor) (a : Actor) : Type 0 where
+pub record Stands
+    (setup : Setup) (clients next_id : ℕ) (H : Actor → Type 0) (actors : List Actor) (a : Actor) :
+    Type 0 where
   pub ready : StepReady setup clients next_id actors
   pub all : All H actors
   pub only : IsOnly actors a
@@ -150,24 +169,30 @@ only_after a c x y (inr here) same is = here.1
 
 -- The change of an actor to one that is as sound.
 pub changed :
-    (setup : Setup) (clients next_id : ℕ) (H : Actor → Type 0) (actors : List Actor) (a : Actor) (change : Actor → Actor) →
+    (setup : Setup) (clients next_id : ℕ) (H : Actor → Type 0) (actors : List Actor) (a : Actor)
+    (change : Actor → Actor) →
     Stands setup clients next_id H actors a → (change a).id ≡ a.id →
-    IsFreeFor actors a (change a).cell → IsSoundActor setup clients next_id (change a) → H (change a) →
+    IsFreeFor actors a (change a).cell → IsSoundActor setup clients next_id (change a) →
+    H (change a) →
     Stands setup clients next_id H (changed_at actors a.id change) (change a)
 changed setup clients next_id H actors a change stands same free sound fine =
     record {
       ready =
           record {
-            each = All-changed (IsSoundActor setup clients next_id) actors a change stands.only stands.ready.each sound;
+            each =
+                All-changed (IsSoundActor setup clients next_id) actors a change stands.only
+                stands.ready.each sound;
             rise = rise_after actors a change stands.only same stands.ready.rise;
-            apart = apart_after actors a change stands.only free stands.ready.rise stands.ready.apart;
+            apart =
+                apart_after actors a change stands.only free stands.ready.rise stands.ready.apart;
             count = omega (arith, stands.ready.count, length-changed_at actors a.id change);
             next = stands.ready.next;
           };
       all = All-changed H actors a change stands.only stands.all fine;
       only =
           λ k d within.
-          let inside : k < length actors = omega (arith, within, length-changed_at actors a.id change) in
+          let inside : k < length actors =
+          omega (arith, within, length-changed_at actors a.id change) in
           only_after a (change a) (get_or actors k d) (get_or (changed_at actors a.id change) k d)
           (becomes actors a change stands.only k d inside) same;
       sound = sound;
@@ -184,7 +209,8 @@ other_after a c x y b (inr here) same differ only is =
 
 -- Another actor stands after the change of one.
 pub changed_other :
-    (setup : Setup) (clients next_id : ℕ) (H : Actor → Type 0) (actors : List Actor) (a b : Actor) (change : Actor → Actor) →
+    (setup : Setup) (clients next_id : ℕ) (H : Actor → Type 0) (actors : List Actor) (a b : Actor)
+    (change : Actor → Actor) →
     Stands setup clients next_id H actors a → Stands setup clients next_id H actors b →
     a.id ≢ b.id → (change a).id ≡ a.id →
     Stands setup clients next_id H (changed_at actors a.id change) (change a) →
@@ -195,8 +221,10 @@ changed_other setup clients next_id H actors a b change stands other differ same
       all = after.all;
       only =
           λ k d within.
-          let inside : k < length actors = omega (arith, within, length-changed_at actors a.id change) in
-          other_after a (change a) (get_or actors k d) (get_or (changed_at actors a.id change) k d) b
+          let inside : k < length actors =
+          omega (arith, within, length-changed_at actors a.id change) in
+          other_after a (change a) (get_or actors k d) (get_or (changed_at actors a.id change) k d)
+          b
           (becomes actors a change stands.only k d inside) same differ (other.only k d inside);
       sound = other.sound;
       fine = other.fine;
@@ -208,7 +236,8 @@ IsFound {X} test xs x =
     (k : ℕ) × (k < length xs) × ((d : X) → get_or xs k d ≡ x) × (test x ≡ true)
 
 later_found :
-    {X : Type 0} (test : X → Bool) (x : X) (xs : List X) (y : X) → IsFound test xs y → IsFound test (x ∷ xs) y
+    {X : Type 0} (test : X → Bool) (x : X) (xs : List X) (y : X) → IsFound test xs y →
+    IsFound test (x ∷ xs) y
 later_found test x xs y (k, within, at, passes) = (suc k, omega arith, at, passes)
 
 found_first :
@@ -243,7 +272,8 @@ pub is_only :
     (actors : List Actor) (id : ℕ) (a : Actor) → AllPairs (λ (x y : Actor). x.id < y.id) actors →
     living_of actors id ≡ Some a → IsOnly actors a
 is_only actors id a rise found =
-    let (k, within, at, passes) = found_in (λ (b : Actor). (b.id == id) && is_alive b) actors a found in
+    let (k, within, at, passes) =
+    found_in (λ (b : Actor). (b.id == id) && is_alive b) actors a found in
     only_at actors a k within at rise
 
 -- What holds of all holds of what a search finds.
@@ -255,13 +285,16 @@ All-found P test xs y all found =
     subst P (at y) (all k y within)
 
 -- The id of the living actor of an id.
-pub id_of_living : (actors : List Actor) (id : ℕ) (a : Actor) → living_of actors id ≡ Some a → a.id ≡ id
+pub id_of_living :
+    (actors : List Actor) (id : ℕ) (a : Actor) → living_of actors id ≡ Some a → a.id ≡ id
 id_of_living actors id a found =
-    let (k, within, at, passes) = found_in (λ (b : Actor). (b.id == id) && is_alive b) actors a found in
+    let (k, within, at, passes) =
+    found_in (λ (b : Actor). (b.id == id) && is_alive b) actors a found in
     eqb-true a.id id (and_parts (a.id == id) (is_alive a) passes).0
 
 pub living_stands :
-    (setup : Setup) (clients next_id : ℕ) (H : Actor → Type 0) (actors : List Actor) (id : ℕ) (a : Actor) →
+    (setup : Setup) (clients next_id : ℕ) (H : Actor → Type 0) (actors : List Actor) (id : ℕ)
+    (a : Actor) →
     StepReady setup clients next_id actors → All H actors → living_of actors id ≡ Some a →
     Stands setup clients next_id H actors a
 living_stands setup clients next_id H actors id a ready all found =

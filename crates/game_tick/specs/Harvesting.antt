@@ -1,6 +1,7 @@
 -- The steps of a Harvest and of a Deliver.
-use Rattle.std.specs.Prelude.{ℕ, ◌+◌, ◌-◌, ◌==◌, nat_le, nat_lt, min, not, ◌&&◌, if◌then◌else◌, Bool}
-use Rattle.std.specs.Prelude.{List, Option, Some, None, is_some, filter, length, slice_index, slice_set}
+use Rattle.std.specs.Prelude.{ℕ, ◌+◌, ◌-◌, ◌==◌, nat_le, nat_lt, min, not, ◌&&◌, if◌then◌else◌}
+use Rattle.std.specs.Prelude.{Bool, List, Option, Some, None, is_some, filter, length, slice_index}
+use Rattle.std.specs.Prelude.{slice_set}
 use Rattle.world_units.specs.declared.cell.CPos.{CPos}
 use Rattle.world_units.specs.Cells.{apart, same_cell, dist_sq_of}
 use Rattle.activities.specs.declared.activity.Activity.TheVariants.{Harvest, Deliver}
@@ -11,10 +12,10 @@ use Rattle.game_model.specs.ActorChanges.{changed_at}
 use Rattle.game_model.specs.Grid.{Grid, with_cell}
 use Rattle.game_model.specs.OreRows.{has_ore}
 use Rattle.game_model.specs.Setup.{Setup}
-use Rattle.game_model.specs.ValidWorld.{capacity_in, load_delay_in, unload_delay_in}
+use Rattle.game_model.specs.Kinds.{capacity_in, load_delay_in, unload_delay_in}
 use Rattle.game_model.specs.World.{is_alive}
+use Rattle.game_model.specs.Kinds.{kind_of, bale_value_in}
 use Rattle.game_tick.specs.Acts.{popped, with_first}
-use Rattle.game_tick.specs.Kinds.{kind_of, bale_value_in}
 use Rattle.game_tick.specs.Moving.{gone_towards}
 use Rattle.game_tick.specs.Nearest.{first_least, nearest_ore, ore_at}
 
@@ -43,7 +44,8 @@ after_loading before a kind cell timer waits =
           (λ (b : Actor). with_load (b.body.load + 1) (with_first (Harvest cell 0 waits) b));
       ore = with_cell before.ore cell (ore_at before.ore cell - 1);
     }
-    else with_actors before (changed_at before.actors a.id (with_first (Harvest cell (timer + 1) waits)))
+    else with_actors before
+    (changed_at before.actors a.id (with_first (Harvest cell (timer + 1) waits)))
 
 -- The named cell has no ore: the nearest one that has takes its place. Where there is none, what is
 -- loaded is delivered, or the activity ends.
@@ -71,7 +73,8 @@ after_harvest setup built before a cell timer waits =
     else (
     if same_cell a.cell cell
     then after_loading before a kind cell timer waits
-    else with_actors before (gone_towards setup built before.actors a cell waits (Harvest cell timer))
+    else with_actors before
+    (gone_towards setup built before.actors a cell waits (Harvest cell timer))
     ))
 
 -- The other is a living refinery of the same owner.
@@ -83,7 +86,8 @@ is_refinery_for rules a other =
 -- The nearest such refinery. Of those that are equally near, the least id decides.
 unfoldable pub nearest_refinery : List Kind → List Actor → Actor → Option Actor
 nearest_refinery rules actors a =
-    first_least (λ (other : Actor). dist_sq_of a.cell other.cell) (filter (is_refinery_for rules a) actors)
+    first_least (λ (other : Actor). dist_sq_of a.cell other.cell)
+    (filter (is_refinery_for rules a) actors)
 
 -- The cash after a payment to an owner, up to `MAX_CASH`. Who is no client gets none.
 abbrev pub paid_to : List ℕ → (owner amount : ℕ) → List ℕ
@@ -98,7 +102,8 @@ is_beside p q = nat_le (apart p.x q.x) 1 && nat_le (apart p.y q.y) 1
 
 -- A Deliver beside the refinery: one turn more, and after as many as a bale takes, a bale is
 -- unloaded and paid, and the count begins anew.
-abbrev pub after_unloading : Harvested → Actor → Kind → (value : ℕ) → CPos → (timer waits : ℕ) → Harvested
+abbrev pub after_unloading :
+    Harvested → Actor → Kind → (value : ℕ) → CPos → (timer waits : ℕ) → Harvested
 after_unloading before a kind value home timer waits =
     if nat_le (unload_delay_in kind.harvester) (timer + 1)
     then record before {
@@ -107,7 +112,8 @@ after_unloading before a kind value home timer waits =
           (λ (b : Actor). with_load (b.body.load - 1) (with_first (Deliver home 0 waits) b));
       cash = paid_to before.cash a.body.owner value;
     }
-    else with_actors before (changed_at before.actors a.id (with_first (Deliver home (timer + 1) waits)))
+    else with_actors before
+    (changed_at before.actors a.id (with_first (Deliver home (timer + 1) waits)))
 
 -- With a load, and the nearest refinery: the activity ends where there is none; beside it the actor
 -- unloads, elsewhere it moves towards it.
@@ -129,4 +135,5 @@ unfoldable pub after_deliver :
 after_deliver setup built before a home timer waits =
     if a.body.load == 0
     then with_actors before (changed_at before.actors a.id (with_first (Harvest home 0 0)))
-    else delivered_to setup built before a home timer waits (nearest_refinery setup.rules before.actors a)
+    else delivered_to setup built before a home timer waits
+    (nearest_refinery setup.rules before.actors a)

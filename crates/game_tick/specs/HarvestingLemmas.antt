@@ -1,94 +1,45 @@
 -- Proofs about the steps of a Harvest and of a Deliver.
-use Rattle.std.specs.Prelude.{◌≡◌, ℕ, zero, suc, ◌+◌, ◌-◌, ◌*◌, ◌==◌, ◌<◌, ◌≤◌, Bool, true, false, min, max, nat_le, nat_lt, not}
-use Rattle.std.specs.Prelude.{if◌then◌else◌, List, [], ◌∷◌, length, map, Option, Some, None, refl, slice_index, slice_set}
-use Rattle.std.specs.List.{All, filter, fold, range_with_len}
-use Rattle.std.proofs.Common.{sym, ◌∙◌, ap, subst, inl, arith, length-set}
+use Rattle.std.specs.Prelude.{◌≡◌, ℕ, ◌+◌, ◌-◌, ◌==◌, ◌<◌, ◌≤◌, Bool, true, false, nat_le, nat_lt}
+use Rattle.std.specs.Prelude.{not, if◌then◌else◌, List, map, Option, Some, None, refl}
+use Rattle.std.proofs.Common.{inl, arith}
 use Rattle.std.proofs.lemmas.Bool.{leb-false, and_parts}
-use Rattle.std.proofs.lemmas.List.Elements.{All-from_get_or, All-filter, All-map, All-head, All-tail}
-use Rattle.std.proofs.lemmas.List.FromFn.{length-range_with_len, get_or-range_with_len}
-use Rattle.std.proofs.lemmas.Nat.{div_below, mod_below}
-use Rattle.std.proofs.lemmas.Option.{unwrap_or-slice_get}
 use Rattle.world_units.specs.declared.cell.CPos.{CPos}
-use Rattle.world_units.specs.Cells.{dist_sq_of, same_cell}
+use Rattle.world_units.specs.Cells.{same_cell}
 use Rattle.activities.specs.declared.activity.Activity.{Activity}
 use Rattle.activities.specs.declared.activity.Activity.TheVariants.{Harvest, Deliver}
 use Rattle.rule_traits.specs.declared.kind.Kind.{Kind}
 use Rattle.rule_traits.specs.Rules.{moves}
 use Rattle.game_model.specs.declared.actor.Actor.{Actor}
-use Rattle.game_model.specs.declared.limits.TheConstants.{MAX_CASH, MAX_ORE}
 use Rattle.game_model.specs.ActorChanges.{changed_at}
-use Rattle.game_model.specs.Grid.{Grid, IsOn, HasSize, place_of, with_cell}
-use Rattle.game_model.specs.Keeps.{KeepsCash}
+use Rattle.game_model.specs.Grid.{Grid, HasSize, with_cell}
 use Rattle.game_model.specs.OreRows.{has_ore}
 use Rattle.game_model.specs.Setup.{Setup}
-use Rattle.game_model.specs.ValidMap.{IsMapFor, IsOreOf}
-use Rattle.game_model.specs.ValidWorld.{IsActivityOf, capacity_in, gathers, load_delay_in, unload_delay_in}
+use Rattle.game_model.specs.ValidMap.{IsMapFor}
+use Rattle.game_model.specs.ValidWorld.{IsActivityOf}
+use Rattle.game_model.specs.Kinds.{capacity_in, gathers, load_delay_in, unload_delay_in}
+use Rattle.game_model.specs.Kinds.{bale_value_in, kind_of}
 use Rattle.game_tick.specs.Acts.{popped, with_first}
-use Rattle.game_tick.specs.Harvesting.{Harvested, with_actors, with_load, after_loading, after_search, after_harvest}
-use Rattle.game_tick.specs.Harvesting.{paid_to, is_beside, after_unloading, delivered_to, after_deliver, nearest_refinery}
-use Rattle.game_tick.specs.Kinds.{bale_value_in, kind_of}
+use Rattle.game_tick.specs.Harvesting.{Harvested, with_actors, with_load, after_loading}
+use Rattle.game_tick.specs.Harvesting.{after_search, after_harvest, paid_to, is_beside}
+use Rattle.game_tick.specs.Harvesting.{after_unloading, delivered_to, after_deliver}
+use Rattle.game_tick.specs.Harvesting.{nearest_refinery}
+use Rattle.game_tick.specs.Keeps.{KeepsCash}
 use Rattle.game_tick.specs.Moving.{gone_towards}
-use Rattle.game_tick.specs.Nearest.{cell_of, cells_of, first_least, lesser_by, nearest_ore, ore_at}
+use Rattle.game_tick.specs.Nearest.{nearest_ore, ore_at}
 use Rattle.game_tick.specs.StepKeeps.{HasNoMoreOre}
+use Rattle.game_tick.specs.CashLemmas.{same_cash, paid_keeps}
 use Rattle.game_tick.specs.ChangesLemmas.{changed}
 use Rattle.game_tick.specs.MovingLemmas.{towards_sound}
-use Rattle.game_tick.specs.SoundLemmas.{AreSound, IsHurt, Steps, all_sound, body_of, first_sound, popped_sound, sound_body, sound_first}
-
--- Numbers that are lowered, or lifted to no more than a limit.
-pub lowered :
-    (xs : List ℕ) (i less k : ℕ) → less ≤ slice_index xs i →
-    slice_index (slice_set xs i less) k ≤ slice_index xs k
-lowered [] i less k lower = omega arith
-lowered (x ∷ xs) zero less zero lower = lower
-lowered (x ∷ xs) zero less (suc k) lower = omega arith
-lowered (x ∷ xs) (suc i) less zero lower = omega arith
-lowered (x ∷ xs) (suc i) less (suc k) lower = lowered xs i less k lower
-
-pub lifted :
-    (xs : List ℕ) (i more limit k : ℕ) → more ≤ limit →
-    slice_index (slice_set xs i more) k ≤ max (slice_index xs k) limit
-lifted [] i more limit k within = omega arith
-lifted (x ∷ xs) zero more limit zero within = omega arith
-lifted (x ∷ xs) zero more limit (suc k) within = omega arith
-lifted (x ∷ xs) (suc i) more limit zero within = omega arith
-lifted (x ∷ xs) (suc i) more limit (suc k) within = lifted xs i more limit k within
-
-pub same_ore : (ore : Grid ℕ) → HasNoMoreOre ore ore
-same_ore ore = record { width = refl; height = refl; count = refl; most = λ k. omega arith }
-
-pub less_ore :
-    (ore : Grid ℕ) (p : CPos) → HasNoMoreOre ore (with_cell ore p (ore_at ore p - 1))
-less_ore ore p =
-    record {
-      width = refl;
-      height = refl;
-      count = simp length-set;
-      most =
-          λ k. lowered ore.cells (place_of ore.width p) (ore_at ore p - 1) k
-          (omega (arith, unwrap_or-slice_get ore.cells (place_of ore.width p) 0));
-    }
-
-pub ore_kept :
-    (width height : ℕ) (old new : Grid ℕ) → HasNoMoreOre old new → IsOreOf width height old →
-    IsOreOf width height new
-ore_kept width height old new less is =
-    record {
-      size = record { width = less.width ∙ is.size.width; height = less.height ∙ is.size.height };
-      whole =
-          record {
-            cells = less.count ∙ is.whole.cells ∙ sym (ap (λ n. n * old.height) less.width) ∙ sym (ap (λ n. new.width * n) less.height);
-          };
-      most = All-from_get_or (λ bales. bales ≤ MAX_ORE) new.cells 0 (λ k within. omega (arith, less.most k, is.most k 0 (omega (arith, within, less.count))));
-    }
+use Rattle.game_tick.specs.OreLemmas.{less_ore, nearest_on, same_ore}
+use Rattle.game_tick.specs.SoundLemmas.{AreSound, IsHurt, Steps, all_sound, body_of, first_sound}
+use Rattle.game_tick.specs.SoundLemmas.{popped_sound, sound_body, sound_first}
 
 -- What a step of a harvester leaves.
-pub record IsHarvested (setup : Setup) (clients next_id : ℕ) (before after : Harvested) : Type 0 where
+pub record IsHarvested
+    (setup : Setup) (clients next_id : ℕ) (before after : Harvested) : Type 0 where
   pub sound : AreSound setup clients next_id after.actors
   pub ore : HasNoMoreOre before.ore after.ore
   pub cash : KeepsCash before.cash after.cash
-
-pub same_cash : (cash : List ℕ) → KeepsCash cash cash
-same_cash cash = record { clients = refl; most = λ c. omega arith }
 
 -- Only actors have changed.
 only_actors :
@@ -100,7 +51,8 @@ only_actors setup clients next_id before actors sound =
 
 -- Another load and another first activity.
 load_sound :
-    (setup : Setup) (clients next_id : ℕ) (actors : List Actor) (a : Actor) (load : ℕ → ℕ) (act : Activity) →
+    (setup : Setup) (clients next_id : ℕ) (actors : List Actor) (a : Actor) (load : ℕ → ℕ)
+    (act : Activity) →
     Steps setup clients next_id actors a →
     load a.body.load ≤ capacity_in (kind_of setup.rules a.kind).harvester →
     IsActivityOf setup.map (kind_of setup.rules a.kind) act →
@@ -112,7 +64,8 @@ load_sound setup clients next_id actors a load act steps least fits =
     let is = body_of setup clients next_id (with_first act a) first in
     all_sound setup clients next_id (changed_at actors a.id change) (change a)
     (changed setup clients next_id (IsHurt setup.rules) actors a change steps refl (inl refl)
-    (sound_body setup clients next_id (with_first act a) (change a).body first refl steps.sound.facing
+    (sound_body setup clients next_id (with_first act a) (change a).body first refl
+    steps.sound.facing
     (record {
       leg = is.leg;
       load = least;
@@ -125,7 +78,8 @@ load_sound setup clients next_id actors a load act steps least fits =
     steps.fine)
 
 loading_by :
-    (whole : Bool) (setup : Setup) (clients next_id : ℕ) (before : Harvested) (a : Actor) (cell : CPos) (timer waits : ℕ) →
+    (whole : Bool) (setup : Setup) (clients next_id : ℕ) (before : Harvested) (a : Actor)
+    (cell : CPos) (timer waits : ℕ) →
     nat_le (load_delay_in (kind_of setup.rules a.kind).harvester) (timer + 1) ≡ whole →
     a.body.load < capacity_in (kind_of setup.rules a.kind).harvester →
     Steps setup clients next_id before.actors a →
@@ -138,67 +92,24 @@ loading_by :
           (λ (b : Actor). with_load (b.body.load + 1) (with_first (Harvest cell 0 waits) b));
       ore = with_cell before.ore cell (ore_at before.ore cell - 1);
     }
-    else with_actors before (changed_at before.actors a.id (with_first (Harvest cell (timer + 1) waits))))
+    else with_actors before
+    (changed_at before.actors a.id (with_first (Harvest cell (timer + 1) waits))))
 loading_by true setup clients next_id before a cell timer waits is room steps fits =
     record {
       sound =
-          load_sound setup clients next_id before.actors a (λ n. n + 1) (Harvest cell 0 waits) steps (omega arith)
+          load_sound setup clients next_id before.actors a (λ n. n + 1) (Harvest cell 0 waits) steps
+          (omega arith)
           (fits.0, fits.1, omega arith);
       ore = less_ore before.ore cell;
       cash = same_cash before.cash;
     }
 loading_by false setup clients next_id before a cell timer waits is room steps fits =
-    let below : timer + 1 < load_delay_in (kind_of setup.rules a.kind).harvester = leb-false _ (timer + 1) is in
-    only_actors setup clients next_id before (changed_at before.actors a.id (with_first (Harvest cell (timer + 1) waits)))
-    (first_sound setup clients next_id before.actors a (Harvest cell (timer + 1) waits) steps (fits.0, fits.1, omega arith))
-
--- A cell of the list of all cells is on the map.
-cell_on : (width height place : ℕ) → place < width * height → IsOn width height (cell_of width place)
-cell_on zero height place within = absurd (omega arith)
-cell_on (suc less) height place within =
-    record {
-      column = mod_below place (suc less) (omega arith);
-      row = div_below place (suc less) height (omega arith) (omega arith);
-    }
-
-cells_on : (width height : ℕ) → All (IsOn width height) (cells_of width height)
-cells_on width height =
-    All-map (IsOn width height) (cell_of width) (range_with_len 0 (width * height))
-    (λ k d within.
-    let inside : k < width * height = omega (arith, within, length-range_with_len 0 (width * height)) in
-    subst (λ place. IsOn width height (cell_of width place)) (sym (get_or-range_with_len 0 (width * height) k d inside))
-    (cell_on width height (0 + k) (omega arith)))
-
-lesser_holds :
-    {T : Type 0} (P : T → Type 0) (less : Bool) (first second : T) → P first → P second →
-    P (if less then second else first)
-lesser_holds P true first second one other = other
-lesser_holds P false first second one other = one
-
-fold_holds :
-    {T : Type 0} (P : T → Type 0) (number : T → ℕ) (x : T) (xs : List T) → P x → All P xs →
-    P (fold (lesser_by number) x xs)
-fold_holds P number x [] here all = here
-fold_holds P number x (y ∷ ys) here all =
-    fold_holds P number (lesser_by number x y) ys
-    (lesser_holds P (nat_lt (number y) (number x)) x y here (All-head P y ys all)) (All-tail P y ys all)
-
--- What holds of all holds of the first least one.
-pub least_holds :
-    {T : Type 0} (P : T → Type 0) (number : T → ℕ) (xs : List T) (y : T) → All P xs →
-    first_least number xs ≡ Some y → P y
-least_holds P number [] y all found = absurd cc
-least_holds P number (x ∷ xs) y all found =
-    let same : fold (lesser_by number) x xs ≡ y = grind arith in
-    subst P same (fold_holds P number x xs (All-head P x xs all) (All-tail P x xs all))
-
-nearest_on :
-    (ore : Grid ℕ) (from p : CPos) → nearest_ore ore from ≡ Some p → IsOn ore.width ore.height p
-unfolding nearest_ore
-nearest_on ore from p found =
-    let test : CPos → Bool = λ q. has_ore (ore_at ore q) in
-    least_holds (IsOn ore.width ore.height) (dist_sq_of from) (filter test (cells_of ore.width ore.height)) p
-    (All-filter test (IsOn ore.width ore.height) (cells_of ore.width ore.height) (cells_on ore.width ore.height)) found
+    let below : timer + 1 < load_delay_in (kind_of setup.rules a.kind).harvester =
+    leb-false _ (timer + 1) is in
+    only_actors setup clients next_id before
+    (changed_at before.actors a.id (with_first (Harvest cell (timer + 1) waits)))
+    (first_sound setup clients next_id before.actors a (Harvest cell (timer + 1) waits) steps
+    (fits.0, fits.1, omega arith))
 
 deliver_fits :
     (setup : Setup) (kind : Kind) (cell : CPos) (timer waits : ℕ) →
@@ -208,7 +119,8 @@ deliver_fits setup kind cell timer waits fits =
     (fits.0, record { on_map = fits.1.on_map; patience = omega arith }, omega arith)
 
 none_by :
-    (loaded : Bool) (setup : Setup) (clients next_id : ℕ) (before : Harvested) (a : Actor) (cell : CPos) (timer waits : ℕ) →
+    (loaded : Bool) (setup : Setup) (clients next_id : ℕ) (before : Harvested) (a : Actor)
+    (cell : CPos) (timer waits : ℕ) →
     Steps setup clients next_id before.actors a →
     IsActivityOf setup.map (kind_of setup.rules a.kind) (Harvest cell timer waits) →
     AreSound setup clients next_id (
@@ -222,14 +134,16 @@ none_by false setup clients next_id before a cell timer waits steps fits =
     popped_sound setup clients next_id before.actors a steps
 
 search_by :
-    (setup : Setup) (clients next_id : ℕ) (before : Harvested) (a : Actor) (cell : CPos) (timer waits : ℕ) (nearest : Option CPos) →
+    (setup : Setup) (clients next_id : ℕ) (before : Harvested) (a : Actor) (cell : CPos)
+    (timer waits : ℕ) (nearest : Option CPos) →
     nearest_ore before.ore a.cell ≡ nearest → HasSize setup.map.width setup.map.height before.ore →
     Steps setup clients next_id before.actors a →
     IsActivityOf setup.map (kind_of setup.rules a.kind) (Harvest cell timer waits) →
     IsHarvested setup clients next_id before (after_search before a cell nearest)
 search_by setup clients next_id before a cell timer waits (Some p) found size steps fits =
     let on = nearest_on before.ore a.cell p found in
-    only_actors setup clients next_id before (changed_at before.actors a.id (with_first (Harvest p 0 0)))
+    only_actors setup clients next_id before
+    (changed_at before.actors a.id (with_first (Harvest p 0 0)))
     (first_sound setup clients next_id before.actors a (Harvest p 0 0) steps (
       fits.0,
       record {
@@ -243,13 +157,15 @@ search_by setup clients next_id before a cell timer waits (Some p) found size st
       omega arith,
     ))
 search_by setup clients next_id before a cell timer waits None found size steps fits =
-    only_actors setup clients next_id before _ (none_by (nat_lt 0 a.body.load) setup clients next_id before a cell timer waits steps fits)
+    only_actors setup clients next_id before _
+    (none_by (nat_lt 0 a.body.load) setup clients next_id before a cell timer waits steps fits)
 
 pub gathers_moves : (kind : Kind) → gathers kind ≡ true → moves kind ≡ true
 gathers_moves kind is = (and_parts (moves kind) _ is).0
 
 harvest_by :
-    (full none there : Bool) (setup : Setup) (built : Grid Bool) (clients next_id : ℕ) (before : Harvested) (a : Actor) (cell : CPos) (timer waits : ℕ) →
+    (full none there : Bool) (setup : Setup) (built : Grid Bool) (clients next_id : ℕ)
+    (before : Harvested) (a : Actor) (cell : CPos) (timer waits : ℕ) →
     nat_le (capacity_in (kind_of setup.rules a.kind).harvester) a.body.load ≡ full →
     IsMapFor setup.rules setup.map → HasSize setup.map.width setup.map.height before.ore →
     Steps setup clients next_id before.actors a →
@@ -263,27 +179,36 @@ harvest_by :
     else (
     if there
     then after_loading before a (kind_of setup.rules a.kind) cell timer waits
-    else with_actors before (gone_towards setup built before.actors a cell waits (Harvest cell timer))
+    else with_actors before
+    (gone_towards setup built before.actors a cell waits (Harvest cell timer))
     )))
-harvest_by true none there setup built clients next_id before a cell timer waits is map size steps fits =
+harvest_by true none there setup built clients next_id before a cell timer waits is map size
+    steps fits =
     only_actors setup clients next_id before _
     (first_sound setup clients next_id before.actors a (Deliver cell 0 0) steps
     (deliver_fits setup (kind_of setup.rules a.kind) cell timer waits fits))
-harvest_by false true there setup built clients next_id before a cell timer waits is map size steps fits =
-    search_by setup clients next_id before a cell timer waits (nearest_ore before.ore a.cell) refl size steps fits
-harvest_by false false true setup built clients next_id before a cell timer waits is map size steps fits =
+harvest_by false true there setup built clients next_id before a cell timer waits is map size
+    steps fits =
+    search_by setup clients next_id before a cell timer waits (nearest_ore before.ore a.cell) refl
+    size steps fits
+harvest_by false false true setup built clients next_id before a cell timer waits is map size
+    steps fits =
     let kind : Kind = kind_of setup.rules a.kind in
-    loading_by (nat_le (load_delay_in kind.harvester) (timer + 1)) setup clients next_id before a cell timer waits refl
+    loading_by (nat_le (load_delay_in kind.harvester) (timer + 1)) setup clients next_id before a
+    cell timer waits refl
     (leb-false (capacity_in kind.harvester) a.body.load is) steps fits
-harvest_by false false false setup built clients next_id before a cell timer waits is map size steps fits =
+harvest_by false false false setup built clients next_id before a cell timer waits is map size
+    steps fits =
     only_actors setup clients next_id before _
-    (towards_sound setup built clients next_id before.actors a cell waits (Harvest cell timer) map fits.1.patience steps
+    (towards_sound setup built clients next_id before.actors a cell waits (Harvest cell timer) map
+    fits.1.patience steps
     (gathers_moves (kind_of setup.rules a.kind) fits.0)
     (λ more few. (fits.0, record { on_map = fits.1.on_map; patience = few }, fits.2)))
 
 -- The step of a Harvest.
 pub harvest_is :
-    (setup : Setup) (built : Grid Bool) (clients next_id : ℕ) (before : Harvested) (a : Actor) (cell : CPos) (timer waits : ℕ) →
+    (setup : Setup) (built : Grid Bool) (clients next_id : ℕ) (before : Harvested) (a : Actor)
+    (cell : CPos) (timer waits : ℕ) →
     IsMapFor setup.rules setup.map → HasSize setup.map.width setup.map.height before.ore →
     Steps setup clients next_id before.actors a →
     IsActivityOf setup.map (kind_of setup.rules a.kind) (Harvest cell timer waits) →
@@ -291,27 +216,12 @@ pub harvest_is :
 unfolding after_harvest
 harvest_is setup built clients next_id before a cell timer waits map size steps fits =
     harvest_by (nat_le (capacity_in (kind_of setup.rules a.kind).harvester) a.body.load)
-    (not (has_ore (ore_at before.ore cell))) (same_cell a.cell cell) setup built clients next_id before a cell timer waits refl map size steps fits
-
-paid_by :
-    (client : Bool) (cash : List ℕ) (owner amount : ℕ) →
-    KeepsCash cash (
-    if client
-    then slice_set cash owner (min (slice_index cash owner + amount) MAX_CASH)
-    else cash)
-paid_by true cash owner amount =
-    record {
-      clients = simp length-set;
-      most = λ c. lifted cash owner (min (slice_index cash owner + amount) MAX_CASH) MAX_CASH c (omega arith);
-    }
-paid_by false cash owner amount = same_cash cash
-
--- A payment lifts nobody above the greatest cash.
-pub paid_keeps : (cash : List ℕ) (owner amount : ℕ) → KeepsCash cash (paid_to cash owner amount)
-paid_keeps cash owner amount = paid_by (nat_lt owner (length cash)) cash owner amount
+    (not (has_ore (ore_at before.ore cell))) (same_cell a.cell cell) setup built clients next_id
+    before a cell timer waits refl map size steps fits
 
 unloading_by :
-    (whole : Bool) (setup : Setup) (clients next_id : ℕ) (before : Harvested) (a : Actor) (value : ℕ) (home : CPos) (timer waits : ℕ) →
+    (whole : Bool) (setup : Setup) (clients next_id : ℕ) (before : Harvested) (a : Actor)
+    (value : ℕ) (home : CPos) (timer waits : ℕ) →
     nat_le (unload_delay_in (kind_of setup.rules a.kind).harvester) (timer + 1) ≡ whole →
     Steps setup clients next_id before.actors a →
     IsActivityOf setup.map (kind_of setup.rules a.kind) (Deliver home timer waits) →
@@ -323,69 +233,88 @@ unloading_by :
           (λ (b : Actor). with_load (b.body.load - 1) (with_first (Deliver home 0 waits) b));
       cash = paid_to before.cash a.body.owner value;
     }
-    else with_actors before (changed_at before.actors a.id (with_first (Deliver home (timer + 1) waits))))
+    else with_actors before
+    (changed_at before.actors a.id (with_first (Deliver home (timer + 1) waits))))
 unloading_by true setup clients next_id before a value home timer waits is steps fits =
     let held = (body_of setup clients next_id a steps.sound).load in
     record {
       sound =
-          load_sound setup clients next_id before.actors a (λ n. n - 1) (Deliver home 0 waits) steps (omega arith)
+          load_sound setup clients next_id before.actors a (λ n. n - 1) (Deliver home 0 waits) steps
+          (omega arith)
           (fits.0, fits.1, omega arith);
       ore = same_ore before.ore;
       cash = paid_keeps before.cash a.body.owner value;
     }
 unloading_by false setup clients next_id before a value home timer waits is steps fits =
-    let below : timer + 1 < unload_delay_in (kind_of setup.rules a.kind).harvester = leb-false _ (timer + 1) is in
-    only_actors setup clients next_id before (changed_at before.actors a.id (with_first (Deliver home (timer + 1) waits)))
-    (first_sound setup clients next_id before.actors a (Deliver home (timer + 1) waits) steps (fits.0, fits.1, omega arith))
+    let below : timer + 1 < unload_delay_in (kind_of setup.rules a.kind).harvester =
+    leb-false _ (timer + 1) is in
+    only_actors setup clients next_id before
+    (changed_at before.actors a.id (with_first (Deliver home (timer + 1) waits)))
+    (first_sound setup clients next_id before.actors a (Deliver home (timer + 1) waits) steps
+    (fits.0, fits.1, omega arith))
 
 beside_by :
-    (beside : Bool) (setup : Setup) (built : Grid Bool) (clients next_id : ℕ) (before : Harvested) (a refinery : Actor) (home : CPos) (timer waits : ℕ) →
+    (beside : Bool) (setup : Setup) (built : Grid Bool) (clients next_id : ℕ) (before : Harvested)
+    (a refinery : Actor) (home : CPos) (timer waits : ℕ) →
     IsMapFor setup.rules setup.map → Steps setup clients next_id before.actors a →
     IsActivityOf setup.map (kind_of setup.rules a.kind) (Deliver home timer waits) →
     IsHarvested setup clients next_id before (
     if beside
-    then after_unloading before a (kind_of setup.rules a.kind) (bale_value_in (kind_of setup.rules refinery.kind).refinery) home timer waits
-    else with_actors before (gone_towards setup built before.actors a refinery.cell waits (Deliver home timer)))
+    then after_unloading before a (kind_of setup.rules a.kind)
+    (bale_value_in (kind_of setup.rules refinery.kind).refinery) home timer waits
+    else with_actors before
+    (gone_towards setup built before.actors a refinery.cell waits (Deliver home timer)))
 beside_by true setup built clients next_id before a refinery home timer waits map steps fits =
-    unloading_by (nat_le (unload_delay_in (kind_of setup.rules a.kind).harvester) (timer + 1)) setup clients next_id before a
+    unloading_by (nat_le (unload_delay_in (kind_of setup.rules a.kind).harvester) (timer + 1)) setup
+    clients next_id before a
     (bale_value_in (kind_of setup.rules refinery.kind).refinery) home timer waits refl steps fits
 beside_by false setup built clients next_id before a refinery home timer waits map steps fits =
     only_actors setup clients next_id before _
-    (towards_sound setup built clients next_id before.actors a refinery.cell waits (Deliver home timer) map fits.1.patience steps
+    (towards_sound setup built clients next_id before.actors a refinery.cell waits
+    (Deliver home timer) map fits.1.patience steps
     (gathers_moves (kind_of setup.rules a.kind) fits.0)
     (λ more few. (fits.0, record { on_map = fits.1.on_map; patience = few }, fits.2)))
 
 delivered_by :
-    (setup : Setup) (built : Grid Bool) (clients next_id : ℕ) (before : Harvested) (a : Actor) (home : CPos) (timer waits : ℕ) (found : Option Actor) →
+    (setup : Setup) (built : Grid Bool) (clients next_id : ℕ) (before : Harvested) (a : Actor)
+    (home : CPos) (timer waits : ℕ) (found : Option Actor) →
     IsMapFor setup.rules setup.map → Steps setup clients next_id before.actors a →
     IsActivityOf setup.map (kind_of setup.rules a.kind) (Deliver home timer waits) →
-    IsHarvested setup clients next_id before (delivered_to setup built before a home timer waits found)
+    IsHarvested setup clients next_id before
+    (delivered_to setup built before a home timer waits found)
 delivered_by setup built clients next_id before a home timer waits None map steps fits =
-    only_actors setup clients next_id before _ (popped_sound setup clients next_id before.actors a steps)
+    only_actors setup clients next_id before _
+    (popped_sound setup clients next_id before.actors a steps)
 delivered_by setup built clients next_id before a home timer waits (Some refinery) map steps fits =
-    beside_by (is_beside a.cell refinery.cell) setup built clients next_id before a refinery home timer waits map steps fits
+    beside_by (is_beside a.cell refinery.cell) setup built clients next_id before a refinery home
+    timer waits map steps fits
 
 deliver_by :
-    (empty : Bool) (setup : Setup) (built : Grid Bool) (clients next_id : ℕ) (before : Harvested) (a : Actor) (home : CPos) (timer waits : ℕ) →
+    (empty : Bool) (setup : Setup) (built : Grid Bool) (clients next_id : ℕ) (before : Harvested)
+    (a : Actor) (home : CPos) (timer waits : ℕ) →
     IsMapFor setup.rules setup.map → Steps setup clients next_id before.actors a →
     IsActivityOf setup.map (kind_of setup.rules a.kind) (Deliver home timer waits) →
     IsHarvested setup clients next_id before (
     if empty
     then with_actors before (changed_at before.actors a.id (with_first (Harvest home 0 0)))
-    else delivered_to setup built before a home timer waits (nearest_refinery setup.rules before.actors a))
+    else delivered_to setup built before a home timer waits
+    (nearest_refinery setup.rules before.actors a))
 deliver_by true setup built clients next_id before a home timer waits map steps fits =
     only_actors setup clients next_id before _
     (first_sound setup clients next_id before.actors a (Harvest home 0 0) steps
     (fits.0, record { on_map = fits.1.on_map; patience = omega arith }, omega arith))
 deliver_by false setup built clients next_id before a home timer waits map steps fits =
-    delivered_by setup built clients next_id before a home timer waits (nearest_refinery setup.rules before.actors a) map steps fits
+    delivered_by setup built clients next_id before a home timer waits
+    (nearest_refinery setup.rules before.actors a) map steps fits
 
 -- The step of a Deliver.
 pub deliver_is :
-    (setup : Setup) (built : Grid Bool) (clients next_id : ℕ) (before : Harvested) (a : Actor) (home : CPos) (timer waits : ℕ) →
+    (setup : Setup) (built : Grid Bool) (clients next_id : ℕ) (before : Harvested) (a : Actor)
+    (home : CPos) (timer waits : ℕ) →
     IsMapFor setup.rules setup.map → Steps setup clients next_id before.actors a →
     IsActivityOf setup.map (kind_of setup.rules a.kind) (Deliver home timer waits) →
     IsHarvested setup clients next_id before (after_deliver setup built before a home timer waits)
 unfolding after_deliver
 deliver_is setup built clients next_id before a home timer waits map steps fits =
-    deliver_by (a.body.load == 0) setup built clients next_id before a home timer waits map steps fits
+    deliver_by (a.body.load == 0) setup built clients next_id before a home timer waits map steps
+    fits

@@ -18,10 +18,10 @@ use Rattle.game_model.specs.Grid.{Grid}
 use Rattle.game_model.specs.Setup.{Setup}
 use Rattle.game_model.specs.Walks.{land_of}
 use Rattle.game_model.specs.World.{is_occupied}
+use Rattle.game_model.specs.Kinds.{kind_of, speed_in, turning_in, costs_in}
 use Rattle.game_tick.specs.declared.moving.Moving.{Moving}
 use Rattle.game_tick.specs.declared.moving.Moving.TheVariants.{Going, GivenUp}
 use Rattle.game_tick.specs.Acts.{popped, with_first}
-use Rattle.game_tick.specs.Kinds.{kind_of, speed_in, turning_in, costs_in}
 
 -- The leg after a step of so many units. It ends where it has its whole length.
 abbrev pub leg_after : (speed : ℕ) → Leg → Option Leg
@@ -41,7 +41,8 @@ with_leg_step kind body = record body { leg = leg_step (speed_in kind.mobile) bo
 -- The actors after the leg step of the one of an id.
 abbrev pub after_leg : List Kind → List Actor → ℕ → List Actor
 after_leg rules actors id =
-    changed_at actors id (λ (a : Actor). record a { body = with_leg_step (kind_of rules a.kind) a.body })
+    changed_at actors id
+    (λ (a : Actor). record a { body = with_leg_step (kind_of rules a.kind) a.body })
 
 -- The actors after a step towards a cell, and how the step ended.
 pub record Moved : Type 0 where

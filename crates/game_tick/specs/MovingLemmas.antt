@@ -1,16 +1,13 @@
 -- Proofs about legs and steps towards a cell.
-use Rattle.std.specs.Prelude.{◌≡◌, ◌≢◌, ℕ, zero, suc, ◌+◌, ◌-◌, ◌*◌, ◌%◌, ◌==◌, ◌<◌, ◌&&◌, ◌||◌, not, nat_lt, Bool, true, false}
-use Rattle.std.specs.Prelude.{if◌then◌else◌, List, [], ◌∷◌, Option, Some, None, IfSome, refl}
-use Rattle.std.specs.List.{All, find, list_any}
-use Rattle.std.proofs.Common.{sym, ◌∙◌, subst, inl, inr, arith}
-use Rattle.std.proofs.lemmas.Bool.{ltb-true, and_parts, or_parts, false≢true}
-use Rattle.std.proofs.lemmas.List.Elements.{All-nil, All-cons, All-from_recursion}
+use Rattle.std.specs.Prelude.{◌≡◌, ℕ, ◌+◌, ◌-◌, ◌%◌, ◌==◌, ◌<◌, ◌||◌, nat_lt, Bool, true, false}
+use Rattle.std.specs.Prelude.{if◌then◌else◌, List, Option, Some, None, IfSome, refl, map}
+use Rattle.std.proofs.Common.{sym, subst, inl, inr, arith}
+use Rattle.std.proofs.lemmas.Bool.{ltb-true}
 use Rattle.world_units.specs.declared.angle.TheConstants.{FULL_TURN}
 use Rattle.world_units.specs.declared.direction.TheConstants.{DIRECTIONS}
 use Rattle.world_units.specs.declared.cell.CPos.{CPos}
 use Rattle.world_units.specs.Angles.{dir_angle_of}
 use Rattle.world_units.specs.Cells.{same_cell}
-use Rattle.world_units.specs.CellLemmas.{cell_decides}
 use Rattle.world_units.specs.Directions.{leg_length_of, step_of}
 use Rattle.world_units.specs.Turning.{left_of, right_of, turn_of}
 use Rattle.activities.specs.declared.activity.Activity.{Activity}
@@ -21,24 +18,25 @@ use Rattle.game_model.specs.declared.actor.Actor.{Actor}
 use Rattle.game_model.specs.declared.actor.Body.{Body}
 use Rattle.game_model.specs.declared.actor.Leg.{Leg}
 use Rattle.game_model.specs.declared.limits.TheConstants.{MAX_WAITS}
-use Rattle.game_model.specs.declared.map.Map.{Map}
-use Rattle.game_model.specs.declared.terrain.Terrain.{Terrain}
 use Rattle.game_model.specs.ActorChanges.{changed_at, with_body}
-use Rattle.game_model.specs.BestDirection.{best_dir_of, by_fare, by_step, directions, distance_of, is_cost, leads_on}
-use Rattle.game_model.specs.Grid.{Grid, IsOn, is_on, at_cell}
+use Rattle.game_model.specs.BestDirection.{best_dir_of}
+use Rattle.game_model.specs.Grid.{Grid, IsOn}
 use Rattle.game_model.specs.Setup.{Setup}
 use Rattle.game_model.specs.ValidMap.{IsMapFor}
 use Rattle.game_model.specs.ValidWorld.{IsActivityOf, IsBodyOf, IsLegOf, IsSoundActor}
-use Rattle.game_model.specs.Walks.{Land, cost_at, fare_of, holds, is_free, land_of, toll_of}
+use Rattle.game_model.specs.Walks.{land_of}
 use Rattle.game_model.specs.World.{is_occupied}
+use Rattle.game_model.specs.Kinds.{kind_of, speed_in, turning_in, costs_in}
 use Rattle.game_tick.specs.declared.moving.Moving.{Moving}
 use Rattle.game_tick.specs.declared.moving.Moving.TheVariants.{Going, GivenUp}
 use Rattle.game_tick.specs.Acts.{popped, with_first}
-use Rattle.game_tick.specs.Kinds.{kind_of, speed_in, turning_in, costs_in}
-use Rattle.game_tick.specs.Moving.{Moved, after_leg, after_move, gone_on, gone_towards, leg_after, leg_step}
-use Rattle.game_tick.specs.Moving.{moved_in, moved_into, moved_towards, set_out, waiting_after, with_leg_step}
-use Rattle.game_tick.specs.ChangesLemmas.{All-found, found_in, changed}
-use Rattle.game_tick.specs.SoundLemmas.{AreSound, IsHurt, Steps, all_sound, body_of, first_sound, popped_sound, sound_body}
+use Rattle.game_tick.specs.Moving.{Moved, after_leg, after_move, gone_on, gone_towards, leg_after}
+use Rattle.game_tick.specs.Moving.{leg_step, moved_in, moved_into, moved_towards, set_out}
+use Rattle.game_tick.specs.Moving.{waiting_after, with_leg_step}
+use Rattle.game_tick.specs.ChangesLemmas.{changed}
+use Rattle.game_tick.specs.SoundLemmas.{AreSound, IsHurt, Steps, all_sound, body_of, first_sound}
+use Rattle.game_tick.specs.SoundLemmas.{popped_sound, sound_body}
+use Rattle.game_tick.specs.WayLemmas.{free_cell, best_is_way, IsWay}
 
 -- Angles stay within a full turn.
 pub dir_angle_below : (d : ℕ) → dir_angle_of d < FULL_TURN
@@ -53,14 +51,16 @@ turn_below_by false false f d by less = omega arith
 
 pub turn_below : (f d by : ℕ) → d < FULL_TURN → turn_of f d by < FULL_TURN
 turn_below f d by less =
-    turn_below_by (nat_lt (left_of f d) by || nat_lt (right_of f d) by) (nat_lt (right_of f d) (left_of f d)) f d by less
+    turn_below_by (nat_lt (left_of f d) by || nat_lt (right_of f d) by)
+    (nat_lt (right_of f d) (left_of f d)) f d by less
 
 -- A leg after a step, if it has not ended.
 leg_after_by :
     (on : Bool) (kind : Kind) (speed : ℕ) (leg : Leg) →
     nat_lt (leg.progress + speed) (leg_length_of leg.dir) ≡ on → moves kind ≡ true →
     leg.dir < DIRECTIONS →
-    IfSome (if on then Some (record leg { progress = leg.progress + speed }) else None) (IsLegOf kind)
+    IfSome (if on then Some (record leg { progress = leg.progress + speed }) else None)
+    (IsLegOf kind)
 leg_after_by true kind speed leg is can within =
     record {
       moves = can;
@@ -73,7 +73,8 @@ pub leg_after_is :
     (kind : Kind) (speed : ℕ) (leg : Leg) → moves kind ≡ true → leg.dir < DIRECTIONS →
     IfSome (leg_after speed leg) (IsLegOf kind)
 leg_after_is kind speed leg can within =
-    leg_after_by (nat_lt (leg.progress + speed) (leg_length_of leg.dir)) kind speed leg refl can within
+    leg_after_by (nat_lt (leg.progress + speed) (leg_length_of leg.dir)) kind speed leg refl can
+    within
 
 leg_step_is :
     (kind : Kind) (speed : ℕ) (leg : Option Leg) → IfSome leg (IsLegOf kind) →
@@ -103,124 +104,16 @@ pub leg_sound :
     AreSound setup clients next_id (after_leg setup.rules actors a.id)
 leg_sound setup clients next_id actors a steps =
     let kind : Kind = kind_of setup.rules a.kind in
-    let step : Actor → Actor = λ b. record b { body = with_leg_step (kind_of setup.rules b.kind) b.body } in
+    let step : Actor → Actor =
+    λ b. record b { body = with_leg_step (kind_of setup.rules b.kind) b.body } in
     let is = body_of setup clients next_id a steps.sound in
     all_sound setup clients next_id (changed_at actors a.id step) (step a)
     (changed setup clients next_id (IsHurt setup.rules) actors a step steps refl (inl refl)
-    (sound_body setup clients next_id a (with_leg_step kind a.body) steps.sound refl steps.sound.facing
+    (sound_body setup clients next_id a (with_leg_step kind a.body) steps.sound refl
+    steps.sound.facing
     (with_leg setup kind a.body (leg_step (speed_in kind.mobile) a.body.leg) is
     (leg_step_is kind (speed_in kind.mobile) a.body.leg is.leg)))
     steps.fine)
-
--- The direction is one of the eight, and where it leads on the map can be entered.
-pub record IsWay (map : Map) (p : CPos) (d : ℕ) : Type 0 where
-  pub direction : d < DIRECTIONS
-  pub enters : (q : CPos) → step_of p d ≡ Some q → IsOn map.width map.height q
-
-fare_needs_toll :
-    (even free : Bool) (toll : ℕ) →
-    0 < (if even then 5 * toll else (if free then 7 * toll else 0)) → 0 < toll
-fare_needs_toll true free toll more = omega arith
-fare_needs_toll false true toll more = omega arith
-fare_needs_toll false false toll more = absurd (omega arith)
-
-toll_of_fare : (toll : CPos → ℕ) (p : CPos) (d : ℕ) (q : CPos) → 0 < fare_of toll p d q → 0 < toll q
-unfolding fare_of
-toll_of_fare toll p d q more =
-    fare_needs_toll (d % 2 == 0)
-    (is_free toll (step_of p ((d + 1) % 8)) && is_free toll (step_of p ((d + 7) % 8))) (toll q) more
-
-cost_needs_fare : (fare : ℕ) (rest here : Option ℕ) → is_cost (by_fare fare rest) here ≡ true → 0 < fare
-cost_needs_fare zero rest here is = absurd cc
-cost_needs_fare (suc less) rest here is = omega arith
-
-cost_needs_toll :
-    (land : Land) (rest : CPos → Option ℕ) (p : CPos) (d : ℕ) (to : Option CPos) (here : Option ℕ) (q : CPos) → to ≡ Some q →
-    is_cost (by_step land rest p d to) here ≡ true → 0 < land.toll q
-cost_needs_toll land rest p d (Some r) here q same is =
-    let at : r ≡ q = grind arith in
-    subst (λ s. 0 < land.toll s) at
-    (toll_of_fare land.toll p d r (cost_needs_fare (fare_of land.toll p d r) (rest r) here is))
-cost_needs_toll land rest p d None here q same is = absurd cc
-
-directions_below : All (λ d. d < DIRECTIONS) directions
-directions_below =
-    All-from_recursion (λ d. d < DIRECTIONS) directions
-    (omega arith, (omega arith, (omega arith, (omega arith, (omega arith, (omega arith, (omega arith, (omega arith, tt))))))))
-
-pub find_passes : {X : Type 0} (test : X → Bool) (xs : List X) (y : X) → find test xs ≡ Some y → test y ≡ true
-find_passes test xs y found =
-    let (k, within, at, passes) = found_in test xs y found in
-    passes
-
--- Where a direction of least cost leads can be entered.
-best_by :
-    (here : Bool) (map : Map) (land : Land) (p : CPos) (d : ℕ) →
-    (if here then None else find (leads_on map land p) directions) ≡ Some d →
-    (d < DIRECTIONS) × ((q : CPos) → step_of p d ≡ Some q → 0 < land.toll q)
-best_by true map land p d found = absurd cc
-best_by false map land p d found =
-    let passes : leads_on map land p d ≡ true = find_passes (leads_on map land p) directions d found in (
-      All-found (λ e. e < DIRECTIONS) (leads_on map land p) directions d directions_below found,
-      λ q to. cost_needs_toll land (distance_of map land) p d (step_of p d) (distance_of map land p) q to passes,
-    )
-
-best_enters :
-    (map : Map) (land : Land) (p : CPos) (d : ℕ) → best_dir_of map land p ≡ Some d →
-    (d < DIRECTIONS) × ((q : CPos) → step_of p d ≡ Some q → 0 < land.toll q)
-unfolding best_dir_of
-best_enters map land p d found = best_by (same_cell p land.goal) map land p d found
-
-toll_needs_map :
-    (here able : Bool) (cost : ℕ) → 0 < (if here && able then cost else 0) → here ≡ true
-toll_needs_map true able cost more = refl
-toll_needs_map false able cost more = absurd (omega arith)
-
-pub toll_on_map :
-    (terrain : Grid Terrain) (built : Grid Bool) (kind : Kind) (goal p : CPos) →
-    0 < toll_of terrain built (costs_in kind.mobile) goal p →
-    is_on terrain.width terrain.height p ≡ true
-unfolding toll_of
-toll_on_map terrain built kind goal p more =
-    toll_needs_map (is_on terrain.width terrain.height p) (same_cell p goal || not (holds (at_cell built p)))
-    (cost_at (costs_in kind.mobile) (at_cell terrain p)) more
-
-pub on_from_test : (width height : ℕ) (p : CPos) → is_on width height p ≡ true → IsOn width height p
-on_from_test width height p is =
-    let parts = and_parts (nat_lt p.x width) (nat_lt p.y height) is in
-    record { column = ltb-true p.x width parts.0; row = ltb-true p.y height parts.1 }
-
-pub best_is_way :
-    (setup : Setup) (built : Grid Bool) (kind : Kind) (p goal : CPos) (d : ℕ) →
-    IsMapFor setup.rules setup.map →
-    best_dir_of setup.map (land_of setup.map built (costs_in kind.mobile) goal) p ≡ Some d →
-    IsWay setup.map p d
-best_is_way setup built kind p goal d map found =
-    let (within, enters) = best_enters setup.map (land_of setup.map built (costs_in kind.mobile) goal) p d found in
-    record {
-      direction = within;
-      enters =
-          λ q to.
-          let on = on_from_test setup.map.terrain.width setup.map.terrain.height q (toll_on_map setup.map.terrain built kind goal q (enters q to)) in
-          record {
-            column = omega (arith, on.column, map.terrain.width);
-            row = omega (arith, on.row, map.terrain.height);
-          };
-    }
-
-none_passes : {X : Type 0} (test : X → Bool) (xs : List X) → list_any test xs ≡ false → All (λ x. test x ≡ false) xs
-none_passes test [] none = All-nil (λ x. test x ≡ false)
-none_passes test (x ∷ xs) none =
-    let parts = or_parts (test x) (list_any test xs) none in
-    All-cons (λ y. test y ≡ false) x xs parts.0 (none_passes test xs parts.1)
-
--- Nobody holds a cell that is not occupied.
-pub free_cell :
-    (actors : List Actor) (p : CPos) → is_occupied actors p ≡ false →
-    All (λ (b : Actor). b.cell ≢ p) actors
-free_cell actors p none = λ k d within same.
-    let tested = none_passes (λ (b : Actor). same_cell b.cell p) actors none k d within in
-    false≢true (sym tested ∙ (cell_decides _ p).1 same)
 
 -- The waits of a step that goes on are below their limit.
 abbrev pub IsAnswer : Moving → Type 0
@@ -263,13 +156,18 @@ sound_at setup clients next_id a p sound on =
     }
 
 into_by :
-    (occupied : Bool) (setup : Setup) (clients next_id : ℕ) (actors : List Actor) (a : Actor) (waits d : ℕ) (next : CPos) →
+    (occupied : Bool) (setup : Setup) (clients next_id : ℕ) (actors : List Actor) (a : Actor)
+    (waits d : ℕ) (next : CPos) →
     is_occupied actors next ≡ occupied → Steps setup clients next_id actors a →
     moves (kind_of setup.rules a.kind) ≡ true → d < DIRECTIONS →
     IsOn setup.map.width setup.map.height next →
     Moves setup clients next_id a (
     if occupied then record { actors = actors; answer = waiting_after waits }
-    else record { actors = changed_at actors a.id (set_out (kind_of setup.rules a.kind) d next); answer = Going 0 })
+    else record {
+      actors = changed_at actors a.id (set_out (kind_of setup.rules a.kind) d next);
+      answer = Going
+          0;
+    })
 into_by true setup clients next_id actors a waits d next is steps can within on =
     stays setup clients next_id actors a (waiting_after waits) steps
     (waiting_by (nat_lt (waits + 1) MAX_WAITS) waits refl)
@@ -283,27 +181,33 @@ into_by false setup clients next_id actors a waits d next is steps can within on
       id = refl;
       kind = refl;
       steps =
-          changed setup clients next_id (IsHurt setup.rules) actors a (set_out kind d next) steps refl
+          changed setup clients next_id (IsHurt setup.rules) actors a (set_out kind d next) steps
+          refl
           (inr (free_cell actors next is))
-          (sound_body setup clients next_id (record a { cell = next }) (record a.body { leg = leg_after speed leg })
+          (sound_body setup clients next_id (record a { cell = next })
+          (record a.body { leg = leg_after speed leg })
           (sound_at setup clients next_id a next steps.sound on) refl steps.sound.facing
-          (with_leg setup kind a.body (leg_after speed leg) body (leg_after_is kind speed leg can within)))
+          (with_leg setup kind a.body (leg_after speed leg) body
+          (leg_after_is kind speed leg can within)))
           steps.fine;
       answer = omega arith;
     }
 
 into_moves :
-    (setup : Setup) (clients next_id : ℕ) (actors : List Actor) (a : Actor) (waits d : ℕ) (to : Option CPos) →
+    (setup : Setup) (clients next_id : ℕ) (actors : List Actor) (a : Actor) (waits d : ℕ)
+    (to : Option CPos) →
     step_of a.cell d ≡ to → Steps setup clients next_id actors a →
     moves (kind_of setup.rules a.kind) ≡ true → IsWay setup.map a.cell d →
     Moves setup clients next_id a (moved_into (kind_of setup.rules a.kind) actors a.id waits d to)
 into_moves setup clients next_id actors a waits d None to steps can way =
     stays setup clients next_id actors a GivenUp steps tt
 into_moves setup clients next_id actors a waits d (Some next) to steps can way =
-    into_by (is_occupied actors next) setup clients next_id actors a waits d next refl steps can way.direction (way.enters next to)
+    into_by (is_occupied actors next) setup clients next_id actors a waits d next refl steps can
+    way.direction (way.enters next to)
 
 facing_by :
-    (faces : Bool) (setup : Setup) (clients next_id : ℕ) (actors : List Actor) (a : Actor) (waits d : ℕ) →
+    (faces : Bool) (setup : Setup) (clients next_id : ℕ) (actors : List Actor) (a : Actor)
+    (waits d : ℕ) →
     waits < MAX_WAITS → Steps setup clients next_id actors a →
     moves (kind_of setup.rules a.kind) ≡ true → IsWay setup.map a.cell d →
     Moves setup clients next_id a (
@@ -311,14 +215,17 @@ facing_by :
     else record {
       actors =
           with_body actors a.id (record a.body {
-            facing = turn_of a.body.facing (dir_angle_of d) (turning_in (kind_of setup.rules a.kind).mobile);
+            facing =
+                turn_of a.body.facing (dir_angle_of d)
+                (turning_in (kind_of setup.rules a.kind).mobile);
           });
       answer = Going waits;
     })
 facing_by true setup clients next_id actors a waits d few steps can way =
     into_moves setup clients next_id actors a waits d (step_of a.cell d) refl steps can way
 facing_by false setup clients next_id actors a waits d few steps can way =
-    let facing : ℕ = turn_of a.body.facing (dir_angle_of d) (turning_in (kind_of setup.rules a.kind).mobile) in
+    let facing : ℕ =
+    turn_of a.body.facing (dir_angle_of d) (turning_in (kind_of setup.rules a.kind).mobile) in
     let body : Body = record a.body { facing = facing } in
     let is = body_of setup clients next_id a steps.sound in
     record {
@@ -326,10 +233,12 @@ facing_by false setup clients next_id actors a waits d few steps can way =
       id = refl;
       kind = refl;
       steps =
-          changed setup clients next_id (IsHurt setup.rules) actors a (λ (b : Actor). record b { body = body }) steps refl
+          changed setup clients next_id (IsHurt setup.rules) actors a
+          (λ (b : Actor). record b { body = body }) steps refl
           (inl refl)
           (sound_body setup clients next_id a body steps.sound refl
-          (turn_below a.body.facing (dir_angle_of d) (turning_in (kind_of setup.rules a.kind).mobile) (dir_angle_below d))
+          (turn_below a.body.facing (dir_angle_of d)
+          (turning_in (kind_of setup.rules a.kind).mobile) (dir_angle_below d))
           (record {
             leg = is.leg;
             load = is.load;
@@ -344,7 +253,8 @@ facing_by false setup clients next_id actors a waits d few steps can way =
     }
 
 in_moves :
-    (setup : Setup) (clients next_id : ℕ) (actors : List Actor) (a : Actor) (waits : ℕ) (best : Option ℕ) →
+    (setup : Setup) (clients next_id : ℕ) (actors : List Actor) (a : Actor) (waits : ℕ)
+    (best : Option ℕ) →
     waits < MAX_WAITS → Steps setup clients next_id actors a →
     moves (kind_of setup.rules a.kind) ≡ true →
     ((d : ℕ) → best ≡ Some d → IsWay setup.map a.cell d) →
@@ -352,10 +262,12 @@ in_moves :
 in_moves setup clients next_id actors a waits None few steps can way =
     stays setup clients next_id actors a GivenUp steps tt
 in_moves setup clients next_id actors a waits (Some d) few steps can way =
-    facing_by (a.body.facing == dir_angle_of d) setup clients next_id actors a waits d few steps can (way d refl)
+    facing_by (a.body.facing == dir_angle_of d) setup clients next_id actors a waits d few steps can
+    (way d refl)
 
 pub towards_moves :
-    (setup : Setup) (built : Grid Bool) (clients next_id : ℕ) (actors : List Actor) (a : Actor) (goal : CPos) (waits : ℕ) →
+    (setup : Setup) (built : Grid Bool) (clients next_id : ℕ) (actors : List Actor) (a : Actor)
+    (goal : CPos) (waits : ℕ) →
     IsMapFor setup.rules setup.map → waits < MAX_WAITS → Steps setup clients next_id actors a →
     moves (kind_of setup.rules a.kind) ≡ true →
     Moves setup clients next_id a (moved_towards setup built actors a goal waits)
@@ -363,37 +275,46 @@ unfolding moved_towards
 towards_moves setup built clients next_id actors a goal waits map few steps can =
     let kind : Kind = kind_of setup.rules a.kind in
     in_moves setup clients next_id actors a waits
-    (best_dir_of setup.map (land_of setup.map built (costs_in kind.mobile) goal) a.cell) few steps can
+    (best_dir_of setup.map (land_of setup.map built (costs_in kind.mobile) goal) a.cell) few steps
+    can
     (λ d found. best_is_way setup built kind a.cell goal d map found)
 
 gone_on_by :
-    (setup : Setup) (clients next_id : ℕ) (actors : List Actor) (a after : Actor) (activity : ℕ → Activity) (answer : Moving) →
+    (setup : Setup) (clients next_id : ℕ) (actors : List Actor) (a after : Actor)
+    (activity : ℕ → Activity) (answer : Moving) →
     Steps setup clients next_id actors after → after.id ≡ a.id → after.kind ≡ a.kind →
     IsAnswer answer →
-    ((waits : ℕ) → waits < MAX_WAITS → IsActivityOf setup.map (kind_of setup.rules a.kind) (activity waits)) →
+    ((waits : ℕ) → waits < MAX_WAITS →
+    IsActivityOf setup.map (kind_of setup.rules a.kind) (activity waits)) →
     AreSound setup clients next_id (gone_on actors a.id activity answer)
 gone_on_by setup clients next_id actors a after activity (Going waits) steps id kind few fits =
-    subst (λ i. AreSound setup clients next_id (changed_at actors i (with_first (activity waits)))) id
+    subst (λ i. AreSound setup clients next_id (changed_at actors i (with_first (activity waits))))
+    id
     (first_sound setup clients next_id actors after (activity waits) steps
-    (subst (λ k. IsActivityOf setup.map (kind_of setup.rules k) (activity waits)) (sym kind) (fits waits few)))
+    (subst (λ k. IsActivityOf setup.map (kind_of setup.rules k) (activity waits)) (sym kind)
+    (fits waits few)))
 gone_on_by setup clients next_id actors a after activity GivenUp steps id kind few fits =
     subst (λ i. AreSound setup clients next_id (changed_at actors i popped)) id
     (popped_sound setup clients next_id actors after steps)
 
 -- A step of an activity that leads towards a cell.
 pub towards_sound :
-    (setup : Setup) (built : Grid Bool) (clients next_id : ℕ) (actors : List Actor) (a : Actor) (goal : CPos) (waits : ℕ) (activity : ℕ → Activity) →
+    (setup : Setup) (built : Grid Bool) (clients next_id : ℕ) (actors : List Actor) (a : Actor)
+    (goal : CPos) (waits : ℕ) (activity : ℕ → Activity) →
     IsMapFor setup.rules setup.map → waits < MAX_WAITS → Steps setup clients next_id actors a →
     moves (kind_of setup.rules a.kind) ≡ true →
-    ((more : ℕ) → more < MAX_WAITS → IsActivityOf setup.map (kind_of setup.rules a.kind) (activity more)) →
+    ((more : ℕ) → more < MAX_WAITS →
+    IsActivityOf setup.map (kind_of setup.rules a.kind) (activity more)) →
     AreSound setup clients next_id (gone_towards setup built actors a goal waits activity)
 towards_sound setup built clients next_id actors a goal waits activity map few steps can fits =
     let moved : Moved = moved_towards setup built actors a goal waits in
     let moves = towards_moves setup built clients next_id actors a goal waits map few steps can in
-    gone_on_by setup clients next_id moved.actors a moves.after activity moved.answer moves.steps moves.id moves.kind moves.answer fits
+    gone_on_by setup clients next_id moved.actors a moves.after activity moved.answer moves.steps
+    moves.id moves.kind moves.answer fits
 
 move_by :
-    (there : Bool) (setup : Setup) (built : Grid Bool) (clients next_id : ℕ) (actors : List Actor) (a : Actor) (goal : CPos) (waits : ℕ) →
+    (there : Bool) (setup : Setup) (built : Grid Bool) (clients next_id : ℕ) (actors : List Actor)
+    (a : Actor) (goal : CPos) (waits : ℕ) →
     IsMapFor setup.rules setup.map → Steps setup clients next_id actors a →
     IsActivityOf setup.map (kind_of setup.rules a.kind) (Move goal waits) →
     AreSound setup clients next_id (
@@ -402,12 +323,14 @@ move_by :
 move_by true setup built clients next_id actors a goal waits map steps fits =
     popped_sound setup clients next_id actors a steps
 move_by false setup built clients next_id actors a goal waits map steps fits =
-    towards_sound setup built clients next_id actors a goal waits (Move goal) map fits.1.patience steps fits.0
+    towards_sound setup built clients next_id actors a goal waits (Move goal) map fits.1.patience
+    steps fits.0
     (λ more few. (fits.0, record { on_map = fits.1.on_map; patience = few }))
 
 -- The step of a Move.
 pub move_sound :
-    (setup : Setup) (built : Grid Bool) (clients next_id : ℕ) (actors : List Actor) (a : Actor) (goal : CPos) (waits : ℕ) →
+    (setup : Setup) (built : Grid Bool) (clients next_id : ℕ) (actors : List Actor) (a : Actor)
+    (goal : CPos) (waits : ℕ) →
     IsMapFor setup.rules setup.map → Steps setup clients next_id actors a →
     IsActivityOf setup.map (kind_of setup.rules a.kind) (Move goal waits) →
     AreSound setup clients next_id (after_move setup built actors a goal waits)

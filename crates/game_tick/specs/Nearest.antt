@@ -31,4 +31,5 @@ ore_at ore p = unwrap_or (at_cell ore p) 0
 -- decides, then the least column.
 unfoldable pub nearest_ore : Grid ℕ → CPos → Option CPos
 nearest_ore ore from =
-    first_least (dist_sq_of from) (filter (λ p. has_ore (ore_at ore p)) (cells_of ore.width ore.height))
+    first_least (dist_sq_of from)
+    (filter (λ p. has_ore (ore_at ore p)) (cells_of ore.width ore.height))

@@ -1,5 +1,6 @@
 -- What an order does to a world. An order that does not fit has no effect.
-use Rattle.std.specs.Prelude.{ℕ, ◌+◌, ◌-◌, ◌==◌, nat_lt, nat_le, Bool, true, false, not, ◌&&◌, if◌then◌else◌}
+use Rattle.std.specs.Prelude.{ℕ, ◌+◌, ◌-◌, ◌==◌, nat_lt, nat_le, Bool, true, false, not, ◌&&◌}
+use Rattle.std.specs.Prelude.{if◌then◌else◌}
 use Rattle.std.specs.Prelude.{List, [], ◌∷◌, ◌++◌, Option, Some, None, is_some, fold, length, take}
 use Rattle.std.specs.Prelude.{slice_get, slice_index, slice_set}
 use Rattle.std.specs.List.{list_any, list_all}
@@ -19,12 +20,11 @@ use Rattle.game_model.specs.ActorChanges.{changed_at}
 use Rattle.game_model.specs.Flags.{is_gone}
 use Rattle.game_model.specs.Grid.{is_on}
 use Rattle.game_model.specs.Setup.{Setup}
-use Rattle.game_model.specs.ValidWorld.{gathers, is_unit, duration_in}
+use Rattle.game_model.specs.Kinds.{gathers, is_unit, duration_in, kind_of, needs_in}
 use Rattle.game_model.specs.World.{is_alive, living_of}
 use Rattle.game_tick.specs.Acts.{acts_after, with_acts}
 use Rattle.game_tick.specs.Building.{with_builds}
 use Rattle.game_tick.specs.Harvesting.{paid_to}
-use Rattle.game_tick.specs.Kinds.{kind_of, needs_in}
 
 -- The living actor of an id, where this client owns it.
 abbrev pub if_owned : (client : ℕ) → Option Actor → Option Actor
@@ -178,7 +178,8 @@ abbrev pub after_donation : World → ℕ → ℕ → ℕ → World
 after_donation w client to amount =
     record w {
       cash =
-          slice_set (slice_set w.cash client (slice_index w.cash client - amount)) to (slice_index w.cash to + amount);
+          slice_set (slice_set w.cash client (slice_index w.cash client - amount)) to
+          (slice_index w.cash to + amount);
     }
 
 -- A pace fits where the host, client 0, sets it within 1 and `MAX_PACE`.

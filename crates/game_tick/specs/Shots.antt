@@ -1,5 +1,6 @@
 -- When an actor fires at its step.
-use Rattle.std.specs.Prelude.{ℕ, ◌==◌, ◌&&◌, if◌then◌else◌, Bool, false, List, [], ◌∷◌, Option, Some, None}
+use Rattle.std.specs.Prelude.{ℕ, ◌==◌, ◌&&◌, if◌then◌else◌, Bool, false, List, [], ◌∷◌, Option}
+use Rattle.std.specs.Prelude.{Some, None}
 use Rattle.activities.specs.declared.activity.Activity.{Activity}
 use Rattle.activities.specs.declared.activity.Activity.TheVariants.{Move, Attack, Harvest, Deliver}
 use Rattle.rule_traits.specs.declared.kind.Kind.{Kind}
@@ -8,8 +9,8 @@ use Rattle.game_model.specs.declared.actor.Leg.{Leg}
 use Rattle.game_model.specs.declared.world.World.{World}
 use Rattle.game_model.specs.Setup.{Setup}
 use Rattle.game_model.specs.World.{living_of}
+use Rattle.game_model.specs.Kinds.{kind_of}
 use Rattle.game_tick.specs.Attacking.{is_in_range}
-use Rattle.game_tick.specs.Kinds.{kind_of}
 use Rattle.game_tick.specs.Turn.{with_build, with_reload}
 
 -- The target lives within range, and the actor is loaded.

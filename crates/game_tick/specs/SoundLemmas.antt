@@ -18,9 +18,9 @@ use Rattle.game_model.specs.ActorChanges.{changed_at}
 use Rattle.game_model.specs.Setup.{Setup}
 use Rattle.game_model.specs.ValidMap.{IsOwner}
 use Rattle.game_model.specs.ValidWorld.{IsActivityOf, IsBodyOf, IsBuildOf, IsSoundActor}
+use Rattle.game_model.specs.Kinds.{kind_of}
 use Rattle.game_tick.specs.Acts.{popped, with_acts, with_first}
 use Rattle.game_tick.specs.Building.{with_builds}
-use Rattle.game_tick.specs.Kinds.{kind_of}
 pub use Rattle.game_tick.specs.MidTurn.{AreSound, IsHurt}
 use Rattle.game_tick.specs.ChangesLemmas.{Stands, changed}
 
@@ -63,7 +63,8 @@ sound_body setup clients next_id a body sound owner facing is =
       cell = sound.cell;
       facing = facing;
       body =
-          some_else (kind_at setup.rules a.kind) _ (λ kind. IsBodyOf setup kind a.body) (λ kind. IsBodyOf setup kind body) sound.body is;
+          some_else (kind_at setup.rules a.kind) _ (λ kind. IsBodyOf setup kind a.body)
+          (λ kind. IsBodyOf setup kind body) sound.body is;
     }
 
 -- Other activities.
@@ -152,5 +153,6 @@ pub first_sound :
     AreSound setup clients next_id (changed_at actors a.id (with_first act))
 first_sound setup clients next_id actors a act steps fits =
     all_sound setup clients next_id (changed_at actors a.id (with_first act)) (with_first act a)
-    (changed setup clients next_id (IsHurt setup.rules) actors a (with_first act) steps refl (inl refl)
+    (changed setup clients next_id (IsHurt setup.rules) actors a (with_first act) steps refl
+    (inl refl)
     (sound_first setup clients next_id a act steps.sound fits) steps.fine)

@@ -4,7 +4,7 @@ use Rattle.game_orders.specs.declared.entry.Entry.{Entry}
 use Rattle.game_orders.specs.declared.entry.Entry.TheVariants.{Play, Leave}
 use Rattle.game_model.specs.declared.world.World.{World}
 use Rattle.game_model.specs.Setup.{Setup}
-use Rattle.game_model.specs.Tick.{with_departures}
+use Rattle.game_tick.specs.Departures.{with_departures}
 use Rattle.game_tick.specs.Orders.{after_orders}
 use Rattle.game_tick.specs.Turn.{after_turn}
 

@@ -7,14 +7,15 @@ use Rattle.game_orders.specs.declared.entry.Entry.TheVariants.{Play, Leave}
 use Rattle.game_model.specs.declared.limits.TheConstants.{MAX_ACTORS, MAX_DRAWS, MAX_PACE}
 use Rattle.game_model.specs.declared.world.World.{World}
 use Rattle.game_model.specs.Setup.{Setup}
-use Rattle.game_model.specs.Tick.{with_departures}
 use Rattle.game_model.specs.ValidMap.{IsMapFor}
-use Rattle.game_model.specs.ValidTickLemmas.{departures_valid, wider}
+use Rattle.game_tick.specs.ValidWorldLemmas.{wider}
 use Rattle.game_model.specs.ValidWorld.{IsValidWorld, IsWorldWithin}
 use Rattle.game_tick.specs.Orders.{after_order, after_orders}
 use Rattle.game_tick.specs.Tick.{after_entries, after_entry, tick_of, with_orders}
 use Rattle.game_tick.specs.OrdersLemmas.{order_valid}
 use Rattle.game_tick.specs.TurnLemmas.{turns_valid}
+use Rattle.game_tick.specs.Departures.{with_departures}
+use Rattle.game_tick.specs.DeparturesLemmas.{departures_valid}
 
 orders_valid :
     (setup : Setup) (least most draws : ℕ) (w : World) (client : ℕ) (orders : List Order) →
@@ -52,6 +53,8 @@ tick_valid setup frames w frame map valid =
     let departed : World = with_departures w frame in
     let ready = departures_valid setup frames most draws w frame valid in
     let ordered = entries_valid setup frames most draws 0 departed frame ready in
-    wider setup (frames + w.pace) (most + w.pace) (draws + MAX_ACTORS * w.pace) (frames + 1) (MAX_PACE * (frames + 1)) (MAX_DRAWS * (frames + 1)) (tick_of setup w frame)
+    wider setup (frames + w.pace) (most + w.pace) (draws + MAX_ACTORS * w.pace) (frames + 1)
+    (MAX_PACE * (frames + 1)) (MAX_DRAWS * (frames + 1)) (tick_of setup w frame)
     (turns_valid setup w.pace frames most draws (with_orders setup departed frame) map ordered)
-    (omega (arith, valid.pace.least)) (omega (arith, valid.pace.most)) (omega (arith, valid.pace.most))
+    (omega (arith, valid.pace.least)) (omega (arith, valid.pace.most))
+    (omega (arith, valid.pace.most))

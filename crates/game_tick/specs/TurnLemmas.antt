@@ -16,24 +16,28 @@ use Rattle.game_model.specs.declared.world.World.{World}
 use Rattle.game_model.specs.ActorChanges.{changed_at}
 use Rattle.game_model.specs.Setup.{Setup}
 use Rattle.game_model.specs.ValidMap.{IsMapFor}
-use Rattle.game_model.specs.ValidTickLemmas.{filter_ready, wider}
+use Rattle.game_tick.specs.ValidWorldLemmas.{filter_ready, wider}
 use Rattle.game_model.specs.ValidWorld.{IsActivityOf, IsHealthOf, IsHealthy, IsWorldWithin}
 use Rattle.game_model.specs.World.{clients_of, ids_of, is_alive, living_of}
+use Rattle.game_model.specs.Kinds.{kind_of}
 use Rattle.game_tick.specs.Attacking.{after_attack}
 use Rattle.game_tick.specs.Building.{after_build}
 use Rattle.game_tick.specs.Harvesting.{Harvested, after_deliver, after_harvest}
-use Rattle.game_tick.specs.Kinds.{kind_of}
 use Rattle.game_tick.specs.MidTurn.{IsMidTurn}
 use Rattle.game_tick.specs.Moving.{after_move}
 use Rattle.game_tick.specs.Tick.{after_turns}
-use Rattle.game_tick.specs.Turn.{after_activity, after_first, after_step, after_steps, after_turn, after_way, blocks_of, buried}
-use Rattle.game_tick.specs.Turn.{dice_of, harvest_of, reloaded, step_if, with_build, with_harvested, with_reload, with_way}
+use Rattle.game_tick.specs.Turn.{after_activity, after_first, after_step, after_steps, after_turn}
+use Rattle.game_tick.specs.Turn.{after_way, blocks_of, buried}
+use Rattle.game_tick.specs.Turn.{dice_of, harvest_of, reloaded, step_if, with_build, with_harvested}
+use Rattle.game_tick.specs.Turn.{with_reload, with_way}
 use Rattle.game_tick.specs.ChangesLemmas.{changed, id_of_living, living_stands}
 use Rattle.game_tick.specs.AttackingLemmas.{attack_fought}
 use Rattle.game_tick.specs.BuildingLemmas.{build_sound}
-use Rattle.game_tick.specs.HarvestingLemmas.{IsHarvested, deliver_is, harvest_is, ore_kept}
+use Rattle.game_tick.specs.HarvestingLemmas.{IsHarvested, deliver_is, harvest_is}
+use Rattle.game_tick.specs.OreLemmas.{ore_kept}
 use Rattle.game_tick.specs.MovingLemmas.{leg_sound, move_sound}
-use Rattle.game_tick.specs.SoundLemmas.{AreSound, IsHurt, Steps, all_sound, body_of, some_weaker, sound_body}
+use Rattle.game_tick.specs.SoundLemmas.{AreSound, IsHurt, Steps, all_sound, body_of, some_weaker}
+use Rattle.game_tick.specs.SoundLemmas.{sound_body}
 
 -- More draws.
 pub more_draws :
@@ -56,7 +60,8 @@ mid_with :
     (setup : Setup) (least most draws drawn next_id : ℕ) (w : World) (actors : List Actor) →
     IsMidTurn setup least most draws w → drawn ≤ draws + 1 →
     AreSound setup (clients_of w) next_id actors →
-    IsMidTurn setup least most (draws + 1) (record w { actors = actors; drawn = drawn; next_id = next_id })
+    IsMidTurn setup least most (draws + 1)
+    (record w { actors = actors; drawn = drawn; next_id = next_id })
 mid_with setup least most draws drawn next_id w actors mid few sound =
     record {
       ore = mid.ore;
@@ -91,7 +96,8 @@ pub living_steps :
     IsMidTurn setup least most draws w → living_of w.actors id ≡ Some a →
     Steps setup (clients_of w) w.next_id w.actors a
 living_steps setup least most draws w id a mid found =
-    living_stands setup (clients_of w) w.next_id (IsHurt setup.rules) w.actors id a mid.actors.ready mid.actors.hurt found
+    living_stands setup (clients_of w) w.next_id (IsHurt setup.rules) w.actors id a mid.actors.ready
+    mid.actors.hurt found
 
 pub reload_mid :
     (setup : Setup) (least most draws : ℕ) (w : World) (id : ℕ) (a : Actor) →
@@ -102,8 +108,10 @@ reload_mid setup least most draws w id a mid found =
     let is = body_of setup (clients_of w) w.next_id a steps.sound in
     let sound =
     all_sound setup (clients_of w) w.next_id (changed_at w.actors a.id reloaded) (reloaded a)
-    (changed setup (clients_of w) w.next_id (IsHurt setup.rules) w.actors a reloaded steps refl (inl refl)
-    (sound_body setup (clients_of w) w.next_id a (reloaded a).body steps.sound refl steps.sound.facing
+    (changed setup (clients_of w) w.next_id (IsHurt setup.rules) w.actors a reloaded steps refl
+    (inl refl)
+    (sound_body setup (clients_of w) w.next_id a (reloaded a).body steps.sound refl
+    steps.sound.facing
     (record {
       leg = is.leg;
       load = is.load;
@@ -115,7 +123,8 @@ reload_mid setup least most draws w id a mid found =
     }))
     steps.fine) in
     mid_of setup least most draws w.next_id w (changed_at w.actors id reloaded) mid
-    (subst (λ i. AreSound setup (clients_of w) w.next_id (changed_at w.actors i reloaded)) (id_of_living w.actors id a found) sound)
+    (subst (λ i. AreSound setup (clients_of w) w.next_id (changed_at w.actors i reloaded))
+    (id_of_living w.actors id a found) sound)
 
 pub build_mid :
     (setup : Setup) (least most draws : ℕ) (w : World) (id : ℕ) (found : Option Actor) →
@@ -125,12 +134,15 @@ build_mid setup least most draws w id None found mid = mid
 build_mid setup least most draws w id (Some a) found mid =
     let living : living_of w.actors a.id ≡ Some a =
     subst (λ i. living_of w.actors i ≡ Some a) (sym (id_of_living w.actors id a found)) found in
-    mid_of setup least most draws (after_build setup w.actors w.next_id a).next_id w (after_build setup w.actors w.next_id a).actors mid
-    (build_sound setup (clients_of w) w.next_id w.actors a (living_steps setup least most draws w id a mid found) living)
+    mid_of setup least most draws (after_build setup w.actors w.next_id a).next_id w
+    (after_build setup w.actors w.next_id a).actors mid
+    (build_sound setup (clients_of w) w.next_id w.actors a
+    (living_steps setup least most draws w id a mid found) living)
 
 harvested_mid :
     (setup : Setup) (least most draws : ℕ) (w : World) (after : Harvested) →
-    IsMidTurn setup least most draws w → IsHarvested setup (clients_of w) w.next_id (harvest_of w) after →
+    IsMidTurn setup least most draws w →
+    IsHarvested setup (clients_of w) w.next_id (harvest_of w) after →
     IsMidTurn setup least most draws (with_harvested w after)
 harvested_mid setup least most draws w after mid is =
     record {
@@ -147,7 +159,8 @@ harvested_mid setup least most draws w after mid is =
           };
       cash =
           All-from_get_or (λ c. c ≤ MAX_CASH) after.cash 0
-          (λ k within. omega (arith, is.cash.most k, mid.cash k 0 (omega (arith, within, is.cash.clients))));
+          (λ k within.
+          omega (arith, is.cash.most k, mid.cash k 0 (omega (arith, within, is.cash.clients))));
       actors =
           subst (λ c. AreSound setup c w.next_id after.actors) (sym is.cash.clients) is.sound;
     }
@@ -159,20 +172,30 @@ activity_mid :
     IsActivityOf setup.map (kind_of setup.rules a.kind) activity →
     IsMidTurn setup least most (draws + 1) (after_activity setup w a activity)
 activity_mid setup least most draws w a (Move goal waits) map mid steps fits =
-    mid_with setup least most draws w.drawn w.next_id w (after_move setup (blocks_of setup w.actors) w.actors a goal waits) mid (omega (arith, mid.drawn))
-    (move_sound setup (blocks_of setup w.actors) (clients_of w) w.next_id w.actors a goal waits map steps fits)
+    mid_with setup least most draws w.drawn w.next_id w
+    (after_move setup (blocks_of setup w.actors) w.actors a goal waits) mid
+    (omega (arith, mid.drawn))
+    (move_sound setup (blocks_of setup w.actors) (clients_of w) w.next_id w.actors a goal waits map
+    steps fits)
 activity_mid setup least most draws w a (Attack target waits) map mid steps fits =
-    let is = attack_fought setup (blocks_of setup w.actors) (clients_of w) w.next_id (dice_of w) w.actors a target waits map steps fits in
+    let is =
+    attack_fought setup (blocks_of setup w.actors) (clients_of w) w.next_id (dice_of w) w.actors a
+    target waits map steps fits in
     let after = after_attack setup (blocks_of setup w.actors) (dice_of w) w.actors a target waits in
-    mid_with setup least most draws after.dice.drawn w.next_id w after.actors mid (omega (arith, mid.drawn, is.drawn)) is.sound
+    mid_with setup least most draws after.dice.drawn w.next_id w after.actors mid
+    (omega (arith, mid.drawn, is.drawn)) is.sound
 activity_mid setup least most draws w a (Harvest cell timer waits) map mid steps fits =
     more_draws setup least most draws _
-    (harvested_mid setup least most draws w (after_harvest setup (blocks_of setup w.actors) (harvest_of w) a cell timer waits) mid
-    (harvest_is setup (blocks_of setup w.actors) (clients_of w) w.next_id (harvest_of w) a cell timer waits map mid.ore.size steps fits))
+    (harvested_mid setup least most draws w
+    (after_harvest setup (blocks_of setup w.actors) (harvest_of w) a cell timer waits) mid
+    (harvest_is setup (blocks_of setup w.actors) (clients_of w) w.next_id (harvest_of w) a cell
+    timer waits map mid.ore.size steps fits))
 activity_mid setup least most draws w a (Deliver home timer waits) map mid steps fits =
     more_draws setup least most draws _
-    (harvested_mid setup least most draws w (after_deliver setup (blocks_of setup w.actors) (harvest_of w) a home timer waits) mid
-    (deliver_is setup (blocks_of setup w.actors) (clients_of w) w.next_id (harvest_of w) a home timer waits map steps fits))
+    (harvested_mid setup least most draws w
+    (after_deliver setup (blocks_of setup w.actors) (harvest_of w) a home timer waits) mid
+    (deliver_is setup (blocks_of setup w.actors) (clients_of w) w.next_id (harvest_of w) a home
+    timer waits map steps fits))
 
 first_mid :
     (setup : Setup) (least most draws : ℕ) (w : World) (a : Actor) (acts : List Activity) →
@@ -217,7 +240,8 @@ step_if_mid setup least most draws w id (Some a) found map mid =
     let reloaded : World = with_reload w id in
     let built : World = with_build setup reloaded (living_of reloaded.actors id) in
     way_mid setup least most draws built id (living_of built.actors id) refl map
-    (build_mid setup least most draws reloaded id (living_of reloaded.actors id) refl (reload_mid setup least most draws w id a mid found))
+    (build_mid setup least most draws reloaded id (living_of reloaded.actors id) refl
+    (reload_mid setup least most draws w id a mid found))
 
 -- A step keeps what a world in mid-turn is, and draws at most once.
 pub step_mid :
@@ -229,13 +253,15 @@ step_mid setup least most draws w id map mid =
     step_if_mid setup least most draws w id (living_of w.actors id) refl map mid
 
 pub steps_mid :
-    (setup : Setup) (least most draws all : ℕ) (w : World) (ids : List ℕ) → IsMapFor setup.rules setup.map →
+    (setup : Setup) (least most draws all : ℕ) (w : World) (ids : List ℕ) →
+    IsMapFor setup.rules setup.map →
     IsMidTurn setup least most draws w → draws + length ids ≡ all →
     IsMidTurn setup least most all (after_steps setup w ids)
 steps_mid setup least most draws all w [] map mid sum =
     subst (λ d. IsMidTurn setup least most d w) (omega arith) mid
 steps_mid setup least most draws all w (id ∷ ids) map mid sum =
-    steps_mid setup least most (draws + 1) all (after_step setup w id) ids map (step_mid setup least most draws w id map mid) (omega arith)
+    steps_mid setup least most (draws + 1) all (after_step setup w id) ids map
+    (step_mid setup least most draws w id map mid) (omega arith)
 
 pub length-ids_of : (actors : List Actor) → length (ids_of actors) ≡ length actors
 length-ids_of [] = refl
@@ -259,20 +285,26 @@ mid_from_valid setup least most draws w valid =
             ready = valid.actors;
             hurt =
                 λ k d within.
-                some_weaker (kind_at setup.rules _) (IsHealthOf _) (λ kind. _ ≤ hp_of kind) (λ kind is. is.most) (valid.health k d within);
+                some_weaker (kind_at setup.rules _) (IsHealthOf _) (λ kind. _ ≤ hp_of kind)
+                (λ kind is. is.most) (valid.health k d within);
           };
     }
 
 healthy_by :
     (rules : List Kind) (a : Actor) → IsHurt rules a → is_alive a ≡ true → IsHealthy rules a
 healthy_by rules a hurt alive =
-    some_weaker (kind_at rules a.kind) (λ kind. a.body.health ≤ hp_of kind) (IsHealthOf a.body.health)
+    some_weaker (kind_at rules a.kind) (λ kind. a.body.health ≤ hp_of kind)
+    (IsHealthOf a.body.health)
     (λ kind most. record { least = ltb-true 0 a.body.health alive; most = most }) hurt
 
 -- After the burial all have health.
-healthy_after : (rules : List Kind) (actors : List Actor) → All (IsHurt rules) actors → All (IsHealthy rules) (filter is_alive actors)
+healthy_after :
+    (rules : List Kind) (actors : List Actor) → All (IsHurt rules) actors →
+    All (IsHealthy rules) (filter is_alive actors)
 healthy_after rules actors hurt = λ k d within.
-    healthy_by rules (get_or (filter is_alive actors) k d) (All-filter is_alive (IsHurt rules) actors hurt k d within) (filter_passes is_alive actors k d within)
+    healthy_by rules (get_or (filter is_alive actors) k d)
+    (All-filter is_alive (IsHurt rules) actors hurt k d within)
+    (filter_passes is_alive actors k d within)
 
 buried_valid :
     (setup : Setup) (least most draws : ℕ) (w : World) → IsMidTurn setup least most draws w →
@@ -298,18 +330,28 @@ pub turn_valid :
 unfolding after_turn
 turn_valid setup least most draws w map valid =
     let stepped : World = after_steps setup w (ids_of w.actors) in
-    let mid = steps_mid setup least most draws (draws + length w.actors) w (ids_of w.actors) map (mid_from_valid setup least most draws w valid) (ap (λ n. draws + n) (length-ids_of w.actors)) in
+    let mid =
+    steps_mid setup least most draws (draws + length w.actors) w (ids_of w.actors) map
+    (mid_from_valid setup least most draws w valid) (ap (λ n. draws + n) (length-ids_of w.actors))
+    in
     let count = valid.actors.count in
-    wider setup (least + 1) (most + 1) (draws + length w.actors) (least + 1) (most + 1) (draws + MAX_ACTORS) (record (buried stepped) { tick = stepped.tick + 1 })
-    (buried_valid setup least most (draws + length w.actors) stepped mid) (omega arith) (omega arith) (omega arith)
+    wider setup (least + 1) (most + 1) (draws + length w.actors) (least + 1) (most + 1)
+    (draws + MAX_ACTORS) (record (buried stepped) { tick = stepped.tick + 1 })
+    (buried_valid setup least most (draws + length w.actors) stepped mid) (omega arith)
+    (omega arith) (omega arith)
 
 pub turns_valid :
     (setup : Setup) (turns least most draws : ℕ) (w : World) → IsMapFor setup.rules setup.map →
     IsWorldWithin setup least most draws w →
-    IsWorldWithin setup (least + turns) (most + turns) (draws + MAX_ACTORS * turns) (after_turns setup turns w)
+    IsWorldWithin setup (least + turns) (most + turns) (draws + MAX_ACTORS * turns)
+    (after_turns setup turns w)
 turns_valid setup zero least most draws w map valid =
-    wider setup least most draws (least + 0) (most + 0) (draws + MAX_ACTORS * 0) w valid (omega arith) (omega arith) (omega arith)
+    wider setup least most draws (least + 0) (most + 0) (draws + MAX_ACTORS * 0) w valid
+    (omega arith) (omega arith) (omega arith)
 turns_valid setup (suc more) least most draws w map valid =
-    wider setup (least + 1 + more) (most + 1 + more) (draws + MAX_ACTORS + MAX_ACTORS * more) (least + suc more) (most + suc more) (draws + MAX_ACTORS * suc more) (after_turns setup more (after_turn setup w))
-    (turns_valid setup more (least + 1) (most + 1) (draws + MAX_ACTORS) (after_turn setup w) map (turn_valid setup least most draws w map valid))
+    wider setup (least + 1 + more) (most + 1 + more) (draws + MAX_ACTORS + MAX_ACTORS * more)
+    (least + suc more) (most + suc more) (draws + MAX_ACTORS * suc more)
+    (after_turns setup more (after_turn setup w))
+    (turns_valid setup more (least + 1) (most + 1) (draws + MAX_ACTORS) (after_turn setup w) map
+    (turn_valid setup least most draws w map valid))
     (omega arith) (omega arith) (omega arith)

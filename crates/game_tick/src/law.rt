@@ -2,7 +2,6 @@ ghost use Rattle.std.specs.Prelude.{◌≡◌, ℕ, ◌+◌, List, None};
 ghost use Rattle.game_orders.specs.declared.order.Order.{Order};
 ghost use Rattle.game_orders.specs.declared.entry.Entry.{Entry};
 ghost use Rattle.game_model.specs.declared.world.World.{World};
-ghost use Rattle.game_model.specs.Keeps.{ChangesOnlyOwn, OrdersKeep, TickKeeps};
 ghost use Rattle.game_model.specs.Setup.{Setup};
 ghost use Rattle.game_model.specs.ValidMap.{IsSetup};
 ghost use Rattle.game_model.specs.ValidWorld.{IsValidWorld, IsWorldWithin};
@@ -13,6 +12,7 @@ ghost use Rattle.game_tick.specs.Shots.{shots_of};
 ghost use Rattle.game_tick.specs.StepKeeps.{ActorsKeep, HasNoMoreOre, StepKeeps};
 ghost use Rattle.game_tick.specs.Tick.{tick_of};
 ghost use Rattle.game_tick.specs.Turn.{after_step, after_steps, after_turn, blocks_of};
+ghost use Rattle.game_tick.specs.Keeps.{ChangesOnlyOwn, OrdersKeep, TickKeeps};
 
 /// A law of orders: they keep the seed, the clients and who has departed, and none lifts a client
 /// above [`game_model::MAX_CASH`].
@@ -79,6 +79,12 @@ pub fn turns_make_no_ore()
 /// one, and a client has departed after it exactly where it had before or its entry is a departure.
 pub fn ticks_keep()
     ensures { (setup : Setup) (w : World) (frame : List Entry) → TickKeeps w frame (tick_of setup w frame) }
+{}
+
+/// A law of ticks: one counts as many turns as the pace said before the frame, whatever the frame
+/// makes of the pace.
+pub fn ticks_count_turns()
+    ensures { (setup : Setup) (w : World) (frame : List Entry) → (tick_of setup w frame).tick ≡ w.tick + w.pace }
 {}
 
 /// A law of ticks: a world that is valid after some frames is valid after one more.

@@ -1,5 +1,5 @@
 -- A field that begins is right up to level 0.
-use Rattle.std.proofs.Common.{◌≡◌, ℕ, ◌*◌, ◌<◌, ◌≤◌, inl, inr, Bool, true, false, cond, length, [], replicate, get_or, refl, ap, sym, ◌∙◌, arith, length-set}
+use Rattle.std.proofs.Common.{◌≡◌, ℕ, ◌*◌, ◌%◌, ◌<◌, ◌≤◌, inl, inr, Bool, true, false, cond, length, [], replicate, get_or, refl, ap, sym, ◌∙◌, arith, subst, length-set}
 use Rattle.std.proofs.lemmas.List.Sums.{count_by-le-length}
 use Rattle.std.proofs.lemmas.List.{get_or-replicate, length-replicate}
 use Rattle.std.proofs.Math.ListN.{get_or-eq_default}
@@ -9,10 +9,11 @@ use Rattle.game_model.specs.Grid.{Grid, HasSize, IsOn, is_on, place_of}
 use Rattle.grid_routes.specs.declared.field.TheConstants.{NONE}
 use Rattle.grid_routes.specs.Values.{value_in}
 use Rattle.grid_routes.specs.Labels.{Distances, IsFull, begun, label_of, open_count}
-use Rattle.grid_routes.specs.Held.{Shelves}
+use Rattle.grid_routes.specs.Held.{Shelves, IsHeld, IsWhole, len_of, pushed}
 use Rattle.game_model.specs.Walks.{Land}
-use Rattle.grid_routes.specs.Steps.{IsFair, IsGoing, IsSearch}
-use Rattle.grid_routes.proofs.Cells.{set-here, set-other}
+use Rattle.grid_routes.specs.Steps.{AreQueued, IsFair, IsGoing, IsSearch}
+use Rattle.grid_routes.proofs.Cells.{placed, set-here, set-other}
+use Rattle.grid_routes.proofs.Shelves.{pushed-fits, pushed-room}
 use Rattle.grid_routes.proofs.Lowering.{one-or-not}
 use Rattle.grid_routes.proofs.Advancing.{no-both}
 
@@ -35,7 +36,7 @@ all-open : (g : Grid ℕ) → open_count 0 g ≤ length g.cells
 unfolding open_count
 all-open g = count_by-le-length _ g.cells
 
-module _ (land : Land) (f : Distances) (s : Shelves) (w h : ℕ) (full : IsFull f.labels) (fair : IsFair land.toll w h) (size : HasSize w h f.labels) (room : s.room ≡ w * h) (on : IsOn w h land.goal) where
+module _ (land : Land) (f : Distances) (s : Shelves) (w h : ℕ) (full : IsFull f.labels) (fair : IsFair land.toll w h) (size : HasSize w h f.labels) (whole : IsWhole s) (empty : (b : ℕ) → len_of s b ≡ 0) (kept : s.lost ≡ false) (room : s.room ≡ w * h) (on : IsOn w h land.goal) where
   here : IsOn f.labels.width f.labels.height land.goal
   here = record { column = rw size.width on.column; row = rw size.height on.row }
 
@@ -62,12 +63,24 @@ module _ (land : Land) (f : Distances) (s : Shelves) (w h : ℕ) (full : IsFull 
   cells-same =
       length-set (replicate (length f.labels.cells) NONE) (place_of f.labels.width land.goal) 0 ∙ length-replicate (length f.labels.cells) NONE
 
-  pub begins :
-      IsSearch land (begun f land.goal) (record s { lost = true })
+  few : len_of s 0 < s.room
+  few = omega (arith, empty 0, room, placed w h land.goal (w * h) refl on)
+
+  held : IsHeld (pushed s 0 land.goal) 0 land.goal
+  held = (pushed-fits s 0 land.goal whole (omega arith) few kept).1
+
+  queued : AreQueued (begun f land.goal) (pushed s 0 land.goal)
+  queued = record {
+    each = λ p from to.
+        subst (λ (n : ℕ). IsHeld (pushed s 0 land.goal) (n % 71) p) (sym (zero-there p to))
+        (subst (λ (x : CPos). IsHeld (pushed s 0 land.goal) 0 x) (sym (only-goal p to)) held);
+  }
+
+  pub begins : IsSearch land (begun f land.goal) (pushed s 0 land.goal)
   begins = record {
     goal = here;
     full = record { size = cells-same ∙ full.size; wide = full.wide; high = full.high };
-    room = room ∙ ap (λ n. n * h) (sym size.width) ∙ ap (λ n. f.labels.width * n) (sym size.height) ∙ sym full.size ∙ sym cells-same;
+    room = pushed-room s 0 land.goal whole (omega arith) ∙ room ∙ ap (λ n. n * h) (sym size.width) ∙ ap (λ n. f.labels.width * n) (sym size.height) ∙ sym full.size ∙ sym cells-same;
     fair = record {
       inside = λ q some.
           let there = fair.inside q some in
@@ -82,7 +95,7 @@ module _ (land : Land) (f : Distances) (s : Shelves) (w h : ℕ) (full : IsFull 
       small = λ p less. omega (arith, zero-there p less);
       rises = λ less. omega (arith, all-open (begun f land.goal).labels);
     };
-    queued = λ still. absurd (no-both true still refl);
+    queued = λ still. queued;
   }
 
 -- A search that may go on later is one that goes on, once its buckets are to be filled again.

@@ -9,7 +9,7 @@ use Rattle.game_model.specs.Walks.{Land, IsWalk, IsDistance, HasNoWalk, LeadsOn,
 use Rattle.grid_routes.specs.Labels.{Distances, label_of}
 use Rattle.grid_routes.specs.Held.{Shelves}
 use Rattle.grid_routes.specs.Steps.{IsSearch, IsLead, IsLeastLead}
-use Rattle.grid_routes.proofs.Fares.{step-on}
+use Rattle.grid_routes.proofs.StepCosts.{step-on}
 
 module _ (land : Land) (f : Distances) (s : Shelves) (search : IsSearch land f s) where
   -- No walk costs less than the label or the level.

@@ -1,5 +1,5 @@
 -- A step back leads to where a step came from.
-use Rattle.std.proofs.Common.{◌≡◌, ℕ, ◌+◌, ◌-◌, ◌<◌, ◌≤◌, ◌||◌, nat_lt, Bool, true, false, cond, Option, Some, None, refl, ap, arith}
+use Rattle.std.proofs.Common.{◌≡◌, ℕ, ◌+◌, ◌-◌, ◌<◌, ◌≤◌, ◌||◌, nat_lt, Bool, true, false, cond, Option, Some, None, refl, sym, ◌∙◌, ap, ap₂, arith}
 use Rattle.std.proofs.lemmas.Bool.Decides.{nat_tests}
 use Rattle.world_units.specs.declared.cell.CPos.{CPos}
 use Rattle.world_units.specs.Directions.{opposite_of, east_of, west_of, north_of, south_of, shifted, cell_at, step_of}
@@ -49,3 +49,51 @@ opposite-back d low = omega arith
 
 pub opposite-low : (d : ℕ) → opposite_of d < 8
 opposite-low d = omega arith
+
+shifted-low : (n up down m : ℕ) → shifted n up down ≡ Some m → m < 256
+shifted-low n up down m there =
+    let parts = stayed (nat_lt (n + up) down || nat_lt (255 + down) (n + up)) (n + up - down) m there in
+    let inside : (nat_lt (n + up) down || nat_lt (255 + down) (n + up)) ≡ false = parts.0 in
+    let sum : n + up - down ≡ m = parts.1 in
+    grind (arith, nat_tests)
+
+unshifted : (n : ℕ) → n < 256 → shifted n 0 0 ≡ Some n
+unshifted n low =
+    let inside : (nat_lt (n + 0) 0 || nat_lt (255 + 0) (n + 0)) ≡ false = grind (arith, nat_tests) in
+    let same : n + 0 - 0 ≡ n = omega arith in
+    rw (inside, same) refl
+
+-- The cells beside a step across a corner are the neighbours of both its cells that share a side.
+module _ (q p : CPos) (wide : q.x < 256) (high : q.y < 256) where
+  beside :
+      (east west south north : ℕ) → shifted q.x east west ≡ Some p.x → shifted q.y south north ≡ Some p.y →
+      (cell_at (shifted p.x west east) (shifted p.y 0 0) ≡ cell_at (shifted q.x 0 0) (shifted q.y south north))
+      × (cell_at (shifted p.x 0 0) (shifted p.y north south) ≡ cell_at (shifted q.x east west) (shifted q.y 0 0))
+  beside east west south north x y =
+      let back_x = shifted-back q.x east west p.x wide x in
+      let back_y = shifted-back q.y south north p.y high y in
+      let stay_x = unshifted p.x (shifted-low q.x east west p.x x) in
+      let stay_y = unshifted p.y (shifted-low q.y south north p.y y) in
+      let here_x = unshifted q.x wide in
+      let here_y = unshifted q.y high in
+      (ap₂ cell_at back_x stay_y ∙ sym (ap₂ cell_at here_x y), ap₂ cell_at stay_x back_y ∙ sym (ap₂ cell_at x here_y))
+
+  pub beside-north_east : step_of q 1 ≡ Some p → (step_of p 6 ≡ step_of q 0) × (step_of p 4 ≡ step_of q 2)
+  beside-north_east there =
+      let parts = both (shifted q.x 1 0) (shifted q.y 0 1) p there in
+      beside 1 0 0 1 parts.0 parts.1
+
+  pub beside-south_east : step_of q 3 ≡ Some p → (step_of p 6 ≡ step_of q 4) × (step_of p 0 ≡ step_of q 2)
+  beside-south_east there =
+      let parts = both (shifted q.x 1 0) (shifted q.y 1 0) p there in
+      beside 1 0 1 0 parts.0 parts.1
+
+  pub beside-south_west : step_of q 5 ≡ Some p → (step_of p 2 ≡ step_of q 4) × (step_of p 0 ≡ step_of q 6)
+  beside-south_west there =
+      let parts = both (shifted q.x 0 1) (shifted q.y 1 0) p there in
+      beside 0 1 1 0 parts.0 parts.1
+
+  pub beside-north_west : step_of q 7 ≡ Some p → (step_of p 2 ≡ step_of q 0) × (step_of p 4 ≡ step_of q 6)
+  beside-north_west there =
+      let parts = both (shifted q.x 0 1) (shifted q.y 0 1) p there in
+      beside 0 1 0 1 parts.0 parts.1

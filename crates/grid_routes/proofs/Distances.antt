@@ -15,7 +15,7 @@ use Rattle.game_model.specs.Grid.{Grid, HasSize}
 use Rattle.grid_routes.specs.Least.{AreLeast}
 use Rattle.grid_routes.specs.Steps.{IsFair}
 use Rattle.grid_routes.specs.Tolls.{IsCheap}
-use Rattle.grid_routes.proofs.Fares.{fair-map}
+use Rattle.grid_routes.proofs.StepCosts.{fair-map}
 use Rattle.grid_routes.proofs.Shortest.{distance-most, rest-least}
 use Rattle.game_model.specs.Walks.{land_of, Land, IsStep, IsWalk, IsDistance, HasNoWalk, LeadsOn, IsBest, IsBestDirection, fare_of}
 use Rattle.game_model.specs.BestDirection.{directions, lesser, by_fare, by_step, by_direction, least_within, enough_steps, distance_of, is_cost, leads_on, best_dir_of}

@@ -8,7 +8,7 @@ use Rattle.game_model.specs.Walks.{IsStep}
 use Rattle.grid_routes.specs.Tolls.{Ground, toll_in}
 use Rattle.grid_routes.specs.Labels.{Distances, IsFull, label_of}
 use Rattle.grid_routes.specs.Held.{Shelves, IsAt, IsWhole}
-use Rattle.grid_routes.specs.Steps.{Lowers, IsExpanded}
+use Rattle.grid_routes.specs.Steps.{Lowers, IsExpanded, IsOffered}
 use Rattle.grid_routes.proofs.Directions.{step-back, opposite-back, opposite-low}
 use Rattle.grid_routes.proofs.Lowering.{lowers-refl, lowers-trans, falls, level-stays, expanded-stays}
 use Rattle.grid_routes.proofs.Shelves.{only-one}
@@ -27,74 +27,84 @@ full-stays toll level old before new after low full =
     }
 
 -- The neighbours in directions below d were offered their walk over q.
-pub record Offered (tolls : Ground) (field : Distances) (shelves : Shelves) (tolls' : Ground) (field' : Distances) (shelves' : Shelves) (q : CPos) (level d : ℕ) : Type 0 where
-  pub same_tolls : tolls' ≡ tolls
+pub record Offered (toll : CPos → ℕ) (field : Distances) (shelves : Shelves) (field' : Distances) (shelves' : Shelves) (q : CPos) (level d : ℕ) : Type 0 where
   pub same_level : field'.level ≡ field.level
-  pub lowers : Lowers (toll_in tolls) level field.labels shelves field'.labels shelves'
+  pub lowers : Lowers toll level field.labels shelves field'.labels shelves'
   pub done :
       (e : ℕ) (p : CPos) (k : ℕ) → e < d → step_of q e ≡ Some p → IsOn field.labels.width field.labels.height p →
-      IsStep (toll_in tolls) p (opposite_of e) q k → label_of field'.labels p ≤ level + k
+      IsStep toll p (opposite_of e) q k → label_of field'.labels p ≤ level + k
 
 pub offered-none :
-    (tolls : Ground) (field : Distances) (shelves : Shelves) (q : CPos) (level : ℕ) →
-    Offered tolls field shelves tolls field shelves q level 0
-offered-none tolls field shelves q level = record {
-  same_tolls = refl;
+    (toll : CPos → ℕ) (field : Distances) (shelves : Shelves) (q : CPos) (level : ℕ) →
+    Offered toll field shelves field shelves q level 0
+offered-none toll field shelves q level = record {
   same_level = refl;
-  lowers = lowers-refl (toll_in tolls) level field.labels shelves;
+  lowers = lowers-refl toll level field.labels shelves;
   done = λ e p k below there on step. absurd (omega arith);
 }
 
 pub offered-step :
-    (tolls : Ground) (field : Distances) (shelves : Shelves) (tolls' : Ground) (field' : Distances) (shelves' : Shelves)
-    (q : CPos) (level d : ℕ) (tolls'' : Ground) (field'' : Distances) (shelves'' : Shelves) →
-    Offered tolls field shelves tolls' field' shelves' q level d →
-    tolls'' ≡ tolls' → field''.level ≡ field'.level →
-    Lowers (toll_in tolls') level field'.labels shelves' field''.labels shelves'' →
-    ((p : CPos) (k : ℕ) → step_of q d ≡ Some p → IsOn field'.labels.width field'.labels.height p →
-    IsStep (toll_in tolls') p (opposite_of d) q k → label_of field''.labels p ≤ level + k) →
-    Offered tolls field shelves tolls'' field'' shelves'' q level (d + 1)
-offered-step tolls field shelves tolls' field' shelves' q level d tolls'' field'' shelves'' so_far tolls_stay level_stays low done =
-    let toll : toll_in tolls' ≡ toll_in tolls = ap toll_in so_far.same_tolls in
-    let lower : Lowers (toll_in tolls) level field'.labels shelves' field''.labels shelves'' =
-    subst (λ (t : CPos → ℕ). Lowers t level field'.labels shelves' field''.labels shelves'') toll low in
+    (toll : CPos → ℕ) (field : Distances) (shelves : Shelves) (field' : Distances) (shelves' : Shelves)
+    (q : CPos) (level d : ℕ) (field'' : Distances) (shelves'' : Shelves) →
+    Offered toll field shelves field' shelves' q level d →
+    IsOffered toll q d level field' shelves' field'' shelves'' →
+    Offered toll field shelves field'' shelves'' q level (d + 1)
+offered-step toll field shelves field' shelves' q level d field'' shelves'' so_far one =
     let wide : field'.labels.width ≡ field.labels.width = so_far.lowers.size.width in
     let high : field'.labels.height ≡ field.labels.height = so_far.lowers.size.height in
     record {
-      same_tolls = tolls_stay ∙ so_far.same_tolls;
-      same_level = level_stays ∙ so_far.same_level;
-      lowers = lowers-trans (toll_in tolls) level field.labels shelves field'.labels shelves' field''.labels shelves'' so_far.lowers lower;
+      same_level = one.same ∙ so_far.same_level;
+      lowers = lowers-trans toll level field.labels shelves field'.labels shelves' field''.labels shelves'' so_far.lowers one.lowers;
       done = λ e p k below there on step.
           elim (cases_eq e d) [
             | inl same ↦
-                done p k (ap (λ j. step_of q j) (sym same) ∙ there)
+                one.done p k (ap (λ j. step_of q j) (sym same) ∙ there)
                 (record { column = rw wide on.column; row = rw high on.row })
-                (subst (λ (t : CPos → ℕ). IsStep t p (opposite_of d) q k) (sym toll)
-                (subst (λ (j : ℕ). IsStep (toll_in tolls) p (opposite_of j) q k) same step))
+                (subst (λ (j : ℕ). IsStep toll p (opposite_of j) q k) same step)
             | inr other ↦
                 let before = so_far.done e p k (omega arith) there on step in
-                let fell = falls (toll_in tolls) level field'.labels shelves' field''.labels shelves'' lower p in
+                let fell = falls toll level field'.labels shelves' field''.labels shelves'' one.lowers p in
                 omega (arith, before, fell)
           ];
     }
 
 -- All neighbours were offered their walk.
 pub offered-all :
-    (tolls : Ground) (field : Distances) (shelves : Shelves) (tolls' : Ground) (field' : Distances) (shelves' : Shelves)
-    (q : CPos) (level d : ℕ) → IsFull field.labels → 8 ≤ d →
-    Offered tolls field shelves tolls' field' shelves' q level d →
-    IsExpanded (toll_in tolls) field'.labels level q
-offered-all tolls field shelves tolls' field' shelves' q level d full end so_far = λ p e k on step.
+    (toll : CPos → ℕ) (field : Distances) (shelves : Shelves) (field' : Distances) (shelves' : Shelves)
+    (q : CPos) (level : ℕ) → IsFull field.labels →
+    Offered toll field shelves field' shelves' q level 8 →
+    IsExpanded toll field'.labels level q
+offered-all toll field shelves field' shelves' q level full so_far = λ p e k on step.
     let wide : field'.labels.width ≡ field.labels.width = so_far.lowers.size.width in
     let high : field'.labels.height ≡ field.labels.height = so_far.lowers.size.height in
     let column : p.x < field.labels.width = rw wide at on.column in
     let row : p.y < field.labels.height = rw high at on.row in
     let small : p.x < 256 = omega (arith, full.wide) in
     let short : p.y < 256 = omega (arith, full.high) in
-    so_far.done (opposite_of e) p k (omega (arith, opposite-low e))
+    so_far.done (opposite_of e) p k (opposite-low e)
     (step-back p q e small short step.direction step.enters)
     (record { column = column; row = row })
-    (subst (λ (j : ℕ). IsStep (toll_in tolls) p j q k) (sym (opposite-back e step.direction)) step)
+    (subst (λ (j : ℕ). IsStep toll p j q k) (sym (opposite-back e step.direction)) step)
+
+-- The offers to the eight neighbours, one after the other.
+pub offered-eight :
+    (toll : CPos → ℕ) (q : CPos) (level : ℕ)
+    (f0 f1 f2 f3 f4 f5 f6 f7 f8 : Distances) (s0 s1 s2 s3 s4 s5 s6 s7 s8 : Shelves) →
+    IsOffered toll q 0 level f0 s0 f1 s1 → IsOffered toll q 1 level f1 s1 f2 s2 →
+    IsOffered toll q 2 level f2 s2 f3 s3 → IsOffered toll q 3 level f3 s3 f4 s4 →
+    IsOffered toll q 4 level f4 s4 f5 s5 → IsOffered toll q 5 level f5 s5 f6 s6 →
+    IsOffered toll q 6 level f6 s6 f7 s7 → IsOffered toll q 7 level f7 s7 f8 s8 →
+    Offered toll f0 s0 f8 s8 q level 8
+offered-eight toll q level f0 f1 f2 f3 f4 f5 f6 f7 f8 s0 s1 s2 s3 s4 s5 s6 s7 s8 a b c d e f g h =
+    let none : Offered toll f0 s0 f0 s0 q level 0 = offered-none toll f0 s0 q level in
+    let one : Offered toll f0 s0 f1 s1 q level 1 = offered-step toll f0 s0 f0 s0 q level 0 f1 s1 none a in
+    let two : Offered toll f0 s0 f2 s2 q level 2 = offered-step toll f0 s0 f1 s1 q level 1 f2 s2 one b in
+    let three : Offered toll f0 s0 f3 s3 q level 3 = offered-step toll f0 s0 f2 s2 q level 2 f3 s3 two c in
+    let four : Offered toll f0 s0 f4 s4 q level 4 = offered-step toll f0 s0 f3 s3 q level 3 f4 s4 three d in
+    let five : Offered toll f0 s0 f5 s5 q level 5 = offered-step toll f0 s0 f4 s4 q level 4 f5 s5 four e in
+    let six : Offered toll f0 s0 f6 s6 q level 6 = offered-step toll f0 s0 f5 s5 q level 5 f6 s6 five f in
+    let seven : Offered toll f0 s0 f7 s7 q level 7 = offered-step toll f0 s0 f6 s6 q level 6 f7 s7 six g in
+    offered-step toll f0 s0 f7 s7 q level 7 f8 s8 seven h
 
 -- The cells in the first places of the level's bucket are expanded.
 pub record Ringed (tolls : Ground) (field : Distances) (shelves : Shelves) (tolls' : Ground) (field' : Distances) (shelves' : Shelves) (level i : ℕ) : Type 0 where

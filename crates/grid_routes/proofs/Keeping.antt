@@ -144,6 +144,5 @@ settled-fields w h f s ask fields asked tolls search size =
       room = search.room ∙ search.full.size ∙ ap (λ n. n * s.field.labels.height) wide ∙ ap (λ n. w * n) high;
       search = subst (λ (o : Option Ask). IfSome o (IsFor s)) (sym asked) is_for;
       kept = subst (λ (g : Ground). All (IsKept w h g.terrain g.built) f.kept.items) (sym tolls) fields.kept;
-      count = fields.count;
       place = fields.place;
     }

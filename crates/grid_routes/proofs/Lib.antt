@@ -4,8 +4,9 @@ pub mod Best
 pub mod Cells
 pub mod Directions
 pub mod Distances
+pub mod Entering
 pub mod Expanding
-pub mod Fares
+pub mod StepCosts
 pub mod Filling
 pub mod Keeping
 pub mod Lowering

@@ -1,17 +1,19 @@
 -- Labels that fall by steps into cells of one level.
-use Rattle.std.proofs.Common.{◌≡◌, ◌≢◌, ℕ, ◌+◌, ◌%◌, ◌<◌, ◌≤◌, ◌⊎◌, inl, inr, not, nat_lt, cond, length, List, set, get_or, refl, ap, sym, ◌∙◌, arith, subst, length-set}
+use Rattle.std.proofs.Common.{◌≡◌, ◌≢◌, ℕ, ◌+◌, ◌%◌, ◌<◌, ◌≤◌, ◌⊎◌, inl, inr, not, nat_lt, Some, cond, length, List, set, get_or, refl, ap, sym, ◌∙◌, arith, subst, length-set}
 use Rattle.std.proofs.lemmas.Bool.{cases_eq}
 use Rattle.std.proofs.lemmas.Bool.Decides.{nat_tests}
 use Rattle.std.proofs.lemmas.List.Sums.{sum_by-set}
 use Rattle.std.specs.List.{count_by}
 use Rattle.world_units.specs.declared.cell.CPos.{CPos}
+use Rattle.world_units.specs.Directions.{opposite_of, step_of}
 use Rattle.game_model.specs.Grid.{Grid, IsOn, place_of, with_cell}
 use Rattle.grid_routes.specs.declared.field.TheConstants.{NONE}
 use Rattle.grid_routes.specs.Values.{value_in}
-use Rattle.game_model.specs.Walks.{IsStep}
-use Rattle.grid_routes.specs.Labels.{IsFull, label_of, open_count}
+use Rattle.game_model.specs.Walks.{IsStep, fare_of}
+use Rattle.grid_routes.specs.Labels.{Distances, IsFull, label_of, open_count}
 use Rattle.grid_routes.specs.Held.{Shelves, IsWhole, pushed}
-use Rattle.grid_routes.specs.Steps.{IsMade, Lowers, IsExpanded}
+use Rattle.grid_routes.specs.Fares.{IsFareFrom}
+use Rattle.grid_routes.specs.Steps.{IsMade, IsOffered, IsRelaxed, Lowers, IsExpanded}
 use Rattle.grid_routes.proofs.Cells.{placed, set-here, set-other, is_on-true}
 use Rattle.grid_routes.proofs.Shelves.{pushed-kept, pushed-held, pushed-others, pushed-lost, pushed-room}
 
@@ -176,4 +178,44 @@ relaxed toll level g s p q d k full whole on step cheap from less =
       row = pushed-others s ((level + k) % 71) p whole low (level % 71) (λ (same : level % 71 ≡ (level + k) % 71). omega arith);
       lost = pushed-lost s ((level + k) % 71) p whole low;
       room = pushed-room s ((level + k) % 71) p whole low;
+    }
+
+-- The same, as what is said of the labels and the buckets, whatever the step.
+pub relaxed-all :
+    (f : Distances) (s : Shelves) (p : CPos) (label : ℕ) → IsFull f.labels → IsWhole s →
+    IsOn f.labels.width f.labels.height p → label < label_of f.labels p →
+    IsRelaxed f s (record f { labels = with_cell f.labels p label }) (pushed s (label % 71) p) p label
+relaxed-all f s p label full whole on less =
+    let here = set-here NONE f.labels p label full.size on in
+    record {
+      least = omega (arith, here);
+      same = refl;
+      stays = λ c low. elim (one-or-not c p) [
+        | inl one ↦
+            let same_label : label_of f.labels c ≡ label_of f.labels p = ap (λ x. label_of f.labels x) one in
+            absurd (omega (arith, low, less, same_label))
+        | inr other ↦ set-other NONE f.labels p label c on.column other
+      ];
+      lowers = λ toll n d k q step cheap from is.
+          subst (λ (m : ℕ). Lowers toll n f.labels s (with_cell f.labels p m) (pushed s (m % 71) p)) (sym is)
+          (relaxed toll n f.labels s p q d k full whole on step cheap from (omega (arith, is, less)));
+    }
+
+-- A neighbour that is offered the walk over a cell.
+pub offered :
+    (toll : CPos → ℕ) (q p : CPos) (d fare level : ℕ) (f : Distances) (s : Shelves) (g : Distances) (t : Shelves) →
+    IsFareFrom toll q d fare → 0 < fare → step_of q d ≡ Some p → label_of f.labels q ≡ level → opposite_of d < 8 →
+    step_of p (opposite_of d) ≡ Some q →
+    IsRelaxed f s g t p (level + fare) → IsOffered toll q d level f s g t
+offered toll q p d fare level f s g t is some there from low back relaxed_to =
+    let step : IsStep toll p (opposite_of d) q fare =
+    record { direction = low; enters = back; cost = is.cost p there; allowed = some } in
+    record {
+      same = relaxed_to.same;
+      lowers = relaxed_to.lowers toll level (opposite_of d) fare q step is.cheap from refl;
+      done = λ r k to on steps.
+          let one : r ≡ p = cc in
+          let cost : fare_of toll r (opposite_of d) q ≡ fare = is.cost r to in
+          let same_label : label_of g.labels r ≡ label_of g.labels p = ap (λ x. label_of g.labels x) one in
+          omega (arith, cost, steps.cost, same_label, relaxed_to.least);
     }

@@ -9,7 +9,7 @@ use Rattle.game_model.specs.Grid.{IsOn, place_of}
 use Rattle.game_model.specs.Walks.{Land, IsWalk, IsDistance}
 use Rattle.grid_routes.specs.Steps.{IsFair}
 use Rattle.grid_routes.proofs.Cells.{apart, placed}
-use Rattle.grid_routes.proofs.Fares.{step-on}
+use Rattle.grid_routes.proofs.StepCosts.{step-on}
 
 -- A cell of the map with a distance below n.
 record IsNearer (land : Land) (w h n : ℕ) (c : CPos) : Type 0 where

@@ -9,7 +9,7 @@ use Rattle.grid_routes.specs.Labels.{Distances, label_of}
 use Rattle.grid_routes.specs.Held.{Shelves}
 use Rattle.grid_routes.specs.Steps.{IsSearch, IsLead, IsLeastLead, IsOnward}
 use Rattle.grid_routes.proofs.Best.{best-is, distance, no-lead-goal}
-use Rattle.grid_routes.proofs.Fares.{step-on}
+use Rattle.grid_routes.proofs.StepCosts.{step-on}
 
 no-cost : (land : Land) (cells : List CPos) (p : CPos) (n : ℕ) → n ≡ 0 → IsWalk land p cells n → p ≡ land.goal
 no-cost land [] p n none walk = walk.0

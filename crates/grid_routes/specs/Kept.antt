@@ -39,8 +39,7 @@ pub record AreFields (w h : ℕ) (fields : Fields) : Type 0 where
   pub search : IfSome fields.ask (IsFor fields.search)
   pub kept : All (IsKept w h fields.search.tolls.terrain fields.search.tolls.built)
       fields.kept.items
-  pub count : length fields.kept.items ≡ 33
-  pub place : fields.place ≤ 32
+  pub place : fields.place < length fields.kept.items
 
 -- The ground stays.
 pub record IsSameGround (old new : Fields) : Type 0 where

@@ -1,5 +1,7 @@
 pub mod Values
 pub mod Tolls
+pub mod Footing
+pub mod Fares
 pub mod Kept
 pub mod Labels
 pub mod Least

@@ -3,6 +3,7 @@ use Rattle.std.specs.Prelude.{◌≡◌, ◌≢◌, ℕ, ◌+◌, ◌*◌, ◌%�
 use Rattle.std.specs.Prelude.{nat_lt, suc, Option, Some, None}
 use Rattle.std.specs.Prelude.{if◌then◌else◌}
 use Rattle.world_units.specs.declared.cell.CPos.{CPos}
+use Rattle.world_units.specs.Directions.{opposite_of, step_of}
 use Rattle.game_model.specs.Grid.{Grid, IsOn, HasSize}
 use Rattle.grid_routes.specs.declared.field.TheConstants.{NONE}
 use Rattle.grid_routes.specs.declared.route.Route.{Route}
@@ -37,6 +38,30 @@ pub record Lowers (toll : CPos → ℕ) (level : ℕ) (old : Grid ℕ) (before :
   pub row : len_of after (level % 71) ≡ len_of before (level % 71)
   pub lost : before.lost ≡ true → after.lost ≡ true
   pub room : after.room ≡ before.room
+
+-- The cell got this label and went into its bucket, or its label was no greater.
+pub record IsRelaxed (old : Distances) (before : Shelves) (new : Distances) (after : Shelves)
+    (p : CPos) (label : ℕ) : Type 0 where
+  pub least : label_of new.labels p ≤ label
+  pub same : new.level ≡ old.level
+  -- What was at most this stays.
+  pub stays :
+      (c : CPos) → label_of old.labels c ≤ label →
+      label_of new.labels c ≡ label_of old.labels c
+  pub lowers :
+      (toll : CPos → ℕ) (n d k : ℕ) (q : CPos) → IsStep toll p d q k → k ≤ 70 →
+      label_of old.labels q ≡ n → label ≡ n + k →
+      Lowers toll n old.labels before new.labels after
+
+-- The neighbour of q in direction d was offered the walk that enters q.
+pub record IsOffered (toll : CPos → ℕ) (q : CPos) (d level : ℕ) (old : Distances)
+    (before : Shelves) (new : Distances) (after : Shelves) : Type 0 where
+  pub same : new.level ≡ old.level
+  pub lowers : Lowers toll level old.labels before new.labels after
+  pub done :
+      (p : CPos) (k : ℕ) → step_of q d ≡ Some p →
+      IsOn old.labels.width old.labels.height p → IsStep toll p (opposite_of d) q k →
+      label_of new.labels p ≤ level + k
 
 -- Each cell from which a step enters q has at most the label by that step.
 abbrev pub IsExpanded : (CPos → ℕ) → Grid ℕ → ℕ → CPos → Type 0

@@ -1,10 +1,11 @@
 -- What it costs to enter the cells of a map on the way to a goal.
-use Rattle.std.specs.Prelude.{ℕ, ◌≤◌, Bool}
+use Rattle.std.specs.Prelude.{◌≡◌, ℕ, ◌≤◌, Bool, List}
 use Rattle.world_units.specs.declared.cell.CPos.{CPos}
 use Rattle.rule_traits.specs.declared.trait_fields.Costs.{Costs}
 use Rattle.game_model.specs.declared.terrain.Terrain.{Terrain}
 use Rattle.game_model.specs.Grid.{Grid, HasSize}
 use Rattle.game_model.specs.Walks.{Land, toll_of}
+use Rattle.grid_routes.specs.Footing.{IsFooting, charges_of, number_at}
 
 -- The ground of a map with its buildings, and a question over it: where to, and at which costs.
 pub record Ground : Type 0 where
@@ -38,3 +39,11 @@ pub record IsCheap (costs : Costs) : Type 0 where
 pub record IsGround (ground : Ground) : Type 0 where
   pub size : HasSize ground.terrain.width ground.terrain.height ground.built
   pub cheap : IsCheap ground.costs
+
+-- The surface has the ground's size and the number of what each cell counts as, and the charges are
+-- those of the costs.
+pub record AreTolls (ground : Ground) (surface : Grid ℕ) (charges : List ℕ) : Type 0 where
+  pub sound : IsGround ground
+  pub size : HasSize ground.terrain.width ground.terrain.height surface
+  pub footing : IsFooting (number_at ground.terrain ground.built ground.goal) surface
+  pub charged : charges ≡ charges_of ground.costs

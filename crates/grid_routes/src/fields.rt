@@ -40,18 +40,19 @@ pub(crate) struct Fields {
 }
 
 impl Fields {
-    /// Room for fields over maps of this size. Out of memory is its only error.
-    pub(crate) fn create(alloc: Global, w: u8, h: u8) -> Result<Fields, NoMemory>
+    /// Room for at most so many kept fields over maps of this size. Out of memory is its only error.
+    pub(crate) fn create(alloc: Global, w: u8, h: u8, most: usize) -> Result<Fields, NoMemory>
+        requires { most ≤ FIELDS }
         ensures { IfOk result (λ fields. AreFields w h fields) }
     {
         let search = Search::create(alloc, w, h)?;
-        let kept = room(alloc, w, h)?;
+        let kept = room(alloc, w, h, most + 1)?;
         Ok(Fields {
             search,
             ask: None,
             kept,
-            place: FIELDS,
-            index: Index::create(alloc)?,
+            place: most,
+            index: Index::create(alloc, most)?,
         })
     }
 
@@ -131,7 +132,7 @@ impl Fields {
             false
         } else {
             self.put_back();
-            let place = self.index.place(ask);
+            let place = self.index.place(ask).min(self.kept.len() - 1);
             self.take_up(place, ask)
         }
     }
@@ -152,7 +153,7 @@ impl Fields {
     fn take_up(&mut self, place: usize, ask: &Ask) -> bool
         requires fields { AreFields self.old.search.tolls.terrain.width
             self.old.search.tolls.terrain.height self.old }
-        requires place { place ≤ 32 }
+        requires place { place < length self.old.kept.items }
         requires costs { IsCheap ask.now.costs }
         requires goal { IsOn self.old.search.tolls.terrain.width
             self.old.search.tolls.terrain.height ask.now.goal }
@@ -162,7 +163,7 @@ impl Fields {
         ensures asked { self.new.ask ≡ Some ask.now }
     {
         let found = exchange(&mut self.kept, place, &mut self.search.field, None);
-        let known = is_known(place, &found, ask);
+        let known = is_known(place, self.kept.len() - 1, &found, ask);
         self.search.set_out(known, &ask.costs, ask.goal);
         self.place = place;
         self.ask = Some(*ask);
@@ -180,11 +181,11 @@ fn is_asked(last: &Option<Ask>, ask: &Ask) -> bool
     }
 }
 
-/// Whether a field at a place is kept and belongs to this.
-fn is_known(place: usize, found: &Option<Ask>, ask: &Ask) -> bool
+/// Whether a field at a place below the last one belongs to this.
+fn is_known(place: usize, last: usize, found: &Option<Ask>, ask: &Ask) -> bool
     ensures { IsTrue result → found.now ≡ Some ask.now }
 {
-    place < FIELDS && is_asked(found, ask)
+    place < last && is_asked(found, ask)
 }
 
 /// Exchanges a field with the one at a place. Returns what that one belonged to.
@@ -201,13 +202,13 @@ fn exchange(kept: &mut Vec<Kept>, place: usize, field: &mut Field, ask: Option<A
     found
 }
 
-/// Room for the fields that are kept, and for one that isn't. Out of memory is its only error.
-fn room(alloc: Global, w: u8, h: u8) -> Result<Vec<Kept>, NoMemory>
-    ensures count { IfOk result (λ kept. length kept.items ≡ 33) }
+/// Room for so many fields. Out of memory is its only error.
+fn room(alloc: Global, w: u8, h: u8, count: usize) -> Result<Vec<Kept>, NoMemory>
+    ensures count { IfOk result (λ kept. length kept.items ≡ count) }
     ensures empty { IfOk result (λ kept. All (IsRoom w h) kept.items) }
 {
     let mut kept = Vec::new(alloc);
-    for place in 0..FIELDS + 1 {
+    for place in 0..count {
         kept.push(Kept {
             ask: None,
             field: Field::create(alloc, w, h)?,

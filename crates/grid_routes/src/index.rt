@@ -1,5 +1,3 @@
-ghost use Rattle.std.specs.Prelude.{◌≤◌};
-
 use crate::ask::Ask;
 use base::NoMemory;
 use lru::LruCache;
@@ -7,8 +5,8 @@ use std::alloc::Global;
 use std::num::NonZeroUsize;
 use world_units::CPos;
 
-/// How many fields are kept.
-pub(crate) const FIELDS: usize = 32;
+/// How many fields are kept at most.
+pub const FIELDS: usize = 32;
 
 /// What a field is found by.
 #[derive(Clone, Copy, PartialEq, Eq, Hash)]
@@ -23,15 +21,18 @@ struct Key {
 /// The places of the fields that were used last.
 #[derive(Drop)]
 pub(crate) struct Index {
+    /// How many fields are kept at most.
+    most: usize,
     places: LruCache<Key, usize>,
 }
 
 impl Index {
-    /// An index without places. Out of memory is its only error.
-    pub(crate) fn create(alloc: Global) -> Result<Index, NoMemory> {
-        let most = NonZeroUsize::new(FIELDS).unwrap_or(NonZeroUsize::MIN);
+    /// An index of at most so many places. Out of memory is its only error.
+    pub(crate) fn create(alloc: Global, most: usize) -> Result<Index, NoMemory> {
+        let cap = NonZeroUsize::new(most).unwrap_or(NonZeroUsize::MIN);
         Ok(Index {
-            places: LruCache::new(alloc, most)?,
+            most,
+            places: LruCache::new(alloc, cap)?,
         })
     }
 
@@ -41,10 +42,8 @@ impl Index {
     }
 
     /// The place of a field: the one that it has, else one that is not taken, else that of the
-    /// field that was used longest ago. It is `FIELDS` where memory ran out.
-    pub(crate) fn place(&mut self, ask: &Ask) -> usize
-        ensures { result ≤ 32 }
-    {
+    /// field that was used longest ago. It is past the last one where memory ran out.
+    pub(crate) fn place(&mut self, ask: &Ask) -> usize {
         let key = Key {
             goal: ask.goal,
             clear: ask.costs.clear,
@@ -52,11 +51,10 @@ impl Index {
             rough: ask.costs.rough,
             water: ask.costs.water,
         };
-        let place = match self.places.get(&key) {
+        match self.places.get(&key) {
             Some(place) => *place,
             None => self.taken(key),
-        };
-        place.min(FIELDS)
+        }
     }
 
     /// Takes a place for a field.
@@ -64,19 +62,19 @@ impl Index {
         let place = self.next();
         match self.places.put(key, place) {
             Ok(_) => place,
-            Err(_) => FIELDS,
+            Err(_) => self.most,
         }
     }
 
     /// The place that is given next.
     fn next(&self) -> usize {
         let len = self.places.len();
-        if len < FIELDS {
+        if len < self.most {
             len
         } else {
             match self.places.peek_lru() {
                 Some((_, place)) => *place,
-                None => FIELDS,
+                None => self.most,
             }
         }
     }

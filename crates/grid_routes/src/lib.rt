@@ -14,6 +14,7 @@
 
 mod ask;
 mod buckets;
+mod fares;
 mod field;
 mod fields;
 mod index;
@@ -21,8 +22,10 @@ mod law;
 mod route;
 mod router;
 mod search;
+mod surface;
 mod tolls;
 
+pub use index::FIELDS;
 pub use law::distances_are_least;
 pub use route::Route;
 pub use router::Router;

@@ -1,4 +1,4 @@
-ghost use Rattle.std.specs.Prelude.{◌≡◌, ◌+◌, ◌-◌, ◌^◌, ◌⊎◌, min, IfOk};
+ghost use Rattle.std.specs.Prelude.{◌≡◌, ◌≤◌, ◌+◌, ◌-◌, ◌^◌, ◌⊎◌, min, IfOk};
 ghost use Rattle.game_model.specs.Grid.{IsOn};
 ghost use Rattle.game_model.specs.BestDirection.{best_dir_of};
 ghost use Rattle.game_model.specs.Walks.{IsBestDirection, land_of};
@@ -7,6 +7,7 @@ ghost use Rattle.grid_routes.specs.Routing.{AreSized, CountsOn, IsSameSize};
 ghost use Rattle.grid_routes.specs.Steps.{IsRoute};
 
 use crate::fields::Fields;
+use crate::index::FIELDS;
 use crate::route::Route;
 use base::NoMemory;
 use game_model::{Blocks, Map};
@@ -36,15 +37,27 @@ impl Model for Router {
 }
 
 impl Router {
-    /// A router for maps of this size. Out of memory is its only error.
+    /// A router for maps of this size, which keeps [`FIELDS`] fields of distances. Out of memory is
+    /// its only error.
     pub fn create(alloc: Global, w: u8, h: u8) -> Result<Router, NoMemory>
+        ensures { IfOk result (λ router. router ≡
+            (record { width = w; height = h; computed = 0 })) }
+    {
+        Router::with_fields(alloc, w, h, FIELDS)
+    }
+
+    /// A router for maps of this size, which keeps at most so many fields of distances. It answers
+    /// as any other; one that keeps few takes less memory, and begins more fields. Out of memory is
+    /// its only error.
+    pub fn with_fields(alloc: Global, w: u8, h: u8, most: usize) -> Result<Router, NoMemory>
+        requires { most ≤ FIELDS }
         ensures { IfOk result (λ router. router ≡
             (record { width = w; height = h; computed = 0 })) }
     {
         Ok(Router {
             width: w,
             height: h,
-            fields: Fields::create(alloc, w, h)?,
+            fields: Fields::create(alloc, w, h, most)?,
             computed: 0,
         })
     }

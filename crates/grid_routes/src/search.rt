@@ -1,15 +1,15 @@
 ghost use Rattle.std.specs.Prelude.{◌≡◌, ◌≢◌, ℕ, ◌+◌, ◌*◌, ◌%◌, ◌^◌, ◌<◌, ◌≤◌, false, Some, IfOk};
 ghost use Rattle.std.specs.Prelude.{IsTrue, IsFalse, MatchOption, length};
 ghost use Rattle.world_units.specs.declared.cell.CPos.{CPos};
-ghost use Rattle.world_units.specs.Directions.{opposite_of, step_of};
 ghost use Rattle.game_model.specs.Grid.{IsOn, HasSize};
 ghost use Rattle.game_model.specs.Walks.{IsBestDirection, IsStep};
 ghost use Rattle.grid_routes.specs.Tolls.{IsCheap, land_over, toll_in};
+ghost use Rattle.grid_routes.specs.Fares.{IsFareFrom};
 ghost use Rattle.grid_routes.specs.Labels.{IsFull, label_of};
 ghost use Rattle.grid_routes.specs.Held.{IsAt};
 ghost use Rattle.grid_routes.specs.Steps.{AreQueued, FitsTogether, HasLabel, IsClear, IsExpanded};
-ghost use Rattle.grid_routes.specs.Steps.{IsFilled, IsGoing, IsLead, IsLeastLead, IsNext, IsOnward};
-ghost use Rattle.grid_routes.specs.Steps.{IsRoute, IsSearch, Lowers, rings_left};
+ghost use Rattle.grid_routes.specs.Steps.{IsFilled, IsGoing, IsLead, IsLeastLead, IsNext, IsOffered};
+ghost use Rattle.grid_routes.specs.Steps.{IsOnward, IsRelaxed, IsRoute, IsSearch, Lowers, rings_left};
 
 use crate::buckets::{BUCKETS, Buckets};
 use crate::field::{Field, NONE};
@@ -18,7 +18,10 @@ use crate::tolls::Tolls;
 use base::{List, NoMemory};
 use rule_traits::Costs;
 use std::alloc::Global;
-use world_units::{CPos, DIRECTIONS, opposite, step};
+use world_units::{
+    CPos, DIRECTIONS, EAST, NORTH, NORTH_EAST, NORTH_WEST, SOUTH, SOUTH_EAST, SOUTH_WEST, WEST,
+    step,
+};
 
 /// A search of distances from a goal, which may stop at any level and go on later.
 #[derive(Drop)]
@@ -62,7 +65,8 @@ impl Search {
         self.tolls.turn_to(costs, goal);
         self.tolls.ground();
         self.field.begin(goal);
-        self.buckets.lose();
+        self.buckets.clear_all();
+        self.buckets.push(0, goal);
     }
 
     /// Takes up a search where it stopped, over the same ground.
@@ -110,48 +114,6 @@ impl Search {
         }
     }
 
-    /// Offers a cell the walk by its step in direction `d`, which enters a cell of this level.
-    fn relax(&mut self, p: CPos, d: u8, q: CPos, level: u32)
-        requires direction { d < 8 }
-        requires on { IsOn self.old.field.labels.width self.old.field.labels.height p }
-        requires enters { step_of p d ≡ Some q }
-        requires from { label_of self.old.field.labels q ≡ level }
-        requires low { level < 2 ^ 31 }
-        ensures tolls { self.new.tolls ≡ self.old.tolls }
-        ensures level { self.new.field.level ≡ self.old.field.level }
-        ensures lowers { Lowers (toll_in self.old.tolls) level self.old.field.labels
-            self.old.buckets self.new.field.labels self.new.buckets }
-        ensures done { (k : ℕ) → IsStep (toll_in self.old.tolls) p d q k →
-            label_of self.new.field.labels p ≤ level + k }
-    {
-        let fare = self.tolls.fare(p, d, q);
-        if fare > 0 && level + fare < self.field.label(p) {
-            self.field.lower(p, level + fare);
-            self.buckets.push(((level + fare) % BUCKETS) as usize, p);
-        }
-    }
-
-    /// Offers the neighbour in direction `d` the walk that enters a cell of this level.
-    fn offer(&mut self, q: CPos, d: u8, level: u32)
-        requires direction { d < 8 }
-        requires from { label_of self.old.field.labels q ≡ level }
-        requires low { level < 2 ^ 31 }
-        ensures tolls { self.new.tolls ≡ self.old.tolls }
-        ensures level { self.new.field.level ≡ self.old.field.level }
-        ensures lowers { Lowers (toll_in self.old.tolls) level self.old.field.labels
-            self.old.buckets self.new.field.labels self.new.buckets }
-        ensures done { (p : CPos) (k : ℕ) → step_of q d ≡ Some p →
-            IsOn self.old.field.labels.width self.old.field.labels.height p →
-            IsStep (toll_in self.old.tolls) p (opposite_of d) q k →
-            label_of self.new.field.labels p ≤ level + k }
-    {
-        if let Some(p) = step(q, d) {
-            if self.field.has(p) {
-                self.relax(p, opposite(d), q, level);
-            }
-        }
-    }
-
     /// Offers each neighbour of a cell of this level the walk that enters the cell.
     fn expand(&mut self, q: CPos, level: u32)
         requires full { IsFull self.old.field.labels }
@@ -163,9 +125,16 @@ impl Search {
             self.old.buckets self.new.field.labels self.new.buckets }
         ensures done { IsExpanded (toll_in self.old.tolls) self.new.field.labels level q }
     {
-        for d in 0..DIRECTIONS {
-            self.offer(q, d, level);
-        }
+        let fares = self.tolls.fares(q);
+        let (field, buckets) = (&mut self.field, &mut self.buckets);
+        offer(field, buckets, q, NORTH, fares.straight, level);
+        offer(field, buckets, q, NORTH_EAST, fares.north_east, level);
+        offer(field, buckets, q, EAST, fares.straight, level);
+        offer(field, buckets, q, SOUTH_EAST, fares.south_east, level);
+        offer(field, buckets, q, SOUTH, fares.straight, level);
+        offer(field, buckets, q, SOUTH_WEST, fares.south_west, level);
+        offer(field, buckets, q, WEST, fares.straight, level);
+        offer(field, buckets, q, NORTH_WEST, fares.north_west, level);
     }
 
     /// Expands the cells of this level.
@@ -382,8 +351,8 @@ impl Search {
     {
         match step(from, d) {
             Some(q) => {
-                let fare = self.tolls.fare(from, d, q);
-                fare > 0 && fare <= distance && self.field.label(q) == distance - fare
+                let label = self.field.label(q);
+                label < distance && self.tolls.fare(from, d, q) == distance - label
             }
             None => false,
         }
@@ -439,5 +408,38 @@ impl Search {
             },
             None => unreachable!(),
         }
+    }
+}
+
+/// Offers the neighbour of a cell of this level in direction `d` the walk that enters the cell, by a
+/// step of this cost. No step is allowed where it is 0.
+#[inline(always)]
+fn offer(field: &mut Field, buckets: &mut Buckets, q: CPos, d: u8, fare: u32, level: u32)
+    requires direction { d < 8 }
+    requires from { label_of field.old.labels q ≡ level }
+    requires low { level < 2 ^ 31 }
+    requires cheap { fare ≤ 70 }
+    ensures stays { label_of field.new.labels q ≡ level }
+    ensures offers { (toll : CPos → ℕ) → IsFareFrom toll q d fare →
+        IsOffered toll q d level field.old buckets.old field.new buckets.new }
+{
+    if fare > 0 {
+        if let Some(p) = step(q, d) {
+            if field.has(p) {
+                relax(field, buckets, p, level + fare);
+            }
+        }
+    }
+}
+
+/// Lowers the label of a cell, if it is above this, and puts the cell into its bucket.
+#[inline(always)]
+fn relax(field: &mut Field, buckets: &mut Buckets, p: CPos, label: u32)
+    requires on { IsOn field.old.labels.width field.old.labels.height p }
+    ensures { IsRelaxed field.old buckets.old field.new buckets.new p label }
+{
+    if label < field.label(p) {
+        field.lower(p, label);
+        buckets.push((label % BUCKETS) as usize, p);
     }
 }

@@ -1,21 +1,29 @@
-ghost use Rattle.std.specs.Prelude.{◌≡◌, ◌↔◌, ◌<◌, ◌≤◌, IfOk, IsTrue};
+ghost use Rattle.std.specs.Prelude.{◌≡◌, ◌↔◌, ◌<◌, ◌≤◌, ◌&&◌, if◌then◌else◌, IfOk, IsTrue};
+ghost use Rattle.std.specs.Prelude.{slice_index_or};
 ghost use Rattle.world_units.specs.Directions.{step_of};
 ghost use Rattle.game_model.specs.Grid.{HasSize};
 ghost use Rattle.game_model.specs.Walks.{fare_of, is_free};
+ghost use Rattle.grid_routes.specs.Fares.{AreFares};
+ghost use Rattle.grid_routes.specs.Footing.{charges_of};
 ghost use Rattle.grid_routes.specs.Tolls.{IsCheap, IsGround, toll_in};
 
+use crate::fares::Fares;
+use crate::surface::Surface;
 use base::NoMemory;
-use game_model::{Blocks, Map, Tiles, cost_on};
+use game_model::{Blocks, Map, Tiles};
 use rule_traits::Costs;
 use std::alloc::Global;
 use std::marker::Model;
-use world_units::{CPos, DIRECTIONS, step};
+use world_units::{CPos, DIRECTIONS, EAST, NORTH, SOUTH, WEST, step};
 
 /// What a step straight on costs on ground of cost 1.
 const STRAIGHT: u32 = 5;
 
 /// What a step across a corner costs on ground of cost 1.
 const ACROSS: u32 = 7;
+
+/// How many terrains there are.
+const TERRAINS: usize = 5;
 
 /// What it costs to enter each cell of a map on the way to a goal, 0 to 10: 0 where it can't be
 /// entered.
@@ -29,10 +37,14 @@ pub(crate) struct Tolls {
     costs: Costs,
     /// The cell to go to.
     goal: CPos,
+    /// What each cell counts as on the way to the goal.
+    surface: Surface,
+    /// What entering each terrain costs, by its number.
+    charges: [u8; TERRAINS],
 }
 
 impl Model for Tolls {
-    ghost use Rattle.grid_routes.specs.Tolls.{Ground, IsGround};
+    ghost use Rattle.grid_routes.specs.Tolls.{AreTolls, Ground};
 
     ghost Value = { Ground };
 
@@ -44,8 +56,8 @@ impl Model for Tolls {
           t.goal;
     } };
 
-    ghost invariant = { λ t. IsGround (record
-        { terrain = t.terrain; built = t.blocks; costs = t.costs; goal = t.goal }) };
+    ghost invariant = { λ t. AreTolls (record
+        { terrain = t.terrain; built = t.blocks; costs = t.costs; goal = t.goal }) t.surface t.charges };
 }
 
 impl Tolls {
@@ -53,16 +65,24 @@ impl Tolls {
     pub(crate) fn create(alloc: Global, w: u8, h: u8) -> Result<Tolls, NoMemory>
         ensures { IfOk result (λ tolls. HasSize w h tolls.terrain) }
     {
+        let terrain = Tiles::create(alloc, w, h)?;
+        let blocks = Blocks::create(alloc, w, h)?;
+        let goal = CPos { x: 0, y: 0 };
+        let mut surface = Surface::create(alloc, w, h)?;
+        surface.renew_all(&terrain, &blocks, goal);
+        let costs = Costs {
+            clear: 0,
+            road: 0,
+            rough: 0,
+            water: 0,
+        };
         Ok(Tolls {
-            terrain: Tiles::create(alloc, w, h)?,
-            blocks: Blocks::create(alloc, w, h)?,
-            costs: Costs {
-                clear: 0,
-                road: 0,
-                rough: 0,
-                water: 0,
-            },
-            goal: CPos { x: 0, y: 0 },
+            terrain,
+            blocks,
+            costs,
+            goal,
+            surface,
+            charges: charges(&costs),
         })
     }
 
@@ -82,6 +102,8 @@ impl Tolls {
     {
         self.terrain.copy_from(&map.terrain);
         self.blocks.copy_from(blocks);
+        self.surface
+            .renew_all(&self.terrain, &self.blocks, self.goal);
     }
 
     /// Turns to a goal and to costs.
@@ -89,8 +111,12 @@ impl Tolls {
         requires { IsCheap costs.now }
         ensures { self.new ≡ record self.old { costs = costs.now; goal = goal } }
     {
+        let last = self.goal;
         self.costs = *costs;
+        self.charges = charges(costs);
         self.goal = goal;
+        self.surface.renew(&self.terrain, &self.blocks, goal, last);
+        self.surface.renew(&self.terrain, &self.blocks, goal, goal);
     }
 
     /// The sizes of terrain and buildings agree, and the costs are cheap.
@@ -101,22 +127,16 @@ impl Tolls {
     }
 
     /// What it costs to enter a cell, 0 where it can't be entered or isn't on the map.
-    #[tactic(auto, unfolding(game_model::specs::Walks::toll_of))]
+    #[inline(always)]
     pub(crate) fn toll(&self, p: CPos) -> u8
         ensures value { result ≡ toll_in self.now p }
         ensures cheap { result ≤ 10 }
     {
-        if p.x < self.terrain.width()
-            && p.y < self.terrain.height()
-            && (p == self.goal || !self.blocks.has(p))
-        {
-            cost_on(&self.costs, self.terrain.get(p))
-        } else {
-            0
-        }
+        charge(&self.charges, self.surface.at(p))
     }
 
     /// Whether the neighbour of a cell in direction `d` can be entered.
+    #[inline(always)]
     fn is_free(&self, p: CPos, d: u8) -> bool
         requires { d < 8 }
         ensures { result ≡ is_free (toll_in self.now) (step_of p d) }
@@ -141,5 +161,49 @@ impl Tolls {
         } else {
             0
         }
+    }
+    /// What the steps into a cell cost from its neighbours.
+    #[inline(always)]
+    pub(crate) fn fares(&self, q: CPos) -> Fares
+        ensures { AreFares (toll_in self.now) q result }
+    {
+        let toll = u32::from(self.toll(q));
+        let across = ACROSS * toll;
+        let north = self.is_free(q, NORTH);
+        let east = self.is_free(q, EAST);
+        let south = self.is_free(q, SOUTH);
+        let west = self.is_free(q, WEST);
+        Fares {
+            straight: STRAIGHT * toll,
+            north_east: fare_between(north, east, across),
+            south_east: fare_between(east, south, across),
+            south_west: fare_between(south, west, across),
+            north_west: fare_between(west, north, across),
+        }
+    }
+}
+
+/// What a step across a corner costs, 0 where a cell beside it isn't free.
+fn fare_between(left: bool, right: bool, fare: u32) -> u32
+    ensures { result ≡ if left && right then fare else 0 }
+{
+    if left && right { fare } else { 0 }
+}
+
+/// What entering each terrain costs, by its number.
+fn charges(costs: &Costs) -> [u8; TERRAINS]
+    ensures { result ≡ charges_of costs.now }
+{
+    [costs.clear, costs.road, costs.rough, costs.water, 0]
+}
+
+/// What entering the terrain of this number costs, 0 where it is no terrain's.
+#[inline(always)]
+fn charge(charges: &[u8; TERRAINS], number: u8) -> u8
+    ensures { result ≡ slice_index_or charges.now number 0 }
+{
+    match charges.get(usize::from(number)) {
+        Some(charge) => *charge,
+        None => 0,
     }
 }

@@ -1,21 +1,68 @@
--- The nearest refinery by a pass over the actors.
-use Rattle.std.specs.Prelude.{if◌then◌else◌, List, [], ◌∷◌, Option, Some, None}
+-- The nearest refinery of an owner, found kind by kind.
+use Rattle.std.specs.Prelude.{◌≡◌, ℕ, ◌<◌, ◌≤◌, ◌⊎◌, ◌==◌, nat_lt, not, ◌&&◌, ◌||◌, if◌then◌else◌, Bool, true, List, [], ◌∷◌}
+use Rattle.std.specs.Prelude.{Option, Some, None, is_some}
+use Rattle.world_units.specs.declared.cell.CPos.{CPos}
 use Rattle.world_units.specs.Cells.{dist_sq_of}
 use Rattle.rule_traits.specs.declared.kind.Kind.{Kind}
 use Rattle.game_model.specs.declared.actor.Actor.{Actor}
+use Rattle.game_model.specs.World.{actor_of, is_alive}
+use Rattle.actor_table.specs.declared.listed.Listed.{Listed}
+use Rattle.actor_table.specs.Kinds.{listed_of}
 use Rattle.game_tick.specs.Harvesting.{is_refinery_for}
-use Rattle.game_tick.specs.Nearest.{lesser_by}
+use Rattle.game_model.specs.Kinds.{kind_of}
 
--- The nearer of what was found and another actor, which is a refinery.
-abbrev pub nearer_of : Actor → Option Actor → Actor → Option Actor
-nearer_of a None other = Some other
-nearer_of a (Some first) other = Some (lesser_by (λ (x : Actor). dist_sq_of a.cell x.cell) first other)
+-- An actor is nearer to a cell than another: its own cell is, or both are equally far and its id is
+-- less.
+abbrev pub is_nearer : CPos → Actor → Actor → Bool
+is_nearer from x y =
+    nat_lt (dist_sq_of from x.cell) (dist_sq_of from y.cell)
+    || ((dist_sq_of from x.cell == dist_sq_of from y.cell) && nat_lt x.id y.id)
 
--- The same of any other actor.
-abbrev pub better_of : List Kind → Actor → Option Actor → Actor → Option Actor
-better_of rules a best other = if is_refinery_for rules a other then nearer_of a best other else best
+-- The nearer of what was found and another actor.
+abbrev pub nearer_of : CPos → Option Actor → Actor → Option Actor
+nearer_of from None other = Some other
+nearer_of from (Some first) other = Some (if is_nearer from other first then other else first)
 
--- The best after some more actors.
-abbrev pub best_after : List Kind → Actor → Option Actor → List Actor → Option Actor
-best_after rules a best [] = best
-best_after rules a best (other ∷ actors) = best_after rules a (better_of rules a best other) actors
+-- The other actor lives.
+abbrev pub is_other : Actor → Actor → Bool
+is_other a x = not (x.id == a.id) && is_alive x
+
+-- The nearer of what was found and an actor that was looked up, if that is another one that lives.
+abbrev pub better_of : Actor → Option Actor → Option Actor → Option Actor
+better_of a best None = best
+better_of a best (Some other) = if is_other a other then nearer_of a.cell best other else best
+
+-- The same after all of a list.
+abbrev pub best_of : List Actor → Actor → Option Actor → List Listed → Option Actor
+best_of actors a best [] = best
+best_of actors a best (e ∷ entries) =
+    best_of actors a (better_of a best (actor_of actors e.id)) entries
+
+-- The same after the actors of the owner that are of one kind, if that takes in ore.
+abbrev pub best_of_kind : List Kind → List Actor → Actor → (kind : ℕ) → Option Actor → Option Actor
+best_of_kind rules actors a kind best =
+    if is_some (kind_of rules kind).refinery
+    then best_of actors a best (listed_of actors a.body.owner kind)
+    else best
+
+-- No farther from a cell, and of two that are equally far not the one of the greater id.
+abbrev pub IsAsNear : CPos → Actor → Actor → Type 0
+IsAsNear from x y =
+    (dist_sq_of from x.cell < dist_sq_of from y.cell)
+    ⊎ ((dist_sq_of from x.cell ≡ dist_sq_of from y.cell) × (x.id ≤ y.id))
+
+-- The actor is one of these, and as near as any of them. There is none exactly where there are none.
+abbrev pub IsNearest : CPos → (Actor → Type 0) → Option Actor → Type 0
+IsNearest from among (Some x) = among x × ((y : Actor) → among y → IsAsNear from x y)
+IsNearest from among None = (y : Actor) → among y → ⊥
+
+-- One of the actors is a refinery for another.
+pub record IsRefinery (rules : List Kind) (actors : List Actor) (a x : Actor) : Type 0 where
+  pub there : actor_of actors x.id ≡ Some x
+  pub fits : is_refinery_for rules a x ≡ true
+
+-- The same, of a kind whose number is below a bound.
+pub record IsRefineryBelow (rules : List Kind) (actors : List Actor) (a : Actor) (bound : ℕ) (x : Actor)
+    : Type 0 where
+  pub refinery : IsRefinery rules actors a x
+  pub below : x.kind < bound

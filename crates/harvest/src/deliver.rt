@@ -3,9 +3,10 @@ ghost use Rattle.game_model.specs.declared.actor.Actor.{Actor};
 ghost use Rattle.game_model.specs.Grid.{Grid};
 ghost use Rattle.game_model.specs.World.{actor_of};
 ghost use Rattle.game_tick.specs.Harvesting.{after_deliver, after_unloading};
-ghost use Rattle.game_tick.specs.Kinds.{kind_of};
 ghost use Rattle.grid_routes.specs.Routing.{IsSameSize};
-ghost use Rattle.motion.specs.Ground.{FitsMap, built_in, setup_in};
+ghost use Rattle.motion.specs.Ground.{FitsMap, built_in};
+ghost use Rattle.game_model.specs.Kinds.{kind_of};
+ghost use Rattle.game_model.specs.Setup.{setup_in};
 ghost use Rattle.harvest.specs.Steps.{IsHarvested};
 
 use crate::fields::{bale_value_of, is_beside, is_unloaded};

@@ -1,9 +1,9 @@
 ghost use Rattle.std.specs.Prelude.{◌≡◌, ◌+◌, ◌-◌, ◌^◌, ◌<◌, nat_le, false};
 ghost use Rattle.game_model.specs.Grid.{HasSize, IsOn, with_cell};
 ghost use Rattle.game_model.specs.OreRows.{has_ore};
-ghost use Rattle.game_model.specs.ValidWorld.{capacity_in, load_delay_in, unload_delay_in};
+ghost use Rattle.game_model.specs.Kinds.{capacity_in, load_delay_in, unload_delay_in};
+ghost use Rattle.game_model.specs.Kinds.{bale_value_in, kind_of};
 ghost use Rattle.game_tick.specs.Harvesting.{is_beside};
-ghost use Rattle.game_tick.specs.Kinds.{bale_value_in, kind_of};
 ghost use Rattle.game_tick.specs.Nearest.{ore_at};
 
 use game_model::Ore;

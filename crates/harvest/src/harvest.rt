@@ -3,10 +3,11 @@ ghost use Rattle.game_model.specs.declared.actor.Actor.{Actor};
 ghost use Rattle.game_model.specs.Grid.{HasSize, IsOn};
 ghost use Rattle.game_model.specs.World.{actor_of};
 ghost use Rattle.game_tick.specs.Harvesting.{after_harvest, after_loading, after_search};
-ghost use Rattle.game_tick.specs.Kinds.{kind_of};
 ghost use Rattle.game_tick.specs.Nearest.{nearest_ore};
 ghost use Rattle.grid_routes.specs.Routing.{IsSameSize};
-ghost use Rattle.motion.specs.Ground.{FitsMap, built_in, setup_in};
+ghost use Rattle.motion.specs.Ground.{FitsMap, built_in};
+ghost use Rattle.game_model.specs.Kinds.{kind_of};
+ghost use Rattle.game_model.specs.Setup.{setup_in};
 ghost use Rattle.harvest.specs.Steps.{IsHarvested};
 
 use crate::fields::{has_ore, is_full, is_loaded, take_bale};

@@ -2,8 +2,9 @@ ghost use Rattle.std.specs.Prelude.{◌≡◌, IfSome, Some};
 ghost use Rattle.game_model.specs.declared.actor.Actor.{Actor};
 ghost use Rattle.game_model.specs.Grid.{HasSize};
 ghost use Rattle.game_model.specs.World.{actor_of};
+ghost use Rattle.game_model.specs.Setup.{setup_in};
 ghost use Rattle.grid_routes.specs.Routing.{IsSameSize};
-ghost use Rattle.motion.specs.Ground.{FitsMap, built_in, setup_in};
+ghost use Rattle.motion.specs.Ground.{FitsMap, built_in};
 ghost use Rattle.harvest.specs.Steps.{HasWay, IsHarvested, LeadsOnMap, after_first};
 ghost use Rattle.harvest.specs.Steps.{harvested_by_id};
 

@@ -1,26 +1,10 @@
-//! The program `lockstep`: it reads its words, runs the command that they name over a disk, and
-//! prints the answer.
-//!
-//! `run` is the whole program over any disk and any sink. Its clause says what is printed and which
-//! status is answered, for every list of words and every content of the files. `main` hands it the
-//! real ones.
+//! The program `lockstep`: it hands its words, the real files and the real output to `run`, or to
+//! `run_waiting`, where the command is one of that call's.
 #![tactic(auto)]
 
-mod check;
-mod command;
-mod files;
-mod print;
-mod refusals;
-mod route_fault;
-mod routes;
-mod rules;
-mod statuses;
-mod stop;
-mod worlds;
-
-use crate::statuses::OUT_OF_MEMORY;
-pub use command::run;
-use game_io::{FileDisk, StdSink};
+use command_answers::OUT_OF_MEMORY;
+use game_io::{FileDisk, MemNet, MemSource, NoGate, StdSink};
+use match_commands::{may_wait, run, run_waiting};
 use std::io::ErrorKind;
 use std::process::ExitCode;
 use std::{env, io};
@@ -45,8 +29,20 @@ fn main(rt: HostRuntime) -> ExitCode {
     };
     let mut disk = FileDisk::new(&rt);
     let mut out = StdSink::new(io::writer(&rt));
-    ExitCode::from(run(rt.alloc(), &words, &mut disk, &mut out))
+    if !may_wait(&words) {
+        return ExitCode::from(run(rt.alloc(), &words, &mut disk, &mut out));
+    }
+    // No command uses a net or a console yet.
+    let mut net = MemNet::new(rt.alloc(), Vec::new(rt.alloc()));
+    let mut console = MemSource::new(Vec::new(rt.alloc()), Vec::new(rt.alloc()));
+    ExitCode::from(run_waiting(
+        &rt,
+        rt.alloc(),
+        &words,
+        &mut disk,
+        &mut out,
+        &mut net,
+        &mut console,
+        &NoGate,
+    ))
 }
-
-#[cfg(test)]
-mod tests;

@@ -18,14 +18,14 @@ use Rattle.game_model.specs.Setup.{Setup}
 use Rattle.game_model.specs.Walks.{land_of, toll_of, fare_of, IsBestDirection}
 use Rattle.game_model.specs.World.{actor_of}
 use Rattle.game_model.specs.declared.map.Map.{Map}
+use Rattle.game_model.specs.Kinds.{kind_of, turning_in, costs_in}
 use Rattle.game_tick.specs.declared.moving.Moving.{Moving}
 use Rattle.game_tick.specs.declared.moving.Moving.TheVariants.{Going, GivenUp}
-use Rattle.game_tick.specs.Kinds.{kind_of, turning_in, costs_in}
 use Rattle.game_tick.specs.Moving.{Moved, after_move, gone_on, moved_by_id, moved_in, moved_into, moved_towards}
 use Rattle.game_tick.specs.Acts.{popped}
+use Rattle.game_model.specs.FoundLemmas.{changed_none, found_id}
 use Rattle.actor_table.specs.Table.{Table}
 use Rattle.grid_routes.specs.Routing.{Routing}
-use Rattle.motion.specs.ChangeLemmas.{changed_none, found_id}
 use Rattle.motion.specs.Ground.{FitsMap}
 use Rattle.motion.specs.Steps.{IsMoved, waits_of, with_waits, gone_by_id, after_move_by_id}
 

@@ -5,13 +5,8 @@ use Rattle.game_model.specs.declared.actor.Actor.{Actor}
 use Rattle.game_model.specs.declared.ground.Ground.{Ground}
 use Rattle.game_model.specs.declared.map.Map.{Map}
 use Rattle.game_model.specs.Grid.{Grid}
-use Rattle.game_model.specs.Setup.{Setup}
 use Rattle.actor_table.specs.Table.{Table}
 use Rattle.grid_routes.specs.Routing.{Routing, AreSized}
-
--- The rules and the map of a ground.
-abbrev pub setup_in : Ground → Setup
-setup_in g = record { rules = g.rules.now; map = g.map.now }
 
 -- The cells of a ground on which a building stands.
 abbrev pub built_in : Ground → Grid Bool

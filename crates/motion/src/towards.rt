@@ -5,10 +5,11 @@ ghost use Rattle.game_model.specs.declared.actor.Actor.{Actor};
 ghost use Rattle.game_model.specs.ActorChanges.{changed_at, with_body};
 ghost use Rattle.game_model.specs.Grid.{IsOn};
 ghost use Rattle.game_model.specs.World.{actor_of, is_occupied};
-ghost use Rattle.game_tick.specs.Kinds.{kind_of, turning_in};
+ghost use Rattle.game_model.specs.Kinds.{kind_of, turning_in};
+ghost use Rattle.game_model.specs.Setup.{setup_in};
 ghost use Rattle.game_tick.specs.Moving.{moved_by_id, moved_into, set_out, waiting_after};
 ghost use Rattle.grid_routes.specs.Routing.{IsSameSize};
-ghost use Rattle.motion.specs.Ground.{FitsMap, built_in, setup_in};
+ghost use Rattle.motion.specs.Ground.{FitsMap, built_in};
 ghost use Rattle.motion.specs.Steps.{IsMoved, gone_by_id, after_move_by_id};
 
 use crate::acts::{go_on, pop_head, waits_of};

@@ -12,11 +12,19 @@ pub(crate) fn zero_words(alloc: Global, count: usize) -> Result<Vec<u64>, NoMemo
     Ok(words)
 }
 
-/// Whether both have the same words.
+/// Whether both have the same words. It takes as long whether they have or not.
 pub(crate) fn same_words(words: &[u64], others: &[u64]) -> bool
     ensures { IsTrue result ↔ (words.now ≡ others.now) }
 {
-    words == others
+    if words.len() != others.len() {
+        return false;
+    }
+    // There is no way out early, so that several words are compared at once.
+    let mut same = true;
+    for i in 0..words.len() {
+        same = same & (words[i] == others[i]);
+    }
+    same
 }
 
 /// Takes the words of another list of the same length.

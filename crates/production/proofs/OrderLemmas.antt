@@ -4,15 +4,14 @@ use Rattle.std.specs.List.{remove}
 use Rattle.game_model.specs.declared.actor.Actor.{Actor}
 use Rattle.game_model.specs.declared.builds.Build.{Build}
 use Rattle.game_model.specs.ActorChanges.{changed_at}
-use Rattle.game_model.specs.ValidWorld.{duration_in}
 use Rattle.game_model.specs.World.{actor_of}
 use Rattle.game_tick.specs.Building.{with_builds}
 use Rattle.game_tick.specs.Harvesting.{paid_to}
-use Rattle.game_tick.specs.Kinds.{kind_of}
 use Rattle.game_tick.specs.Orders.{Goods, own_of, produce_fits, with_produce, but_last, last_of, cancelled, with_cancel}
 use Rattle.rule_traits.specs.declared.kind.Kind.{Kind}
 use Rattle.rule_traits.specs.Rules.{cost_of}
-use Rattle.production.proofs.Steps.{found_id}
+use Rattle.game_model.specs.Kinds.{duration_in, kind_of}
+use Rattle.game_model.specs.FoundLemmas.{found_id}
 
 remove_last : {T : Type 0} (n : ℕ) (xs : List T) → length xs ≡ suc n → remove xs n ≡ take n xs
 remove_last n [] long = absurd (omega (arith, long))

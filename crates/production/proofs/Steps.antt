@@ -1,6 +1,8 @@
 -- The build step of an actor whose builds are known.
-use Rattle.std.proofs.Common.{◌≡◌, ℕ, ◌+◌, ◌-◌, ◌==◌, ◌&&◌, eqb, Bool, true, false, List, [], ◌∷◌, ◌++◌, set, Some, None, slice_get, inl, inr, refl, sym, subst, ap, ap₂, ◌∙◌, ◌⊎◌}
 use Rattle.std.specs.List.{remove}
+use Rattle.std.proofs.Common.{◌≡◌, ℕ, ◌+◌, ◌-◌, ◌==◌, ◌&&◌, eqb, Bool, true, false, List, [], ◌∷◌}
+use Rattle.std.proofs.Common.{◌++◌, set, Some, None, slice_get, inl, inr, refl, sym, subst, ap, ap₂}
+use Rattle.std.proofs.Common.{◌∙◌, ◌⊎◌}
 use Rattle.std.proofs.lemmas.Bool.Decides.{eqb_tells}
 use Rattle.world_units.specs.declared.cell.CPos.{CPos}
 use Rattle.world_units.specs.Angles.{dir_angle_of}
@@ -10,8 +12,10 @@ use Rattle.game_model.specs.ActorChanges.{changed_at}
 use Rattle.game_model.specs.Buildings.{neighbour_of}
 use Rattle.game_model.specs.Setup.{Setup}
 use Rattle.game_model.specs.World.{actor_of, new_actor}
-use Rattle.game_tick.specs.Building.{Built, with_builds, exit_of, has_room, built_first, after_build}
-use Rattle.game_tick.specs.Kinds.{kind_of}
+use Rattle.game_model.specs.Kinds.{kind_of}
+use Rattle.game_tick.specs.Building.{Built, with_builds, exit_of, has_room, built_first}
+use Rattle.game_tick.specs.Building.{after_build}
+use Rattle.game_model.specs.FoundLemmas.{found_id}
 use Rattle.production.specs.Exits.{exit_after}
 use Rattle.production.specs.Steps.{built_by_id}
 
@@ -50,14 +54,6 @@ first_out setup actors next_id a (other ∷ rest) build d p first out beside =
         let exit : exit_of setup actors (kind_of setup.rules build.kind) a.cell ≡ Some d = rw met at out in
         rw (met, exit, beside) refl
     cases false fails = absurd (let none : None ≡ Some d = rw fails at out in cc)
-
--- the actor of an id has it
-pub found_id : (actors : List Actor) (id : ℕ) (a : Actor) → actor_of actors id ≡ Some a → a.id ≡ id
-found_id [] id a found = absurd (cc)
-found_id (b ∷ actors) id a found = elim (eqb_tells b.id id) [
-  | inl hit ↦ (let some : Some b ≡ Some a = rw hit.0 at found in let is : b ≡ a = cc in sym (ap (λ (x : Actor). x.id) is) ∙ hit.1)
-  | inr miss ↦ found_id actors id a (rw miss.0 at found)
-]
 
 -- an actor without builds
 pub by_id_idle : (setup : Setup) (actors : List Actor) (next_id id : ℕ) (a : Actor) (builds : List Build) → actor_of actors id ≡ Some a → builds ≡ a.body.builds → builds ≡ [] → built_by_id setup actors next_id (actor_of actors id) ≡ record { actors = actors; next_id = next_id }

@@ -8,8 +8,8 @@ use Rattle.game_model.specs.Buildings.{neighbour_of}
 use Rattle.game_model.specs.Grid.{IsOn}
 use Rattle.game_model.specs.Setup.{Setup}
 use Rattle.game_model.specs.World.{is_occupied}
+use Rattle.game_model.specs.Kinds.{kind_of}
 use Rattle.game_tick.specs.Building.{exit_of, has_room}
-use Rattle.game_tick.specs.Kinds.{kind_of}
 use Rattle.game_tick.specs.declared.limits.TheConstants.{LAST_ID}
 use Rattle.production.specs.declared.exit.Exit.{Exit}
 

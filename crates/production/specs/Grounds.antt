@@ -2,12 +2,7 @@
 use Rattle.std.specs.Prelude.{◌≡◌}
 use Rattle.game_model.specs.declared.ground.Ground.{Ground}
 use Rattle.game_model.specs.Grid.{HasSize}
-use Rattle.game_model.specs.Setup.{Setup}
 use Rattle.actor_table.specs.Table.{Table}
-
--- The rules and the map of the ground.
-abbrev pub setup_in : Ground → Setup
-setup_in g = record { rules = g.rules.now; map = g.map.now }
 
 -- The table and the terrain have the size of the map.
 pub record AreSized (table : Table) (g : Ground) : Type 0 where

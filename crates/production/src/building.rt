@@ -2,7 +2,8 @@ ghost use Rattle.std.specs.Prelude.{◌≡◌, ◌<◌};
 ghost use Rattle.std.specs.List.{All};
 ghost use Rattle.game_model.specs.declared.actor.Actor.{Actor};
 ghost use Rattle.game_model.specs.World.{actor_of};
-ghost use Rattle.production.specs.Grounds.{AreSized, setup_in};
+ghost use Rattle.game_model.specs.Setup.{setup_in};
+ghost use Rattle.production.specs.Grounds.{AreSized};
 ghost use Rattle.production.specs.Steps.{built_by_id};
 
 use crate::exit::exit_after;

@@ -5,9 +5,10 @@ ghost use Rattle.game_model.specs.Walks.{cost_at};
 ghost use Rattle.game_model.specs.Grid.{at_cell, HasSize, IsOn};
 ghost use Rattle.game_model.specs.World.{is_occupied};
 ghost use Rattle.game_tick.specs.Building.{exit_of, has_room, is_open};
-ghost use Rattle.game_tick.specs.Kinds.{costs_in, kind_of};
 ghost use Rattle.production.specs.Exits.{dir_of, exit_after, IsExit, IsRoom};
-ghost use Rattle.production.specs.Grounds.{AreSized, setup_in};
+ghost use Rattle.production.specs.Grounds.{AreSized};
+ghost use Rattle.game_model.specs.Kinds.{costs_in, kind_of};
+ghost use Rattle.game_model.specs.Setup.{setup_in};
 
 use actor_table::ActorTable;
 use game_model::{Build, Ground, MAX_ACTORS, Map, cost_on};

@@ -1,30 +1,16 @@
-ghost use Rattle.std.specs.Prelude.{◌≡◌, IfSome, Some, is_some};
+ghost use Rattle.std.specs.Prelude.{◌≡◌, is_some};
 ghost use Rattle.std.specs.List.{list_all, list_any};
 ghost use Rattle.actor_table.specs.declared.listed.Listed.{Listed};
-ghost use Rattle.std.specs.Option.{option_copied};
-ghost use Rattle.game_model.specs.World.{actor_of, living_of};
+ghost use Rattle.game_model.specs.World.{living_of};
 ghost use Rattle.game_tick.specs.Orders.{has_kind};
 
 use actor_table::{ActorTable, Listed};
-use game_model::Actor;
-
-/// The living actor of an id. `None` exactly where there is none.
-pub(crate) fn living(t: &ActorTable, id: u32) -> Option<&Actor>
-    ensures living { option_copied result ≡ living_of t.now.actors id }
-    ensures found { IfSome result (λ a. Some a.now ≡ actor_of t.now.actors id) }
-{
-    let _ids_rise = t.len();
-    let Some(a) = t.get(id) else {
-        return None;
-    };
-    if a.body.health > 0 { Some(a) } else { None }
-}
 
 /// Whether an actor of these lives.
 fn has_living(t: &ActorTable, entries: &[Listed]) -> bool
     ensures { result ≡ list_any (λ (e : Listed). is_some (living_of t.now.actors e.id)) entries.now }
 {
-    entries.iter().any(|e| living(t, e.id).is_some())
+    entries.iter().any(|e| t.living(e.id).is_some())
 }
 
 /// Whether a client owns a living actor of a kind.

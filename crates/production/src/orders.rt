@@ -3,15 +3,13 @@ ghost use Rattle.std.specs.Bool.{OnTrue};
 ghost use Rattle.std.specs.Option.{option_copied};
 ghost use Rattle.game_model.specs.World.{actor_of};
 ghost use Rattle.game_tick.specs.Harvesting.{paid_to};
-ghost use Rattle.game_tick.specs.Kinds.{kind_of};
-ghost use Rattle.game_tick.specs.Orders.{own_of, with_cancel, with_produce};
-ghost use Rattle.game_tick.specs.Orders.{produce_fits};
+ghost use Rattle.game_tick.specs.Orders.{own_of, with_cancel, with_produce, produce_fits};
 ghost use Rattle.rule_traits.specs.Rules.{cost_of};
-ghost use Rattle.game_model.specs.ValidWorld.{duration_in};
+ghost use Rattle.game_model.specs.Kinds.{kind_of, duration_in};
 ghost use Rattle.production.specs.Orders.{IsDone};
 
 use crate::give::give_builds;
-use crate::needs::{has_needs, living};
+use crate::needs::has_needs;
 use actor_table::ActorTable;
 use game_model::{Actor, Build, MAX_BUILDS, MAX_CASH, Purse};
 use rule_traits::Rules;
@@ -21,7 +19,7 @@ pub fn own_of(t: &ActorTable, client: u8, id: u32) -> Option<&Actor>
     ensures own { option_copied result ≡ own_of t.now.actors client id }
     ensures found { IfSome result (λ a. Some a.now ≡ actor_of t.now.actors id) }
 {
-    let Some(a) = living(t, id) else {
+    let Some(a) = t.living(id) else {
         return None;
     };
     if a.body.owner == client {

@@ -11,6 +11,8 @@ pub mod PartReading
 pub mod PartRules
 pub mod PartStore
 pub mod ReadClauses
+pub mod Reading
+pub mod ReadingLemmas
 pub mod ReplayBytes
 pub mod ReplayLemmas
 pub mod RuleLaws

@@ -118,7 +118,7 @@ follow_more version s (first ∷ parts) part follow next =
     (follow.0, follow_more version (after_part s first) parts part follow.1 next)
 
 -- The bytes of one more part.
-bytes_more : (parts : List Part) (part : Part) →
+pub bytes_more : (parts : List Part) (part : Part) →
     parts_bytes (parts ++ part ∷ []) ≡ parts_bytes parts ++ part_bytes part
 bytes_more [] part = append-nil (part_bytes part)
 bytes_more (first ∷ parts) part =

@@ -134,7 +134,7 @@ header_faulty here bytes fault read =
 
 pub ruleset reading_steps = (header_few, header_within, whole_read, whole_faulty, header_faulty)
 
-abbrev header_of : Replay → Header
+abbrev pub header_of : Replay → Header
 header_of r =
     record { version = r.version; rules = r.rules; seed = r.seed; clients = r.clients }
 
@@ -187,7 +187,7 @@ header_again r rest valid fits =
     ) refl
 
 -- What a spelling's bytes begin with.
-spelled_header : (here : ℕ) (bytes : List ℕ) (r : Replay) → Spells here bytes r →
+pub spelled_header : (here : ℕ) (bytes : List ℕ) (r : Replay) → Spells here bytes r →
     header_at here bytes ≡ Ok (header_of r, parts_bytes r.parts ++ end_bytes)
 unfolding replay_bytes
 spelled_header here bytes r spells =

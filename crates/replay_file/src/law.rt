@@ -1,4 +1,4 @@
-ghost use Rattle.std.specs.Prelude.{◌≡◌, ◌≤◌, ℕ, List, true, map};
+ghost use Rattle.std.specs.Prelude.{◌≡◌, ◌≤◌, ℕ, List, true, map, Ok, Err};
 ghost use Rattle.std.specs.List.{AllByRecursion};
 ghost use Rattle.replay_file.specs.declared.replay.Replay.{Replay};
 ghost use Rattle.replay_file.specs.declared.replay_fault.ReplayFault.{ReplayFault};
@@ -6,6 +6,7 @@ ghost use Rattle.replay_file.specs.FirstFault.{IsFirstFault, Spells};
 ghost use Rattle.replay_file.specs.Frames.{frames_of, marks_of, migrated};
 ghost use Rattle.replay_file.specs.MigratedLemmas.{anew};
 ghost use Rattle.replay_file.specs.PartRules.{greatest_tag, is_known, most_clients, most_frames};
+ghost use Rattle.replay_file.specs.Reading.{read_of};
 ghost use Rattle.replay_file.specs.RuleLaws.{HasKnownOrders, ObeysRules};
 ghost use Rattle.replay_file.specs.ValidReplay.{IsValidReplay};
 
@@ -39,6 +40,16 @@ pub fn bytes_have_one_first_fault()
         Spells here bytes r → IsFirstFault here bytes fault → ⊥ }
     ensures one { (here : ℕ) (bytes : List ℕ) (fault other : ReplayFault) →
         IsFirstFault here bytes fault → IsFirstFault here bytes other → fault ≡ other }
+{}
+
+/// A law of reading: bytes that spell a replay are read as it, and those with a first fault as that
+/// fault. The call does nothing.
+#[tactic(auto, using(crate::specs::ReadingLemmas::reading_laws))]
+pub fn bytes_are_read_as_they_spell()
+    ensures replay { (here : ℕ) (bytes : List ℕ) (r : Replay) → Spells here bytes r →
+        read_of here bytes ≡ Ok r }
+    ensures fault { (here : ℕ) (bytes : List ℕ) (fault : ReplayFault) →
+        IsFirstFault here bytes fault → read_of here bytes ≡ Err fault }
 {}
 
 /// A law of migrated replays: they are valid, with the same frames, and with marks at the same

@@ -38,14 +38,15 @@ mod parts;
 mod replay;
 mod replay_fault;
 mod replay_reading;
+mod replay_writer;
 mod replay_writing;
 mod standing;
 #[cfg(test)]
 mod tests;
 
 pub use law::{
-    a_migrated_replay_is_valid, bytes_have_one_first_fault, bytes_spell_one_replay,
-    the_rules_are_these,
+    a_migrated_replay_is_valid, bytes_are_read_as_they_spell, bytes_have_one_first_fault,
+    bytes_spell_one_replay, the_rules_are_these,
 };
 pub use limits::{FIRST_MAX_CLIENTS, FIRST_MAX_FRAMES, FIRST_VERSION, VERSION};
 pub use part::Part;
@@ -54,4 +55,5 @@ pub use parts::Parts;
 pub use replay::Replay;
 pub use replay_fault::ReplayFault;
 pub use replay_reading::read_replay;
+pub use replay_writer::ReplayWriter;
 pub use replay_writing::{replay_fits, write_replay};

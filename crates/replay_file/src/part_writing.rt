@@ -40,9 +40,20 @@ fn append_entries(out: &mut Vec<u8>, frame: &Frame) -> Result<(), NoMemory>
     Ok(())
 }
 
+/// Appends a frame as it stands in a replay.
+#[tactic(auto, using(wire_bytes::specs::WriteLemmas::written), unfolding(crate::specs::PartBytes::part_bytes))]
+pub(crate) fn append_frame(out: &mut Vec<u8>, frame: &Frame) -> Result<(), NoMemory>
+    ensures ok { OnOk result
+        (out.new.items ≡ out.old.items ++ part_bytes (part.Frame frame.now)) }
+    ensures err { OnErr result (Extends out.old.items out.new.items) }
+{
+    write_u8(out, 1)?;
+    append_entries(out, frame)
+}
+
 /// Appends a mark.
 #[tactic(auto, using(wire_bytes::specs::WriteLemmas::written))]
-fn append_mark(out: &mut Vec<u8>, hash: u64) -> Result<(), NoMemory>
+pub(crate) fn append_mark(out: &mut Vec<u8>, hash: u64) -> Result<(), NoMemory>
     ensures ok { OnOk result (out.new.items ≡ out.old.items ++ (field_bytes 1 2
         ++ field_bytes 8 hash)) }
     ensures err { OnErr result (Extends out.old.items out.new.items) }
@@ -58,10 +69,7 @@ pub(crate) fn append_part(out: &mut Vec<u8>, part: &Part) -> Result<(), NoMemory
     ensures err { OnErr result (Extends out.old.items out.new.items) }
 {
     match part {
-        Part::Frame(frame) => {
-            write_u8(out, 1)?;
-            append_entries(out, frame)
-        }
+        Part::Frame(frame) => append_frame(out, frame),
         Part::Mark(hash) => append_mark(out, *hash),
     }
 }

@@ -6,6 +6,7 @@ ghost use Rattle.replay_file.specs.FirstFault.{fault_at, IsReadFault, IsReadOf, 
 ghost use Rattle.replay_file.specs.PartBytes.{FitsPart};
 ghost use Rattle.replay_file.specs.PartReading.{next_in};
 ghost use Rattle.replay_file.specs.ReadClauses.{AnswersTo, GivesNext, GivesParts};
+ghost use Rattle.replay_file.specs.Reading.{read_of, ReturnsRead};
 
 use crate::header_reading::read_header;
 use crate::part::Part;
@@ -100,8 +101,9 @@ fn read_whole(alloc: Global, bytes: &[u8], here: u64) -> Result<Replay, ReplayFa
 /// mark, an entry that is neither 0 nor 1, a play of a departed client, a number of orders above
 /// `MAX_ORDERS`, an order's bad tag or flag, and after the last entry a frame without a play. Last
 /// `TrailingBytes`, at the first byte after the end. Out of memory may take the place of any answer.
-#[tactic(auto, using(crate::specs::WholeLemmas::only_reading))]
+#[tactic(auto, using(crate::specs::WholeLemmas::only_reading, crate::specs::ReadingLemmas::answer_read))]
 pub fn read_replay(alloc: Global, bytes: &[u8], here: u64) -> Result<Replay, ReplayFault>
+    ensures value { ReturnsRead result (read_of here bytes.now) }
     ensures accepted { IfOk result (Spells here bytes.now) }
     ensures refused { IfErr result (IsReadFault here bytes.now) }
     ensures only { (r : Replay) → Spells here bytes.now r → IsReadOf r result }

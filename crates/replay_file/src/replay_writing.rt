@@ -15,15 +15,21 @@ use wire_bytes::{write_u8, write_u16, write_u32, write_u64};
 
 /// Appends the header of a replay.
 #[tactic(auto, using(wire_bytes::specs::WriteLemmas::written), unfolding(crate::specs::ReplayBytes::header_bytes))]
-fn append_header(out: &mut Vec<u8>, r: &Replay) -> Result<(), NoMemory>
-    ensures { OnOk result (out.new.items ≡ out.old.items
-        ++ header_bytes r.now.version r.now.rules r.now.seed r.now.clients) }
+pub(crate) fn append_header(
+    out: &mut Vec<u8>,
+    version: u16,
+    rules: u64,
+    seed: u32,
+    clients: u8,
+) -> Result<(), NoMemory>
+    ensures { OnOk result
+        (out.new.items ≡ out.old.items ++ header_bytes version rules seed clients) }
 {
     write_u32(out, MAGIC)?;
-    write_u16(out, r.version)?;
-    write_u64(out, r.rules)?;
-    write_u32(out, r.seed)?;
-    write_u8(out, r.clients)
+    write_u16(out, version)?;
+    write_u64(out, rules)?;
+    write_u32(out, seed)?;
+    write_u8(out, clients)
 }
 
 /// Appends parts one after the other.
@@ -47,7 +53,7 @@ pub fn write_replay(alloc: Global, r: &Replay) -> Result<Vec<u8>, NoMemory>
     ensures { IfOk result (λ bytes. bytes.items ≡ replay_bytes r.now) }
 {
     let mut out = Vec::new(alloc);
-    append_header(&mut out, r)?;
+    append_header(&mut out, r.version, r.rules, r.seed, r.clients)?;
     append_parts(&mut out, &r.parts)?;
     write_u8(&mut out, 0)?;
     Ok(out)

@@ -9,7 +9,8 @@ use Rattle.game_model.specs.declared.world.World.{World}
 use Rattle.game_model.specs.Grid.{Grid}
 use Rattle.sync_hash.specs.declared.actor_number.ActorNumber.{ActorNumber}
 use Rattle.sync_hash.specs.Fnv.{fnv_of}
-use Rattle.sync_hash.specs.HashedBytes.{actor_bytes, cell_at, header_bytes, ore_bytes}
+use Rattle.sync_hash.specs.HashedBytes.{actor_bytes, cell_at, header_bytes, header_bytes_1}
+use Rattle.sync_hash.specs.HashedBytes.{ore_bytes}
 
 -- The numbers of the actors by rising id, one number for each cell of a map of this size, row by
 -- row, and how many actors and cells were hashed so far.
@@ -99,6 +100,10 @@ sum_of kept = numbers_sum kept.actors + sum_by (λ n. n) kept.cells
 -- The hash of a world with this head and what is kept.
 unfoldable pub hash_with : Kept → Head → ℕ
 hash_with kept head = (fnv_of (header_bytes head (length kept.actors)) + sum_of kept) % 2 ^ 64
+
+-- The same in the first version.
+unfoldable pub hash_with_1 : Kept → Head → ℕ
+hash_with_1 kept head = (fnv_of (header_bytes_1 head (length kept.actors)) + sum_of kept) % 2 ^ 64
 
 -- Ids that rise, the first of them at least the given one.
 abbrev pub RiseFrom : ℕ → List ActorNumber → Type 0

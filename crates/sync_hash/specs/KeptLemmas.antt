@@ -16,11 +16,11 @@ use Rattle.game_model.specs.World.{head_of}
 use Rattle.world_units.specs.declared.cell.CPos.{CPos}
 use Rattle.sync_hash.specs.declared.actor_number.ActorNumber.{ActorNumber}
 use Rattle.sync_hash.specs.Fnv.{fnv_of}
-use Rattle.sync_hash.specs.HashedBytes.{actor_bytes, cell_at, header_bytes, ore_bytes, ore_parts, parts_of}
-use Rattle.sync_hash.specs.HashedBytes.{parts_after_header}
-use Rattle.sync_hash.specs.WorldHash.{hash_of}
+use Rattle.sync_hash.specs.HashedBytes.{actor_bytes, cell_at, header_bytes, header_bytes_1}
+use Rattle.sync_hash.specs.HashedBytes.{ore_bytes, ore_parts, parts_of, parts_after_header}
+use Rattle.sync_hash.specs.WorldHash.{hash_of, hash_of_1}
 use Rattle.sync_hash.specs.Kept.{Kept, IsKeptOf, actor_number, cell_number, cell_numbers, hash_with, kept_of}
-use Rattle.sync_hash.specs.Kept.{numbered, numbers_of, numbers_sum, with_number, with_numbers}
+use Rattle.sync_hash.specs.Kept.{hash_with_1, numbered, numbers_of, numbers_sum, sum_of, with_number, with_numbers}
 use Rattle.sync_hash.specs.Kept.{without_number}
 
 -- A number below those of the actors that follow stays the first.
@@ -113,16 +113,30 @@ pub world_sum :
     + (sum_by actor_number w.actors + sum_by (λ n. n) (cell_numbers w.ore.width 0 w.ore.cells))
 world_sum w = parts_sum (header_bytes (head_of w) (length w.actors)) w
 
--- A hasher that keeps the numbers of a world gives its hash.
-pub kept_hash : (kept : Kept) (w : World) → IsKeptOf kept w.actors w.ore → hash_with kept (head_of w) ≡ hash_of w
-unfolding hash_with hash_of
-kept_hash kept w is =
-    let header : fnv_of (header_bytes (head_of w) (length kept.actors)) ≡ fnv_of (header_bytes (head_of w) (length w.actors)) =
-    ap (λ n. fnv_of (header_bytes (head_of w) n)) (ap length is.numbers ∙ length-map w.actors numbered) in
+-- With the number of a header, what is kept of a world is the sum over its byte lists.
+kept_sum :
+    (header : ℕ → List ℕ) (kept : Kept) (w : World) → IsKeptOf kept w.actors w.ore →
+    fnv_of (header (length kept.actors)) + sum_of kept
+    ≡ sum_by fnv_of (header (length w.actors) ∷ parts_after_header w)
+kept_sum header kept w is =
+    let first : fnv_of (header (length kept.actors)) ≡ fnv_of (header (length w.actors)) =
+    ap (λ n. fnv_of (header n)) (ap length is.numbers ∙ length-map w.actors numbered) in
     let actors : numbers_sum kept.actors ≡ sum_by actor_number w.actors =
     ap numbers_sum is.numbers ∙ sum_numbered w.actors in
     let cells = ap (sum_by (λ n. n)) is.cells in
-    ap (λ n. n % 2 ^ 64) (ap₂ (λ a b. a + b) header (ap₂ (λ a b. a + b) actors cells) ∙ sym (world_sum w))
+    ap₂ (λ a b. a + b) first (ap₂ (λ a b. a + b) actors cells)
+    ∙ sym (parts_sum (header (length w.actors)) w)
+
+-- A hasher that keeps the numbers of a world gives its hash, and that of the first version.
+pub kept_hash : (kept : Kept) (w : World) → IsKeptOf kept w.actors w.ore → hash_with kept (head_of w) ≡ hash_of w
+unfolding hash_with hash_of
+kept_hash kept w is = ap (λ n. n % 2 ^ 64) (kept_sum (header_bytes (head_of w)) kept w is)
+
+pub kept_hash_1 :
+    (kept : Kept) (w : World) → IsKeptOf kept w.actors w.ore →
+    hash_with_1 kept (head_of w) ≡ hash_of_1 w
+unfolding hash_with_1 hash_of_1
+kept_hash_1 kept w is = ap (λ n. n % 2 ^ 64) (kept_sum (header_bytes_1 (head_of w)) kept w is)
 
 -- The cell that is set at a place is the cell of the place.
 cell_set :

@@ -1,12 +1,12 @@
 ghost use Rattle.std.specs.Prelude.{◌≡◌, ◌<◌, ◌≤◌, ◌⊎◌, [], ◌∷◌, true, length, slice_set, IfOk};
 ghost use Rattle.game_model.specs.Grid.{HasSize, place_of};
 ghost use Rattle.game_model.specs.World.{AreClients};
-ghost use Rattle.sync_hash.specs.Kept.{actor_number, cell_number, has_id, hash_with, kept_of};
-ghost use Rattle.sync_hash.specs.Kept.{mixed_more, ore_cells, with_number, without_number};
+ghost use Rattle.sync_hash.specs.Kept.{actor_number, cell_number, has_id, hash_with, hash_with_1};
+ghost use Rattle.sync_hash.specs.Kept.{kept_of, mixed_more, ore_cells, with_number, without_number};
 
 use crate::actor_bytes::actor_number;
 use crate::actor_numbers::ActorNumbers;
-use crate::header::header_number;
+use crate::header::{header_number, header_number_1};
 use crate::ore_bytes::{cell_number, cell_numbers, ore_cells, sum_of};
 use base::NoMemory;
 use game_model::{Actor, Head, MAX_ACTORS, World};
@@ -114,6 +114,16 @@ impl Hasher {
         ensures { result ≡ hash_with self.now head.now }
     {
         let header = header_number(head, self.actors.len() as u32);
+        header.wrapping_add(self.sum)
+    }
+
+    /// The hash of the first version, as [`Hasher::hash`] but without the pace in its header.
+    #[tactic(auto, unfolding(crate::specs::Kept::hash_with_1))]
+    pub fn hash_1(&self, head: &Head) -> u64
+        requires { AreClients head.now.cash head.now.gone }
+        ensures { result ≡ hash_with_1 self.now head.now }
+    {
+        let header = header_number_1(head, self.actors.len() as u32);
         header.wrapping_add(self.sum)
     }
 

@@ -20,18 +20,19 @@ use Rattle.game_model.specs.Grid.{Grid, IsOn, place_of, with_cell}
 use Rattle.game_model.specs.OreRows.{has_ore}
 use Rattle.game_model.specs.Setup.{Setup}
 use Rattle.game_model.specs.ValidMap.{IsSetup}
-use Rattle.game_model.specs.ValidWorld.{IsActivityOf, capacity_in, load_delay_in, unload_delay_in}
+use Rattle.game_model.specs.ValidWorld.{IsActivityOf}
+use Rattle.game_model.specs.Kinds.{capacity_in, load_delay_in, unload_delay_in, kind_of}
 use Rattle.game_model.specs.World.{clients_of, ids_of, living_of}
 use Rattle.game_tick.specs.ActorsLemmas.{step_actors}
 use Rattle.game_tick.specs.Harvesting.{Harvested, after_deliver, after_harvest, after_search, is_beside, nearest_refinery, delivered_to}
-use Rattle.game_tick.specs.KeepsLemmas.{dead_stay, step_keeps, steps_keep}
+use Rattle.game_tick.specs.StepKeepsLemmas.{dead_stay, step_keeps, steps_keep}
 use Rattle.game_tick.specs.IdleLemmas.{idle_stays}
-use Rattle.game_tick.specs.Kinds.{kind_of}
 use Rattle.game_tick.specs.Nearest.{nearest_ore, ore_at}
 use Rattle.game_tick.specs.Turn.{after_first, after_step, after_steps, after_turn, after_way, blocks_of, buried, harvest_of, reloaded, with_build, with_reload, with_way}
 use Rattle.game_tick.specs.TurnLemmas.{length-ids_of, living_steps}
 use Rattle.game_tick.specs.SoundLemmas.{body_of}
-use Rattle.motion.specs.ChangeLemmas.{changed_as}
+use Rattle.game_model.specs.FoundLemmas.{changed_as}
+use Rattle.game_model.specs.LivingLemmas.{living_actor}
 use Rattle.sync_hash.specs.declared.actor_number.ActorNumber.{ActorNumber}
 use Rattle.sync_hash.specs.Kept.{IsKeptOf, Kept, cell_number, cell_numbers, numbered}
 use Rattle.sync_hash.specs.KeptLemmas.{ore_numbered}
@@ -39,7 +40,7 @@ use Rattle.tick_core.specs.Live.{Standing}
 use Rattle.tick_core.specs.Scene.{IsActing, prepared, prepared_if}
 use Rattle.tick_core.specs.Telling.{IsIdleNow, cell_in, cell_of, target_of, told_ore, with_some}
 use Rattle.tick_core.specs.Touched.{GrowsBut, KeptBut, SameBut, is_among}
-use Rattle.tick_core.proofs.LifeLemmas.{by_if, living_actor}
+use Rattle.tick_core.proofs.ChoiceLemmas.{by_if}
 use Rattle.tick_core.proofs.SceneLemmas.{with_list}
 use Rattle.tick_core.proofs.StepLemmas.{prepared_same, step_is, way_same}
 use Rattle.tick_core.proofs.TickLemmas.{drop_at, drop_past, the_standing}

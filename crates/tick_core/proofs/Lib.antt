@@ -1,7 +1,7 @@
 pub mod TickLemmas
 pub mod BurialLemmas
 pub mod TouchedLemmas
-pub mod LifeLemmas
+pub mod ChoiceLemmas
 pub mod SceneLemmas
 pub mod OrderLemmas
 pub mod StepLemmas

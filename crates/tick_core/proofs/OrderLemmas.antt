@@ -19,12 +19,13 @@ use Rattle.game_model.specs.Buildings.{has_building, is_building}
 use Rattle.game_model.specs.Grid.{Grid}
 use Rattle.game_model.specs.Setup.{Setup}
 use Rattle.game_model.specs.World.{living_of}
+use Rattle.game_model.specs.Kinds.{kind_of}
 use Rattle.game_tick.specs.Acts.{with_acts}
 use Rattle.game_tick.specs.ChangesLemmas.{id_of_living}
-use Rattle.game_tick.specs.Kinds.{kind_of}
 use Rattle.game_tick.specs.Nearest.{cell_of}
 use Rattle.game_tick.specs.Orders.{Doing, Goods, after_donation, after_order, attacking, cancelled, changed_if, donation_fits, goods_of, harvesting, if_owned, last_of, moving, own_of, pace_fits, produce_fits, produced, stopping, with_cancel, with_produce}
-use Rattle.game_tick.specs.OrdersLemmas.{order_valid, owned_living}
+use Rattle.game_tick.specs.OrdersLemmas.{order_valid}
+use Rattle.game_tick.specs.OwnActorLemmas.{owned_living}
 use Rattle.game_tick.specs.Turn.{blocks_of, dice_of}
 use Rattle.game_tick.specs.TurnLemmas.{mid_from_valid}
 use Rattle.actor_table.specs.Table.{Table}
@@ -35,7 +36,7 @@ use Rattle.tick_core.specs.Ordered.{IsChange, IsReady, KeepsShape, subject_of}
 use Rattle.tick_core.specs.Scene.{IsScene}
 use Rattle.tick_core.specs.Touched.{KeptBut, SameBut, is_among}
 use Rattle.tick_core.specs.Telling.{with_some}
-use Rattle.tick_core.proofs.LifeLemmas.{by_if}
+use Rattle.tick_core.proofs.ChoiceLemmas.{by_if}
 use Rattle.tick_core.proofs.SceneLemmas.{same_size, scene_with}
 use Rattle.tick_core.proofs.TouchedLemmas.{kept_from, same_all, same_changed, same_grows}
 

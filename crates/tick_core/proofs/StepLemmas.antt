@@ -22,7 +22,7 @@ use Rattle.game_model.specs.Buildings.{neighbour_of}
 use Rattle.game_model.specs.Grid.{Grid}
 use Rattle.game_model.specs.OreRows.{has_ore}
 use Rattle.game_model.specs.Setup.{Setup}
-use Rattle.game_model.specs.ValidWorld.{capacity_in, load_delay_in, unload_delay_in}
+use Rattle.game_model.specs.Kinds.{capacity_in, load_delay_in, unload_delay_in, kind_of, costs_in}
 use Rattle.game_model.specs.Walks.{land_of}
 use Rattle.game_model.specs.World.{is_occupied, living_of}
 use Rattle.game_tick.specs.declared.moving.Moving.{Moving}
@@ -32,14 +32,13 @@ use Rattle.game_tick.specs.Attacking.{Fought, after_attack, fought_with, hit_by,
 use Rattle.game_tick.specs.Building.{Built, after_build, built_first, came_out, exit_of, finished, has_room}
 use Rattle.game_tick.specs.ChangesLemmas.{id_of_living}
 use Rattle.game_tick.specs.Harvesting.{Harvested, after_deliver, after_harvest, after_loading, after_search, after_unloading, delivered_to, is_beside, nearest_refinery}
-use Rattle.game_tick.specs.Kinds.{kind_of, costs_in}
 use Rattle.game_tick.specs.Moving.{Moved, after_leg, after_move, gone_on, gone_towards, moved_in, moved_into, moved_towards, set_out}
 use Rattle.game_tick.specs.Nearest.{nearest_ore, ore_at}
 use Rattle.game_tick.specs.Turn.{after_activity, after_first, after_step, after_way, blocks_of, dice_of, harvest_of, reloaded, step_if, with_build, with_reload, with_way}
 use Rattle.tick_core.specs.Scene.{prepared, prepared_if}
 use Rattle.tick_core.specs.Telling.{target_in, target_of}
 use Rattle.tick_core.specs.Touched.{GrowsBut, SameBut, is_among}
-use Rattle.tick_core.proofs.LifeLemmas.{by_if}
+use Rattle.tick_core.proofs.ChoiceLemmas.{by_if}
 use Rattle.tick_core.proofs.TouchedLemmas.{same_all, same_changed, same_grows, same_pushed, same_then, same_then_grows}
 
 module _ (ids : List ℕ) (actors : List Actor) (a : Actor) (among : is_among ids a.id ≡ true) where

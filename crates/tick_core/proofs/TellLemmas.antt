@@ -1,21 +1,19 @@
 -- What is kept after a hasher was told of some actors.
-use Rattle.std.proofs.Common.{◌≡◌, ℕ, zero, suc, ◌+◌, ◌<◌, ◌≤◌, true, List, [], ◌∷◌, length, map, Option, Some, None, inl, inr, refl, sym, ap, subst, ◌∙◌, arith}
 use Rattle.std.specs.Prelude.{IfSome, ◌⊎◌}
-use Rattle.std.specs.List.{All, AllPairs}
+use Rattle.std.specs.List.{All}
+use Rattle.std.proofs.Common.{◌≡◌, ℕ, suc, ◌+◌, ◌<◌, ◌≤◌, true, List, [], ◌∷◌, length, Option, Some}
+use Rattle.std.proofs.Common.{None, inl, inr, refl, sym, subst, arith}
 use Rattle.std.proofs.lemmas.List.Elements.{All-head}
 use Rattle.game_model.specs.declared.actor.Actor.{Actor}
 use Rattle.game_model.specs.declared.limits.TheConstants.{MAX_ACTORS}
 use Rattle.game_model.specs.World.{actor_of}
+use Rattle.game_model.specs.FoundLemmas.{found_id, IdsRise}
 use Rattle.actor_table.specs.Rising.{RisesFrom}
-use Rattle.motion.specs.ChangeLemmas.{found_id}
+use Rattle.sync_hash.specs.Kept.{Kept, actor_number, has_id, with_number}
 use Rattle.sync_hash.specs.declared.actor_number.ActorNumber.{ActorNumber}
-use Rattle.sync_hash.specs.Kept.{Kept, actor_number, has_id, numbered, with_number}
+use Rattle.tick_core.proofs.TouchedLemmas.{has_place, told, untold}
 use Rattle.tick_core.specs.Telling.{HasPlaceFor, told_if, told_of, with_some}
 use Rattle.tick_core.specs.Touched.{KeptBut}
-use Rattle.tick_core.proofs.TouchedLemmas.{has_place, told, untold}
-
-abbrev IdsRise : List Actor → Type 0
-IdsRise actors = AllPairs (λ (a b : Actor). a.id < b.id) actors
 
 rise_from :
     (least : ℕ) (actors : List Actor) → All (λ (a : Actor). least ≤ a.id) actors → IdsRise actors →

@@ -5,7 +5,6 @@ ghost use Rattle.game_model.specs.World.{living_of};
 ghost use Rattle.game_tick.specs.Turn.{reloaded, with_build, with_reload, with_way};
 ghost use Rattle.tick_core.specs.Scene.{DoesFirst, IsGathering, prepared};
 
-use crate::living::living;
 use crate::scene::Scene;
 use activities::Activity;
 use actor_table::ActorTable;
@@ -35,7 +34,7 @@ impl Scene {
     pub(crate) fn prepare(&mut self, id: u32)
         ensures { self.new ≡ record self.old { world = prepared self.old.setup self.old.world id } }
     {
-        if living(&self.table, id).is_some() {
+        if self.table.living(id).is_some() {
             self.reload(id);
             self.build(id);
         }
@@ -55,7 +54,7 @@ impl Scene {
           world = with_build self.old.setup self.old.world (living_of self.old.world.actors id);
         } }
     {
-        let Some(_) = living(&self.table, id) else {
+        let Some(_) = self.table.living(id) else {
             return;
         };
         let ground = Ground {
@@ -74,7 +73,7 @@ impl Scene {
           world = with_way self.old.setup self.old.world (living_of self.old.world.actors id);
         } }
     {
-        let Some(a) = living(&self.table, id) else {
+        let Some(a) = self.table.living(id) else {
             return;
         };
         if a.body.leg.is_some() {

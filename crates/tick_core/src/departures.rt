@@ -1,5 +1,5 @@
 ghost use Rattle.std.specs.Prelude.{◌≡◌, ◌<◌, length};
-ghost use Rattle.game_model.specs.Tick.{gone_after};
+ghost use Rattle.game_tick.specs.Departures.{gone_after};
 ghost use Rattle.tick_core.specs.Departures.{departed_by};
 
 use game_model::Gone;

@@ -1,8 +1,9 @@
 ghost use Rattle.std.specs.Prelude.{◌≡◌, ◌+◌, ◌≤◌, ◌<◌, length, IfOk};
-ghost use Rattle.game_model.specs.Keeps.{TickKeeps};
 ghost use Rattle.game_model.specs.ValidMap.{IsSetup};
 ghost use Rattle.game_model.specs.World.{HasClients};
+ghost use Rattle.sync_hash.specs.Kept.{IsKeptOf};
 ghost use Rattle.frame_core.specs.declared.sim.TheConstants.{MAX_STEPS};
+ghost use Rattle.game_tick.specs.Keeps.{TickKeeps};
 ghost use Rattle.tick_core.specs.Game.{game_start, game_after, game_clients, game_steps};
 
 use crate::live::LiveWorld;
@@ -15,6 +16,7 @@ use rule_traits::Rules;
 use std::alloc::Global;
 use std::marker::Model;
 use std::rc::Rc;
+use sync_hash::Hasher;
 
 /// A world of a match with 1 to `MAX_CLIENTS` clients, the rules and the map that it stands on, and
 /// the number of frames that it has been stepped by.
@@ -71,9 +73,12 @@ impl Game {
         self.live.snapshot(alloc)
     }
 
-    /// How many actors and cells with ore were hashed so far. It stays at the greatest `u64`.
-    pub fn mixed(&self) -> u64 {
-        self.live.hasher.mixed()
+    /// What is kept of the world for its hash. It tells how many actors and cells were hashed.
+    pub fn kept(&self) -> &Hasher
+        ensures { IsKeptOf result.now self.now.world.actors self.now.world.ore }
+    {
+        let _steps = self.steps;
+        self.live.kept()
     }
 }
 

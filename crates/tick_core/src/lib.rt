@@ -16,7 +16,6 @@ mod departures;
 mod filling;
 mod game;
 mod live;
-mod living;
 mod maker;
 mod opening;
 mod orders;

@@ -30,6 +30,7 @@ impl LiveWorld {
     ghost use Rattle.std.specs.Prelude.{◌≡◌, IfOk};
     ghost use Rattle.game_model.specs.ValidMap.{IsSetup};
     ghost use Rattle.game_model.specs.ValidWorld.{IsValidWorld};
+    ghost use Rattle.sync_hash.specs.Kept.{IsKeptOf};
     ghost use Rattle.sync_hash.specs.WorldHash.{hash_of};
 
     /// An opening world, with the memory for all that ticks want. Out of memory is the only error.
@@ -54,6 +55,13 @@ impl LiveWorld {
     {
         let _hasher = &self.hasher;
         self.scene.snapshot(alloc)
+    }
+
+    /// What is kept of the world for its hash.
+    pub(crate) fn kept(&self) -> &Hasher
+        ensures { IsKeptOf result.now self.now.world.actors self.now.world.ore }
+    {
+        &self.hasher
     }
 
     /// The hash of the world. It costs the head alone.

@@ -44,7 +44,6 @@ impl Model for Scene {
 
 impl Scene {
     ghost use Rattle.std.specs.Prelude.{◌≡◌, ◌+◌, ◌<◌, ◌^◌, IfOk, length};
-    ghost use Rattle.game_model.specs.Tick.{with_departures};
     ghost use Rattle.game_model.specs.World.{clients_of};
     ghost use Rattle.game_tick.specs.Turn.{buried};
     ghost use Rattle.game_model.specs.ValidMap.{IsSetup};
@@ -52,6 +51,7 @@ impl Scene {
     ghost use Rattle.sync_hash.specs.WorldHash.{hash_of};
     ghost use Rattle.tick_core.specs.Scene.{IsActing};
     ghost use Rattle.game_model.specs.ValidWorld.{IsValidWorld};
+    ghost use Rattle.game_tick.specs.Departures.{with_departures};
 
     /// An opening world, with the memory for all that ticks want. Out of memory is the only error.
     pub(crate) fn of(

@@ -1,17 +1,15 @@
 ghost use Rattle.std.specs.Prelude.{◌≡◌, ◌&&◌, [], is_some};
 ghost use Rattle.std.specs.Option.{option_copied};
 ghost use Rattle.game_model.specs.ActorChanges.{changed_at};
-ghost use Rattle.game_model.specs.ValidWorld.{gathers};
 ghost use Rattle.game_model.specs.World.{living_of};
 ghost use Rattle.game_tick.specs.Acts.{acts_after, with_acts};
-ghost use Rattle.game_tick.specs.Kinds.{kind_of};
 ghost use Rattle.game_model.specs.Grid.{is_on};
 ghost use Rattle.game_orders.specs.declared.order.Order.TheVariants.{Attack, Harvest, Move, Stop};
 ghost use Rattle.game_tick.specs.Orders.{after_order, attacking, changed_if, harvesting, is_target, moving, own_of, stopping, told};
 ghost use Rattle.rule_traits.specs.Rules.{moves};
+ghost use Rattle.game_model.specs.Kinds.{gathers, kind_of};
 ghost use Rattle.tick_core.specs.Ordered.{IsReady};
 
-use crate::living::living;
 use crate::scene::Scene;
 use activities::{Activity, Queue};
 use actor_table::ActorTable;
@@ -103,7 +101,7 @@ fn has_health(rules: &Rules, kind: u16) -> bool
 fn is_target(t: &ActorTable, rules: &Rules, a: &Actor, target: u32) -> bool
     ensures { result ≡ is_target rules.now a.now (living_of t.now.actors target) }
 {
-    match living(t, target) {
+    match t.living(target) {
         Some(other) => other.id != a.id && has_health(rules, other.kind),
         None => false,
     }

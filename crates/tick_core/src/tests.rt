@@ -81,7 +81,7 @@ fn a_frame_without_orders(rt: HostRuntime) -> Result<(), Fail> {
     frame.push(play(&[]));
     game.step(&frame);
     assert_told(&rt, &game, &[1000], 0x4c4d_c97d_3878_4958);
-    assert_eq!(rt; (game.clients(), game.mixed()), (1, 0));
+    assert_eq!(rt; (game.clients(), game.kept().mixed()), (1, 0));
     Ok(())
 }
 
@@ -216,12 +216,12 @@ fn idle_map(alloc: Global) -> Result<Map, NoMemory>
 #[test]
 fn idle_actors_are_not_hashed_again(rt: HostRuntime) -> Result<(), Fail> {
     let mut game = idle_game(rt.alloc())?;
-    assert_eq!(rt; (game.summary().actors, game.mixed()), (3, 3));
+    assert_eq!(rt; (game.summary().actors, game.kept().mixed()), (3, 3));
     let before = game.hash();
     let mut frame = Frame::empty();
     frame.push(play(&[]));
     game.step(&frame);
-    assert_eq!(rt; (game.summary().actors, game.mixed()), (3, 3));
+    assert_eq!(rt; (game.summary().actors, game.kept().mixed()), (3, 3));
     assert!(rt; game.hash() != before);
     Ok(())
 }

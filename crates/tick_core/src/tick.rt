@@ -1,9 +1,9 @@
 ghost use Rattle.std.specs.Prelude.{◌≡◌, ◌+◌, ◌*◌, ◌<◌, ◌^◌, length};
-ghost use Rattle.game_model.specs.Tick.{with_departures};
 ghost use Rattle.game_model.specs.World.{clients_of};
 ghost use Rattle.game_tick.specs.Orders.{after_order, after_orders};
 ghost use Rattle.tick_core.specs.Ordered.{IsReady, subject_of};
 ghost use Rattle.game_tick.specs.Tick.{after_entry, after_turns, tick_of, with_orders};
+ghost use Rattle.game_tick.specs.Departures.{with_departures};
 
 use crate::live::LiveWorld;
 use game_orders::{Entry, Frame, Order, Orders};

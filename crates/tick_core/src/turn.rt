@@ -10,7 +10,6 @@ ghost use Rattle.tick_core.specs.Telling.{HasPlaceFor, IsIdleNow, cell_of, targe
 ghost use Rattle.tick_core.specs.Touched.{KeptBut};
 
 use crate::live::LiveWorld;
-use crate::living::living;
 use crate::scene::Scene;
 use activities::Activity;
 use actor_table::ActorTable;
@@ -46,7 +45,7 @@ fn aim_of(table: &ActorTable, id: u32) -> Aim
         target: None,
         cell: None,
     };
-    let Some(a) = living(table, id) else {
+    let Some(a) = table.living(id) else {
         return none;
     };
     match a.body.acts.head() {
@@ -142,7 +141,7 @@ impl Scene {
     fn is_busy(&self, id: u32) -> bool
         ensures { result ≡ false → IfSome (living_of self.now.world.actors id) IsIdleNow }
     {
-        match living(&self.table, id) {
+        match self.table.living(id) {
             Some(a) => !is_idle(a),
             None => false,
         }

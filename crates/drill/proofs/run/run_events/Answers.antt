@@ -4,8 +4,8 @@ use Rattle.drill_words.specs.EventView.{event_of}
 use Rattle.drill.proofs.RunsEventsLemmas.{fits_at, of_first_run, ran_cut, ran_all, ran_one_more, next_event, none_left}
 use Rattle.drill.proofs.run.run_events.Goals as goal
 
-pub print_event-requires-clause-fits : goal.print_event-requires-clause-fits
-print_event-requires-clause-fits g c =
+pub take_event-requires-clause-fits : goal.take_event-requires-clause-fits
+take_event-requires-clause-fits g c =
     rw c.loop-number.invariant.0
     (fits_at (event_fits _) c.args.events.now c.loop-number.number (event_of c.get-event.result) c.requires.fit c.get-event.ensures)
 

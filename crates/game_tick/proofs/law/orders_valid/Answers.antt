@@ -5,4 +5,5 @@ use Rattle.game_tick.proofs.law.orders_valid.Goals as goal
 
 pub returns : goal.returns
 returns c =
-    λ setup frames w client order valid. order_valid setup frames (MAX_PACE * frames) (MAX_DRAWS * frames) w client order valid
+    λ setup frames w client order valid.
+    order_valid setup frames (MAX_PACE * frames) (MAX_DRAWS * frames) w client order valid

@@ -2,4 +2,5 @@ use Rattle.game_tick.specs.IdleLemmas.{moves_apart}
 use Rattle.game_tick.proofs.step_law.moves_keep_apart.Goals as goal
 
 pub returns : goal.returns
-returns c setup built actors id a aim waits found rise apart = moves_apart setup built actors id a aim waits found rise apart
+returns c setup built actors id a aim waits found rise apart =
+    moves_apart setup built actors id a aim waits found rise apart

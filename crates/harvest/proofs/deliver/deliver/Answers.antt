@@ -1,6 +1,7 @@
 use Rattle.std.proofs.Common.{◌≡◌, Some, sym, ◌∙◌}
 use Rattle.game_model.specs.Grid.{IsOn}
-use Rattle.motion.specs.Ground.{setup_in, built_in}
+use Rattle.game_model.specs.Setup.{setup_in}
+use Rattle.motion.specs.Ground.{built_in}
 use Rattle.harvest.proofs.StepCases.{deliver_empty, deliver_ends, deliver_unloads, deliver_goes, refinery_on}
 use Rattle.harvest.proofs.deliver.deliver.Goals as goal
 

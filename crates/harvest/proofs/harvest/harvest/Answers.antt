@@ -1,5 +1,6 @@
 use Rattle.std.proofs.Common.{◌≡◌, Some, sym, ◌∙◌}
-use Rattle.motion.specs.Ground.{setup_in, built_in}
+use Rattle.game_model.specs.Setup.{setup_in}
+use Rattle.motion.specs.Ground.{built_in}
 use Rattle.harvest.proofs.StepCases.{harvest_full, harvest_turns, harvest_loads, harvest_goes}
 use Rattle.harvest.proofs.harvest.harvest.Goals as goal
 

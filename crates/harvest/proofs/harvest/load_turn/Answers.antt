@@ -1,5 +1,5 @@
 use Rattle.std.proofs.Common.{◌≡◌, Some, sym, ◌∙◌}
-use Rattle.game_tick.specs.Kinds.{kind_of}
+use Rattle.game_model.specs.Kinds.{kind_of}
 use Rattle.harvest.proofs.StepCases.{loads, load_waits}
 use Rattle.harvest.proofs.harvest.load_turn.Goals as goal
 

@@ -1,8 +1,12 @@
-use Rattle.std.proofs.Common.{◌≡◌, drop, None}
+use Rattle.std.proofs.Common.{◌-◌}
 use Rattle.std.specs.Option.{option_copied}
-use Rattle.harvest.specs.Refineries.{best_after}
+use Rattle.actor_table.specs.Kinds.{next_number}
+use Rattle.harvest.specs.Refineries.{IsNearest, IsRefineryBelow}
 use Rattle.harvest.proofs.refinery.nearest_refinery.Given as goal
 
-abbrev pub invariant-loop-i : goal.invariant-loop-i
-invariant-loop-i l =
-    best_after l.rules l.a (option_copied l.best) (drop l.i l.t.actors) ≡ best_after l.rules l.a None l.t.actors
+abbrev pub invariant-loop-kind : goal.invariant-loop-kind
+invariant-loop-kind l =
+    IsNearest l.a.cell (IsRefineryBelow l.rules l.t.actors l.a (next_number l.last)) (option_copied l.best)
+
+abbrev pub decreases-loop-kind : goal.decreases-loop-kind
+decreases-loop-kind l = 65536 - next_number l.last

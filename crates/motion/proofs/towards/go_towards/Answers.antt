@@ -1,6 +1,7 @@
 use Rattle.std.proofs.Common.{refl}
 use Rattle.game_model.specs.World.{actor_of}
-use Rattle.motion.specs.Ground.{setup_in, built_in}
+use Rattle.game_model.specs.Setup.{setup_in}
+use Rattle.motion.specs.Ground.{built_in}
 use Rattle.motion.proofs.StepCases.{gone_either}
 use Rattle.motion.proofs.towards.go_towards.Goals as goal
 

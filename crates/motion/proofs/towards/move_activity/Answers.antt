@@ -1,5 +1,6 @@
 use Rattle.std.proofs.Common.{sym, ◌∙◌}
-use Rattle.motion.specs.Ground.{setup_in, built_in}
+use Rattle.game_model.specs.Setup.{setup_in}
+use Rattle.motion.specs.Ground.{built_in}
 use Rattle.motion.proofs.StepCases.{move_ends, move_goes}
 use Rattle.motion.proofs.towards.move_activity.Goals as goal
 

@@ -1,9 +1,11 @@
 use Rattle.std.proofs.Common.{◌≡◌, ◌≢◌, refl, sym, ◌∙◌}
 use Rattle.world_units.specs.Angles.{dir_angle_of}
 use Rattle.game_model.specs.Grid.{IsOn}
-use Rattle.game_tick.specs.Kinds.{kind_of}
-use Rattle.motion.specs.ChangeLemmas.{found_on, found_id}
-use Rattle.motion.specs.Ground.{setup_in, built_in}
+use Rattle.game_model.specs.Kinds.{kind_of}
+use Rattle.game_model.specs.Setup.{setup_in}
+use Rattle.game_model.specs.FoundLemmas.{found_id}
+use Rattle.motion.specs.ChangeLemmas.{found_on}
+use Rattle.motion.specs.Ground.{built_in}
 use Rattle.motion.proofs.StepCases.{stepped, turns, faces, entered_on_table}
 use Rattle.motion.proofs.towards.move_step.Goals as goal
 

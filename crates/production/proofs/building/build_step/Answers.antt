@@ -1,6 +1,6 @@
 use Rattle.std.proofs.Common.{refl, sym, ap, ◌∙◌}
+use Rattle.game_model.specs.Setup.{setup_in}
 use Rattle.game_tick.specs.Building.{Built, with_builds}
-use Rattle.production.specs.Grounds.{setup_in}
 use Rattle.production.proofs.Changes.{changed_occupied, changed_length, changed_below}
 use Rattle.production.proofs.Steps.{by_id_idle, by_id_waits, by_id_out}
 use Rattle.production.proofs.building.build_step.Goals as goal

@@ -1,8 +1,8 @@
 use Rattle.std.proofs.Common.{◌≡◌, ℕ, ◌<◌, false}
 use Rattle.game_model.specs.Buildings.{neighbour_of}
 use Rattle.game_tick.specs.Building.{is_open}
-use Rattle.game_tick.specs.Kinds.{kind_of}
-use Rattle.production.specs.Grounds.{setup_in}
+use Rattle.game_model.specs.Kinds.{kind_of}
+use Rattle.game_model.specs.Setup.{setup_in}
 use Rattle.production.proofs.exit.find_exit.Given as goal
 
 abbrev pub invariant-loop-d : goal.invariant-loop-d

@@ -1,7 +1,8 @@
-use Rattle.std.proofs.Common.{◌∙◌}
+use Rattle.std.proofs.Common.{◌∙◌, ap}
+use Rattle.std.specs.List.{list_any}
 use Rattle.production.proofs.Living.{any_living}
 use Rattle.production.proofs.needs.has_kind.Goals as goal
 
 pub returns : goal.returns
 returns c =
-    c.has_living.ensures ∙ any_living c.args.t.now.actors c.of_kind.result.now c.args.client c.args.kind c.len-ids_rise.ensures.list.rise c.of_kind.ensures
+    rw c.of_kind.ensures at c.has_living.ensures ∙ any_living c.args.t.now.actors c.args.client c.args.kind c.len-ids_rise.ensures.list.rise

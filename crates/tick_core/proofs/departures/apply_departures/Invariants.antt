@@ -1,6 +1,6 @@
 -- The flags are those after the entries of the clients so far.
 use Rattle.std.proofs.Common.{◌≡◌, length, take}
-use Rattle.game_model.specs.Tick.{gone_after}
+use Rattle.game_tick.specs.Departures.{gone_after}
 use Rattle.tick_core.proofs.departures.apply_departures.Given as goal
 
 abbrev pub invariant-loop-c : goal.invariant-loop-c

@@ -1,4 +1,8 @@
+use Rattle.std.proofs.Common.{◌∙◌}
+use Rattle.actor_table.proofs.NextKinds.{entries_are_actors}
 use Rattle.actor_table.proofs.table.ActorTable.of_kind.Goals as goal
 
 pub returns : goal.returns
-returns c = rw (c.of.ensures, ← c.self.view_is) (c.self.invariant.listed.ids c.args.owner c.args.kind)
+returns c =
+    let held = c.self.inside in
+    rw (← c.self.view_is) (c.of.ensures ∙ entries_are_actors held.kinds held.roster c.args.owner c.args.kind c.self.invariant.listed)

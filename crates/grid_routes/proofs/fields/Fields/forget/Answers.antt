@@ -16,6 +16,5 @@ returns-clause-fields c =
       search = tt;
       kept = forgotten-kept c.args.map.now.width c.args.map.now.height old.terrain new.terrain old.built new.built
           c.args.self.now.kept.items c.forget_all.new.kept.items c.forget_all.ensures f.kept;
-      count = c.forget_all.ensures.same ∙ f.count;
-      place = f.place;
+      place = rw c.forget_all.ensures.same f.place;
     }

@@ -12,7 +12,7 @@ returns-clause-fields c =
     let w = old.search.tolls.terrain.width in
     let h = old.search.tolls.terrain.height in
     let mine : Kept = record { ask = old.ask; field = old.search.field } in
-    let there = f.kept old.place mine (omega (arith, f.count, f.place)) in
+    let there = f.kept old.place mine f.place in
     record {
       terrain = f.terrain;
       size = subst (λ (d : Distances). HasSize w h d.labels) (sym (c.exchange-self.ensures.field mine)) there.size;
@@ -21,6 +21,5 @@ returns-clause-fields c =
       kept = kept-set w h old.search.tolls.terrain old.search.tolls.built old.kept.items c.exchange-self.new.kept.items
           old.place mine f.kept (record { size = f.size; going = for-going old.search old.ask f.search })
           c.exchange-self.ensures.kept;
-      count = ap (λ (l : List Kept). length l) c.exchange-self.ensures.kept ∙ length-set old.kept.items old.place mine ∙ f.count;
-      place = f.place;
+      place = rw (c.exchange-self.ensures.kept, length-set old.kept.items old.place mine) f.place;
     }

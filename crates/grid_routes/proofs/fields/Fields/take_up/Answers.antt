@@ -13,7 +13,7 @@ set_out-requires-clause-size c =
     let f = c.requires.fields in
     let old = c.args.self.now in
     let mine : Kept = record { ask = old.ask; field = old.search.field } in
-    let there = f.kept c.args.place mine (omega (arith, f.count, c.requires.place)) in
+    let there = f.kept c.args.place mine c.requires.place in
     subst (λ (d : Distances). HasSize old.search.tolls.terrain.width old.search.tolls.terrain.height d.labels)
     (sym (c.exchange-found.ensures.field mine)) there.size
 
@@ -22,7 +22,7 @@ set_out-requires-clause-going c = λ known.
     let f = c.requires.fields in
     let old = c.args.self.now in
     let mine : Kept = record { ask = old.ask; field = old.search.field } in
-    let there = f.kept c.args.place mine (omega (arith, f.count, c.requires.place)) in
+    let there = f.kept c.args.place mine c.requires.place in
     found-going old.search.tolls.terrain.width old.search.tolls.terrain.height old.search.tolls.terrain old.search.tolls.built _
     c.exchange-found.result c.exchange-found.new.field c.args.ask.now there (c.exchange-found.ensures.found mine)
     (c.exchange-found.ensures.field mine) (c.is_known-known.ensures known)
@@ -46,6 +46,5 @@ returns-clause-fields c =
       kept = subst (λ (g : Ground). All (IsKept w h g.terrain g.built) c.exchange-found.new.kept.items) (sym c.set_out.ensures.tolls)
           (kept-set w h old.search.tolls.terrain old.search.tolls.built old.kept.items c.exchange-found.new.kept.items
           c.args.place room f.kept (record { size = f.size; going = tt }) c.exchange-found.ensures.kept);
-      count = ap (λ (l : List Kept). length l) c.exchange-found.ensures.kept ∙ length-set old.kept.items c.args.place room ∙ f.count;
-      place = c.requires.place;
+      place = rw (c.exchange-found.ensures.kept, length-set old.kept.items c.args.place room) c.requires.place;
     }

@@ -1,5 +1,5 @@
 use Rattle.std.proofs.Common.{arith}
-use Rattle.game_model.specs.ValidTickLemmas.{wider}
+use Rattle.game_tick.specs.ValidWorldLemmas.{wider}
 use Rattle.game_tick.specs.KeepsLemmas.{tick_keeps}
 use Rattle.game_tick.specs.TickLemmas.{tick_valid}
 use Rattle.tick_core.proofs.game.GameSim.step.Goals as goal

@@ -1,0 +1,29 @@
+-- What failed in a call. Each field is that the count of faults of an object rose in it.
+use Rattle.base.specs.Cause.{Rose}
+use Rattle.command_answers.specs.Outside.{Outside}
+
+pub record Causes : Type 1 where
+  -- The disk, in a read.
+  pub read : Type 0
+  -- The disk, in a write.
+  pub write : Type 0
+  -- The sink.
+  pub sink : Type 0
+  -- The net, or a link whose fault ends the command.
+  pub net : Type 0
+
+-- The causes of a command that writes no file and uses no net.
+abbrev pub causes_of : (old new : Outside) → Causes
+causes_of old new = record {
+  read = Rose old.disk.faults new.disk.faults;
+  write = ⊥;
+  sink = Rose old.sink.faults new.sink.faults;
+  net = ⊥;
+}
+
+-- Nothing failed.
+pub record IsQuiet (causes : Causes) : Type 0 where
+  pub read : causes.read → ⊥
+  pub write : causes.write → ⊥
+  pub sink : causes.sink → ⊥
+  pub net : causes.net → ⊥

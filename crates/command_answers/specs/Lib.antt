@@ -1,0 +1,16 @@
+pub mod FileWrite
+pub mod Reply
+pub mod Causes
+pub mod Outside
+pub mod Outcome
+pub mod Printing
+pub mod Step
+pub mod WantedFiles
+pub mod Contents
+pub mod Given
+pub mod Stop
+pub mod ScriptStop
+pub mod OptionLemmas
+pub mod ListLemmas
+pub mod CausesLemmas
+pub mod OutcomeLemmas

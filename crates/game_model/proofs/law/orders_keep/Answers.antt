@@ -1,5 +1,0 @@
-use Rattle.game_model.specs.KeepsLemmas.{order_keeps}
-use Rattle.game_model.proofs.law.orders_keep.Goals as goal
-
-pub returns : goal.returns
-returns c = λ setup w client order. order_keeps setup w client order

@@ -1,0 +1,5 @@
+use Rattle.game_tick.specs.CountLemmas.{tick_count}
+use Rattle.game_tick.proofs.law.ticks_count_turns.Goals as goal
+
+pub returns : goal.returns
+returns c = λ setup w frame. tick_count setup w frame

@@ -1,0 +1,247 @@
+-- What it costs to enter a cell: as read from the surface, and from each neighbour.
+use Rattle.std.proofs.Common.{◌≡◌, ◌≢◌, ℕ, ◌+◌, ◌*◌, ◌%◌, ◌==◌, ◌⊎◌, ◌<◌, ◌≤◌, ◌&&◌, ◌||◌, not, inl, inr, Bool, true, false, cond, Option, Some, None, List, get_or, refl, sym, ap, ap₂, ◌∙◌, subst, arith}
+use Rattle.std.proofs.lemmas.Bool.{cases_eq}
+use Rattle.world_units.specs.declared.cell.CPos.{CPos}
+use Rattle.world_units.specs.Cells.{same_cell}
+use Rattle.world_units.specs.CellLemmas.{cell_decides}
+use Rattle.world_units.specs.Directions.{opposite_of, step_of}
+use Rattle.rule_traits.specs.declared.trait_fields.Costs.{Costs}
+use Rattle.game_model.specs.declared.terrain.Terrain.{Terrain}
+use Rattle.game_model.specs.declared.terrain.Terrain.TheVariants.{Clear, Road, Rough, Water, Rock}
+use Rattle.game_model.specs.Grid.{Grid, HasSize, IsOn, is_on, at_cell, with_cell}
+use Rattle.game_model.specs.Walks.{cost_at, fare_of, holds, is_free, toll_of}
+use Rattle.grid_routes.specs.declared.surface.TheConstants.{ROCK}
+use Rattle.grid_routes.specs.declared.fares.Fares.{Fares}
+use Rattle.grid_routes.specs.Values.{value_in}
+use Rattle.grid_routes.specs.Fares.{AreFares, IsFareFrom}
+use Rattle.grid_routes.specs.Footing.{ArePut, IsFooting, IsRenewed, charges_of, number_at, number_or_rock}
+use Rattle.grid_routes.specs.Tolls.{Ground, AreTolls, toll_in}
+use Rattle.grid_routes.specs.Labels.{IsFull}
+use Rattle.grid_routes.proofs.Cells.{is_on-on, set-here, set-other}
+use Rattle.grid_routes.proofs.Directions.{beside-north_east, beside-south_east, beside-south_west, beside-north_west}
+use Rattle.grid_routes.proofs.Lowering.{one-or-not}
+
+-- The cells of a row, one after the other.
+on-back : (w h : ℕ) (g : Grid ℕ) (p : CPos) → HasSize w h g → IsOn g.width g.height p → IsOn w h p
+on-back w h g p size on = record { column = rw size.width at on.column; row = rw size.height at on.row }
+
+-- A cell that is set has its number, and the others stay.
+pub renewed :
+    (number : CPos → ℕ) (g : Grid ℕ) (p : CPos) (n : ℕ) → IsFull g → IsOn g.width g.height p → n ≡ number p →
+    IsRenewed number g (with_cell g p n) p
+renewed number g p n full on is = record {
+  size = record { width = refl; height = refl };
+  here = λ there. set-here ROCK g p n full.size on ∙ is;
+  others = λ q other. set-other ROCK g p n q on.column other;
+}
+
+pub put-none : (number : CPos → ℕ) (g : Grid ℕ) → ArePut number g 0 0
+put-none number g = record {
+  above = λ p below on. absurd (omega arith);
+  before = λ p row below on. absurd (omega arith);
+}
+
+pub put-next :
+    (number : CPos → ℕ) (g g' : Grid ℕ) (p : CPos) → ArePut number g p.y p.x → IsRenewed number g g' p →
+    ArePut number g' p.y (p.x + 1)
+put-next number g g' p so_far one = record {
+  above = λ c below on.
+      one.others c (λ (same : c ≡ p). let row : c.y ≡ p.y = ap (λ x. x.y) same in omega arith)
+      ∙ so_far.above c below (on-back g.width g.height g' c one.size on);
+  before = λ c row below on.
+      elim (one-or-not c p) [
+        | inl same ↦
+            subst (λ (x : CPos). value_in ROCK g' x ≡ number x) (sym same)
+            (one.here (subst (λ (x : CPos). IsOn g.width g.height x) same (on-back g.width g.height g' c one.size on)))
+        | inr other ↦
+            elim (cases_eq c.x p.x) [
+              | inl column ↦
+                  let made : ℕ → ℕ → CPos = λ x y. record { x = x; y = y } in
+                  absurd (other (ap (λ n. made n c.y) column ∙ ap (λ n. made p.x n) row))
+              | inr less ↦
+                  one.others c other ∙ so_far.before c row (omega arith) (on-back g.width g.height g' c one.size on)
+            ]
+      ];
+}
+
+pub put-row :
+    (number : CPos → ℕ) (g : Grid ℕ) (y x : ℕ) → g.width ≤ x → ArePut number g y x → ArePut number g (y + 1) 0
+put-row number g y x end so_far = record {
+  above = λ c below on.
+      let column : c.x < g.width = on.column in
+      elim (cases_eq c.y y) [
+        | inl same ↦ so_far.before c same (omega arith) on
+        | inr less ↦ so_far.above c (omega arith) on
+      ];
+  before = λ c row below on. absurd (omega arith);
+}
+
+pub put-all : (number : CPos → ℕ) (g : Grid ℕ) (y : ℕ) → g.height ≤ y → ArePut number g y 0 → IsFooting number g
+put-all number g y end so_far = record {
+  each = λ p on.
+      let row : p.y < g.height = on.row in
+      so_far.above p (omega arith) on;
+}
+
+on-or-off : (b : Bool) → (b ≡ true) ⊎ (b ≡ false)
+on-or-off true = inl refl
+on-or-off false = inr refl
+
+unlike : (a b : CPos) → a ≢ b → same_cell a b ≡ false
+unlike a b other =
+    elim (on-or-off (same_cell a b)) [
+      | inl same ↦ absurd (other ((cell_decides a b).0 same))
+      | inr apart ↦ apart
+    ]
+
+-- Only two cells count as something else on the way to another goal.
+other-number :
+    (terrain : Grid Terrain) (built : Grid Bool) (last goal p : CPos) → p ≢ last → p ≢ goal →
+    number_at terrain built goal p ≡ number_at terrain built last p
+unfolding number_at
+other-number terrain built last goal p from to =
+    let not_goal : same_cell p goal ≡ false = unlike p goal to in
+    let not_last : same_cell p last ≡ false = unlike p last from in
+    rw (not_goal, not_last) refl
+
+pub turned-footing :
+    (terrain : Grid Terrain) (built : Grid Bool) (last goal : CPos) (g h k : Grid ℕ) →
+    IsFooting (number_at terrain built last) g → IsRenewed (number_at terrain built goal) g h last →
+    IsRenewed (number_at terrain built goal) h k goal → IsFooting (number_at terrain built goal) k
+turned-footing terrain built last goal g h k old first second = record {
+  each = λ p on.
+      let there : IsOn h.width h.height p = on-back h.width h.height k p second.size on in
+      let here : IsOn g.width g.height p = on-back g.width g.height h p first.size there in
+      elim (one-or-not p goal) [
+        | inl same ↦
+            subst (λ (x : CPos). value_in ROCK k x ≡ number_at terrain built goal x) (sym same)
+            (second.here (subst (λ (x : CPos). IsOn h.width h.height x) same there))
+        | inr to ↦
+            second.others p to
+            ∙ elim (one-or-not p last) [
+              | inl same ↦
+                  subst (λ (x : CPos). value_in ROCK h x ≡ number_at terrain built goal x) (sym same)
+                  (first.here (subst (λ (x : CPos). IsOn g.width g.height x) same here))
+              | inr from ↦
+                  first.others p from ∙ old.each p here ∙ sym (other-number terrain built last goal p from to)
+            ]
+      ];
+}
+
+charged : (costs : Costs) (o : Option Terrain) → get_or (charges_of costs) (number_or_rock o) 0 ≡ cost_at costs o
+charged costs None = refl
+charged costs (Some Clear) = refl
+charged costs (Some Road) = refl
+charged costs (Some Rough) = refl
+charged costs (Some Water) = refl
+charged costs (Some Rock) = refl
+
+charged-if :
+    (costs : Costs) (enters : Bool) (o : Option Terrain) →
+    get_or (charges_of costs) (cond enters (number_or_rock o) ROCK) 0 ≡ cond enters (cost_at costs o) 0
+charged-if costs true o = charged costs o
+charged-if costs false o = refl
+
+off-map : (g : Grid ℕ) (p : CPos) → is_on g.width g.height p ≡ false → value_in ROCK g p ≡ ROCK
+unfolding value_in
+off-map g p outside = rw outside refl
+
+-- The charge of a cell's number is its toll.
+pub toll-read :
+    (ground : Ground) (surface : Grid ℕ) (charges : List ℕ) (p : CPos) → AreTolls ground surface charges →
+    get_or charges (value_in ROCK surface p) 0 ≡ toll_in ground p
+unfolding toll_of number_at
+toll-read ground surface charges p tolls =
+    rw tolls.charged
+    (elim (on-or-off (is_on ground.terrain.width ground.terrain.height p)) [
+      | inl on ↦
+          let here : IsOn ground.terrain.width ground.terrain.height p = is_on-on _ _ p on in
+          let there : IsOn surface.width surface.height p = record { column = rw tolls.size.width here.column; row = rw tolls.size.height here.row } in
+          let number = tolls.footing.each p there in
+          rw (number, on)
+          (charged-if ground.costs (same_cell p ground.goal || not (holds (at_cell ground.built p))) (at_cell ground.terrain p))
+      | inr outside ↦
+          let away : is_on surface.width surface.height p ≡ false = rw (tolls.size.width, tolls.size.height) outside in
+          rw (off-map surface p away, outside) refl
+    ])
+
+between-low : (b : Bool) (t : ℕ) → t ≤ 10 → cond b (7 * t) 0 ≤ 70
+between-low true t low = omega arith
+between-low false t low = omega arith
+
+-- The fares from all neighbours, by which of those that share a side are free.
+module _ (toll : CPos → ℕ) (q : CPos) (wide : q.x < 256) (high : q.y < 256) (t : ℕ) (north east south west : Bool)
+    (north_is : north ≡ is_free toll (step_of q 0)) (east_is : east ≡ is_free toll (step_of q 2))
+    (south_is : south ≡ is_free toll (step_of q 4)) (west_is : west ≡ is_free toll (step_of q 6))
+    (t_is : t ≡ toll q) (low : t ≤ 10) where
+  between : (left right : Bool) (fare : ℕ) → fare ≡ cond (left && right) (7 * t) 0 → cond (left && right) (7 * toll q) 0 ≡ fare
+  between left right fare is = ap (λ n. cond (left && right) (7 * n) 0) (sym t_is) ∙ sym is
+
+  cheap-between : (left right : Bool) (fare : ℕ) → fare ≡ cond (left && right) (7 * t) 0 → fare ≤ 70
+  cheap-between left right fare is = rw is (between-low (left && right) t low)
+
+  from-north_east : (fare : ℕ) → fare ≡ cond (north && east) (7 * t) 0 → IsFareFrom toll q 1 fare
+  unfolding fare_of
+  from-north_east fare is = record {
+    cost = λ p there.
+        let b = beside-north_east q p wide high there in
+        let left : is_free toll (step_of p 6) ≡ north = ap (λ o. is_free toll o) b.0 ∙ sym north_is in
+        let right : is_free toll (step_of p 4) ≡ east = ap (λ o. is_free toll o) b.1 ∙ sym east_is in
+        ap₂ (λ l r. cond (l && r) (7 * toll q) 0) left right ∙ between north east fare is;
+    cheap = cheap-between north east fare is;
+  }
+
+  from-south_east : (fare : ℕ) → fare ≡ cond (east && south) (7 * t) 0 → IsFareFrom toll q 3 fare
+  unfolding fare_of
+  from-south_east fare is = record {
+    cost = λ p there.
+        let b = beside-south_east q p wide high there in
+        let left : is_free toll (step_of p 0) ≡ east = ap (λ o. is_free toll o) b.1 ∙ sym east_is in
+        let right : is_free toll (step_of p 6) ≡ south = ap (λ o. is_free toll o) b.0 ∙ sym south_is in
+        ap₂ (λ l r. cond (l && r) (7 * toll q) 0) left right ∙ between east south fare is;
+    cheap = cheap-between east south fare is;
+  }
+
+  from-south_west : (fare : ℕ) → fare ≡ cond (south && west) (7 * t) 0 → IsFareFrom toll q 5 fare
+  unfolding fare_of
+  from-south_west fare is = record {
+    cost = λ p there.
+        let b = beside-south_west q p wide high there in
+        let left : is_free toll (step_of p 2) ≡ south = ap (λ o. is_free toll o) b.0 ∙ sym south_is in
+        let right : is_free toll (step_of p 0) ≡ west = ap (λ o. is_free toll o) b.1 ∙ sym west_is in
+        ap₂ (λ l r. cond (l && r) (7 * toll q) 0) left right ∙ between south west fare is;
+    cheap = cheap-between south west fare is;
+  }
+
+  from-north_west : (fare : ℕ) → fare ≡ cond (west && north) (7 * t) 0 → IsFareFrom toll q 7 fare
+  unfolding fare_of
+  from-north_west fare is = record {
+    cost = λ p there.
+        let b = beside-north_west q p wide high there in
+        let left : is_free toll (step_of p 4) ≡ west = ap (λ o. is_free toll o) b.1 ∙ sym west_is in
+        let right : is_free toll (step_of p 2) ≡ north = ap (λ o. is_free toll o) b.0 ∙ sym north_is in
+        ap₂ (λ l r. cond (l && r) (7 * toll q) 0) left right ∙ between west north fare is;
+    cheap = cheap-between west north fare is;
+  }
+
+  straight : (d fare : ℕ) → fare ≡ 5 * t → (d % 2 == 0) ≡ true → d ≡ opposite_of (opposite_of d) → IsFareFrom toll q (opposite_of d) fare
+  unfolding fare_of
+  straight d fare is even back = record {
+    cost = λ p there. rw (sym back, even) (omega (arith, is, t_is));
+    cheap = omega (arith, is, low);
+  }
+
+  pub all-fares :
+      (fares : Fares) → fares.straight ≡ 5 * t → fares.north_east ≡ cond (north && east) (7 * t) 0 →
+      fares.south_east ≡ cond (east && south) (7 * t) 0 → fares.south_west ≡ cond (south && west) (7 * t) 0 →
+      fares.north_west ≡ cond (west && north) (7 * t) 0 → AreFares toll q fares
+  all-fares fares side north_east south_east south_west north_west = record {
+    north = straight 4 fares.straight side refl refl;
+    north_east = from-north_east fares.north_east north_east;
+    east = straight 6 fares.straight side refl refl;
+    south_east = from-south_east fares.south_east south_east;
+    south = straight 0 fares.straight side refl refl;
+    south_west = from-south_west fares.south_west south_west;
+    west = straight 2 fares.straight side refl refl;
+    north_west = from-north_west fares.north_west north_west;
+  }

@@ -1,0 +1,22 @@
+-- What it costs to enter a cell from its neighbours.
+use Rattle.std.specs.Prelude.{◌≡◌, ℕ, ◌≤◌, Some}
+use Rattle.world_units.specs.declared.cell.CPos.{CPos}
+use Rattle.world_units.specs.Directions.{opposite_of, step_of}
+use Rattle.game_model.specs.Walks.{fare_of}
+use Rattle.grid_routes.specs.declared.fares.Fares.{Fares}
+
+-- What the step into q costs from its neighbour in direction d, 0 where it isn't allowed.
+pub record IsFareFrom (toll : CPos → ℕ) (q : CPos) (d fare : ℕ) : Type 0 where
+  pub cost : (p : CPos) → step_of q d ≡ Some p → fare_of toll p (opposite_of d) q ≡ fare
+  pub cheap : fare ≤ 70
+
+-- The fares from all eight neighbours.
+pub record AreFares (toll : CPos → ℕ) (q : CPos) (fares : Fares) : Type 0 where
+  pub north : IsFareFrom toll q 0 fares.straight
+  pub north_east : IsFareFrom toll q 1 fares.north_east
+  pub east : IsFareFrom toll q 2 fares.straight
+  pub south_east : IsFareFrom toll q 3 fares.south_east
+  pub south : IsFareFrom toll q 4 fares.straight
+  pub south_west : IsFareFrom toll q 5 fares.south_west
+  pub west : IsFareFrom toll q 6 fares.straight
+  pub north_west : IsFareFrom toll q 7 fares.north_west

@@ -1,8 +1,0 @@
--- What is written, with the lines that are left, is all.
-use Rattle.std.proofs.Common.{◌≡◌, ◌++◌, drop, string_bytes}
-use Rattle.match_cli.specs.Checks.{kind_lines}
-use Rattle.match_cli.proofs.check.write_kinds.Given as goal
-
-abbrev pub invariant-loop-number : goal.invariant-loop-number
-invariant-loop-number l =
-    string_bytes l.text ++ kind_lines l.number-counter (drop l.number-counter l.kinds) ≡ string_bytes l.fn.text ++ kind_lines 0 l.fn.kinds

@@ -1,6 +1,0 @@
-use Rattle.match_cli.proofs.RunLemmas.{accepted_runs}
-use Rattle.match_cli.proofs.command.run.Goals as goal
-
--- The words name a request.
-pub returns-in-Ok : goal.returns-in-Ok
-returns-in-Ok g c = accepted_runs _ _ _ _ _ _ c.in-Ok.ensures.request c.run_request.ensures

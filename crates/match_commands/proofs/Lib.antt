@@ -1,0 +1,4 @@
+pub mod RequestLemmas
+pub mod FilesLemmas
+pub mod DrillLemmas
+pub mod RunLemmas

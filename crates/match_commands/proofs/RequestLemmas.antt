@@ -1,0 +1,255 @@
+-- A whole request, over plain values.
+use Rattle.std.proofs.Common.{◌≡◌, ◌≤◌, ◌⊎◌, ℕ, List, [], ◌∷◌, length, map, Option, None, Some, Result, Ok, Err, IfSome, IfNone, IsSome, refl, sym, ap, subst, ◌∙◌, inl, inr, append-nil}
+use Rattle.std.specs.Global.{Vec}
+use Rattle.base.specs.Cause.{Rose}
+use Rattle.base.specs.Steps.{◌>>=◌}
+use Rattle.command_words.specs.RequestPlain.{RequestPlain}
+use Rattle.game_io.specs.Files.{Files}
+use Rattle.game_io.specs.DiskState.{DiskState}
+use Rattle.game_io.specs.SinkState.{SinkState}
+use Rattle.command_answers.specs.declared.statuses.TheConstants.{DONE, REFUSED_FILE, OUT_OF_MEMORY}
+use Rattle.command_answers.specs.declared.stop.Stop.{Stop}
+use Rattle.command_answers.specs.declared.stop.Stop.TheVariants.{Refused, ReadFault, NoMemory}
+use Rattle.command_answers.specs.FileWrite.{OnlyChanges}
+use Rattle.command_answers.specs.Reply.{Reply, done, refusal, read_fault}
+use Rattle.command_answers.specs.Step.{Step, ended, replied}
+use Rattle.command_answers.specs.Causes.{causes_of}
+use Rattle.command_answers.specs.Outside.{outside}
+use Rattle.command_answers.specs.Outcome.{IsPrinted, IsAnswered}
+use Rattle.command_answers.specs.Printing.{PrintsReply, MayPrintReply}
+use Rattle.command_answers.specs.WantedFiles.{WantedFiles, no_files, in_order, rule_file}
+use Rattle.command_answers.specs.Contents.{Contents, contents_of, read_after, content_of, IsFirstThere, AreWithinLimits, AreContents}
+use Rattle.match_commands.specs.Request.{wanted, written_by, answer_of, text_reply, given_reply, reply_to}
+use Rattle.match_commands.specs.Run.{RunsRequest}
+use Rattle.command_answers.specs.Stop.{IsReadStop, IsUntoldStop, ReturnsStep, PrintsStop, PrintsText}
+use Rattle.command_answers.specs.OptionLemmas.{map_some, map_none}
+use Rattle.command_answers.specs.CausesLemmas.{HasCauses, at_done, at_file, at_memory, at_write, at_read}
+use Rattle.command_answers.specs.OutcomeLemmas.{printed_outcome, answered_outcome, memory_outcome}
+
+-- What was printed for a command's text: the reply, and the causes of the status.
+pub record Printed (reply : Reply) (status : ℕ) (d d' : DiskState) (s s' : SinkState) : Type 0 where
+  pub answered : IsAnswered reply status (causes_of (outside d s) (outside d' s')) (outside d s) (outside d' s')
+  pub causes : HasCauses status (Rose d.faults d'.faults) (Rose s.faults s'.faults)
+
+-- A reply without a file, of a command that is done or refuses a file.
+pub done_printed :
+    (text : List ℕ) (status : ℕ) (d d' : DiskState) (s s' : SinkState) →
+    d'.files ≡ d.files → MayPrintReply (done text) status s s' → Printed (done text) status d d' s s'
+done_printed text status d d' s s' same prints = record {
+  answered = answered_outcome (done text) status d d' s s' refl same prints;
+  causes = cause prints;
+} where
+  cause : MayPrintReply (done text) status s s' → HasCauses status (Rose d.faults d'.faults) (Rose s.faults s'.faults)
+  cause (inl (inl wrote)) = at_done status _ _ wrote.0
+  cause (inl (inr cut)) = at_write status _ _ cut.1 cut.0
+  cause (inr memory) = at_memory status _ _ memory.0
+
+pub refusal_printed :
+    (name : List ℕ) (place : ℕ) (cause : List ℕ) (status : ℕ) (d d' : DiskState) (s s' : SinkState) →
+    d'.files ≡ d.files → MayPrintReply (refusal name place cause) status s s' →
+    Printed (refusal name place cause) status d d' s s'
+refusal_printed name place cause status d d' s s' same prints = record {
+  answered = answered_outcome (refusal name place cause) status d d' s s' refl same prints;
+  causes = why prints;
+} where
+  why : MayPrintReply (refusal name place cause) status s s' → HasCauses status (Rose d.faults d'.faults) (Rose s.faults s'.faults)
+  why (inl (inl wrote)) = at_file status _ _ wrote.0
+  why (inl (inr cut)) = at_write status _ _ cut.1 cut.0
+  why (inr memory) = at_memory status _ _ memory.0
+
+pub memory_printed :
+    (reply : Reply) (status : ℕ) (d d' : DiskState) (s s' : SinkState) →
+    d'.files ≡ d.files → (status ≡ OUT_OF_MEMORY) × (s'.written ≡ s.written) → Printed reply status d d' s s'
+memory_printed reply status d d' s s' same memory = record {
+  answered = inr (memory_outcome reply status d d' s s' memory.0 same memory.1);
+  causes = at_memory status _ _ memory.0;
+}
+
+-- The text of a command, which is a step's, or the step's refusal.
+pub text_printed :
+    (text : Result (Vec ℕ) Stop) (step : Step (List ℕ)) (status : ℕ) (d d' : DiskState) (s s' : SinkState) →
+    d'.files ≡ d.files → ReturnsStep text (λ text. text.items) step → PrintsText text status s s' →
+    Printed (replied (text_reply step)) status d d' s s'
+text_printed (Ok text) step status d d' s s' same returns prints =
+    subst (λ step. Printed (replied (text_reply step)) status d d' s s') (sym returns)
+    (done_printed text.items status d d' s s' same (inl prints))
+text_printed (Err (Refused name place cause)) step status d d' s s' same returns prints =
+    subst (λ step. Printed (replied (text_reply step)) status d d' s s') (sym returns)
+    (refusal_printed name.now place cause.now status d d' s s' same prints)
+text_printed (Err ReadFault) step status d d' s s' same returns prints = absurd returns
+text_printed (Err NoMemory) step status d d' s s' same returns prints =
+    memory_printed (replied (text_reply step)) status d d' s s' same prints
+
+-- All files were read, and the answer to their contents was printed.
+pub request_given :
+    (request : RequestPlain) (contents : Contents) (status : ℕ) (d d' : DiskState) (s s' : SinkState) →
+    written_by request ≡ None → d'.files ≡ d.files → d.faults ≤ d'.faults → s.faults ≤ s'.faults →
+    IfSome d.files (λ files. contents_of (wanted request) files ≡ Ok contents) →
+    IfNone d.files (AreContents (wanted request) contents) →
+    Printed (given_reply request contents) status d d' s s' →
+    RunsRequest request status (causes_of (outside d s) (outside d' s')) (outside d s) (outside d' s')
+request_given request contents status d d' s s' none same later later' told untold printed = record {
+  told = map_some d.files _ _ (λ files read. inl (answer files read)) told;
+  untold = map_none d.files (λ given. inl (contents, (given, printed.answered))) untold;
+  accepted = printed.causes.accepted;
+  read = λ e. inl (printed.causes.read e);
+  write = λ e. inl (printed.causes.write e);
+  files = only none;
+  later = (later, later');
+} where
+  answer : (files : Files) → contents_of (wanted request) files ≡ Ok contents →
+      IsAnswered (reply_to request files) status (causes_of (outside d s) (outside d' s')) (outside d s) (outside d' s')
+  answer files read =
+      subst (λ step. IsAnswered (replied (step >>= answer_of request)) status (causes_of (outside d s) (outside d' s')) (outside d s) (outside d' s'))
+      (sym read) printed.answered
+
+  only : written_by request ≡ None → OnlyChanges (written_by request) d.files d'.files
+  only none = subst (λ name. OnlyChanges name d.files d'.files) (sym none) same
+
+-- The count of faults rose, whether the disk tells its files or not.
+rose_of : {R : Type 0} (o : Option Files) (There : Files → Type 0) → IfSome o (λ files. There files × R) → IfNone o R → R
+rose_of None There told untold = untold
+rose_of (Some files) There told untold = told.1
+
+-- Some file was not read, and the stop was printed.
+pub request_stopped :
+    (request : RequestPlain) (stop : Stop) (status : ℕ) (d d' : DiskState) (s s' : SinkState) →
+    written_by request ≡ None → d'.files ≡ d.files → d.faults ≤ d'.faults → s.faults ≤ s'.faults →
+    IfSome d.files (λ files. IsReadStop stop (contents_of (wanted request) files)
+    (IsFirstThere (in_order (wanted request)) files × Rose d.faults d'.faults)) →
+    IfNone d.files (IsUntoldStop stop (in_order (wanted request)) (Rose d.faults d'.faults)) →
+    PrintsStop stop status s s' →
+    RunsRequest request status (causes_of (outside d s) (outside d' s')) (outside d s) (outside d' s')
+request_stopped request (Refused name place cause) status d d' s s' none same later later' told untold prints = record {
+  told = map_some d.files _ _ (λ files read. inl (answer files read)) told;
+  untold = map_none d.files (λ unread. inr (inl (unread.0, inl (reply, (unread.1, printed.answered))))) untold;
+  accepted = printed.causes.accepted;
+  read = λ e. inl (printed.causes.read e);
+  write = λ e. inl (printed.causes.write e);
+  files = subst (λ name. OnlyChanges name d.files d'.files) (sym none) same;
+  later = (later, later');
+} where
+  reply : Reply
+  reply = refusal name.now place cause.now
+
+  printed : Printed reply status d d' s s'
+  printed = refusal_printed name.now place cause.now status d d' s s' same prints
+
+  answer : (files : Files) → contents_of (wanted request) files ≡ Err reply →
+      IsAnswered (reply_to request files) status (causes_of (outside d s) (outside d' s')) (outside d s) (outside d' s')
+  answer files read =
+      subst (λ step. IsAnswered (replied (step >>= answer_of request)) status (causes_of (outside d s) (outside d' s')) (outside d s) (outside d' s'))
+      (sym read) printed.answered
+request_stopped request ReadFault status d d' s s' none same later later' told untold prints = record {
+  told = map_some d.files _ _ (λ files read. inr (read.0, read.1, outcome)) told;
+  untold = map_none d.files (λ rose. inr (inl (rose, inr outcome))) untold;
+  accepted = (causes prints).accepted;
+  read = λ e. inl ((causes prints).read e);
+  write = λ e. inl ((causes prints).write e);
+  files = subst (λ name. OnlyChanges name d.files d'.files) (sym none) same;
+  later = (later, later');
+} where
+  outcome : IsPrinted read_fault status (causes_of (outside d s) (outside d' s')) (outside d s) (outside d' s')
+  outcome = printed_outcome read_fault status d d' s s' refl same prints
+
+  rose : Rose d.faults d'.faults
+  rose = rose_of d.files (IsFirstThere (in_order (wanted request))) told untold
+
+  causes : PrintsReply read_fault status s s' → HasCauses status (Rose d.faults d'.faults) (Rose s.faults s'.faults)
+  causes (inl wrote) = at_read status _ _ rose wrote.0
+  causes (inr cut) = at_write status _ _ cut.1 cut.0
+request_stopped request NoMemory status d d' s s' none same later later' told untold prints = record {
+  told = map_some d.files _ _ (λ files read. inl (memory_printed (reply_to request files) status d d' s s' same prints).answered) told;
+  untold = map_none d.files (λ unread. inr (inr (prints.0, (same, prints.1)))) untold;
+  accepted = causes.accepted;
+  read = λ e. inl (causes.read e);
+  write = λ e. inl (causes.write e);
+  files = subst (λ name. OnlyChanges name d.files d'.files) (sym none) same;
+  later = (later, later');
+} where
+  causes : HasCauses status (Rose d.faults d'.faults) (Rose s.faults s'.faults)
+  causes = at_memory status _ _ prints.0
+
+-- ---- rule files
+
+-- The files of a command that wants rules alone, and their contents.
+abbrev pub rules_alone : List (List ℕ) → WantedFiles
+rules_alone names = record no_files { rules = map rule_file names }
+
+abbrev pub rule_contents : List (List ℕ) → Contents
+rule_contents rules = record { rules = rules; map_file = None; script = None; replay = None }
+
+rules_in_order : (names : List (List ℕ)) → in_order (rules_alone names) ≡ map rule_file names
+rules_in_order names = append-nil (map rule_file names)
+
+pub rules_told :
+    (names contents : List (List ℕ)) (o : Option Files) →
+    IfSome o (λ files. read_after [] (map rule_file names) files ≡ Ok contents) →
+    IfSome o (λ files. contents_of (rules_alone names) files ≡ Ok (rule_contents contents))
+rules_told names contents o =
+    map_some o _ _ (λ files read. ap (λ step. step >>= λ rules. Ok (rule_contents rules)) read)
+
+pub rules_untold :
+    (names contents : List (List ℕ)) (o : Option Files) →
+    IfNone o (AreWithinLimits (map rule_file names) contents) →
+    IfNone o (AreContents (rules_alone names) (rule_contents contents))
+rules_untold names contents o =
+    map_none o (λ given. record { rules = given; map_file = tt; script = tt; replay = tt })
+
+rules_stop :
+    (names : List (List ℕ)) (stop : Stop) (files : Files) (R : Type 0) →
+    IsReadStop stop (read_after [] (map rule_file names) files) (IsFirstThere (map rule_file names) files × R) →
+    IsReadStop stop (contents_of (rules_alone names) files) (IsFirstThere (in_order (rules_alone names)) files × R)
+rules_stop names (Refused name place cause) files R stops = ap (λ step. step >>= λ rules. Ok (rule_contents rules)) stops
+rules_stop names ReadFault files R stops = (subst (λ all. IsFirstThere all files) (sym (rules_in_order names)) stops.0, stops.1)
+rules_stop names NoMemory files R stops = tt
+
+pub rules_stop_told :
+    (names : List (List ℕ)) (stop : Stop) (R : Type 0) (o : Option Files) →
+    IfSome o (λ files. IsReadStop stop (read_after [] (map rule_file names) files) (IsFirstThere (map rule_file names) files × R)) →
+    IfSome o (λ files. IsReadStop stop (contents_of (rules_alone names) files) (IsFirstThere (in_order (rules_alone names)) files × R))
+rules_stop_told names stop R o = map_some o _ _ (λ files stops. rules_stop names stop files R stops)
+
+pub rules_stop_untold :
+    (names : List (List ℕ)) (stop : Stop) (R : Type 0) (o : Option Files) →
+    IfNone o (IsUntoldStop stop (map rule_file names) R) → IfNone o (IsUntoldStop stop (in_order (rules_alone names)) R)
+rules_stop_untold names stop R o = map_none o (λ stops. subst (λ all. IsUntoldStop stop all R) (sym (rules_in_order names)) stops)
+
+-- ---- the commands
+
+-- Rule files were read, and the command's text was printed.
+pub rules_given :
+    (request : RequestPlain) (names contents : List (List ℕ)) (text : Result (Vec ℕ) Stop) (step : Step (List ℕ)) (status : ℕ) (d d' : DiskState) (s s' : SinkState) →
+    wanted request ≡ rules_alone names → written_by request ≡ None →
+    d'.files ≡ d.files → d.faults ≤ d'.faults → s.faults ≤ s'.faults →
+    IfSome d.files (λ files. read_after [] (map rule_file names) files ≡ Ok contents) →
+    IfNone d.files (AreWithinLimits (map rule_file names) contents) →
+    ReturnsStep text (λ text. text.items) step → answer_of request (rule_contents contents) ≡ text_reply step →
+    PrintsText text status s s' →
+    RunsRequest request status (causes_of (outside d s) (outside d' s')) (outside d s) (outside d' s')
+rules_given request names contents text step status d d' s s' wants none same later later' told untold returns answers prints =
+    request_given request (rule_contents contents) status d d' s s' none same later later'
+    (subst (λ wanted. IfSome d.files (λ files. contents_of wanted files ≡ Ok (rule_contents contents))) (sym wants)
+    (rules_told names contents d.files told))
+    (subst (λ wanted. IfNone d.files (AreContents wanted (rule_contents contents))) (sym wants)
+    (rules_untold names contents d.files untold))
+    (subst (λ answer. Printed (replied answer) status d d' s s') (sym answers)
+    (text_printed text step status d d' s s' same returns prints))
+
+-- A rule file was not read.
+pub rules_stopped :
+    (request : RequestPlain) (names : List (List ℕ)) (stop : Stop) (status : ℕ) (d d' : DiskState) (s s' : SinkState) →
+    wanted request ≡ rules_alone names → written_by request ≡ None →
+    d'.files ≡ d.files → d.faults ≤ d'.faults → s.faults ≤ s'.faults →
+    IfSome d.files (λ files. IsReadStop stop (read_after [] (map rule_file names) files)
+    (IsFirstThere (map rule_file names) files × Rose d.faults d'.faults)) →
+    IfNone d.files (IsUntoldStop stop (map rule_file names) (Rose d.faults d'.faults)) →
+    PrintsStop stop status s s' →
+    RunsRequest request status (causes_of (outside d s) (outside d' s')) (outside d s) (outside d' s')
+rules_stopped request names stop status d d' s s' wants none same later later' told untold prints =
+    request_stopped request stop status d d' s s' none same later later'
+    (subst (λ wanted. IfSome d.files (λ files. IsReadStop stop (contents_of wanted files) (IsFirstThere (in_order wanted) files × Rose d.faults d'.faults)))
+    (sym wants) (rules_stop_told names stop (Rose d.faults d'.faults) d.files told))
+    (subst (λ wanted. IfNone d.files (IsUntoldStop stop (in_order wanted) (Rose d.faults d'.faults)))
+    (sym wants) (rules_stop_untold names stop (Rose d.faults d'.faults) d.files untold))
+    prints

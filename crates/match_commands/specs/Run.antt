@@ -1,0 +1,82 @@
+-- A run of the program: what it answers, prints and leaves, by its causes.
+use Rattle.std.specs.Prelude.{◌≡◌, ◌≢◌, ℕ, ◌⊎◌, Option, None, IfSome, IfNone, option_and_then}
+use Rattle.command_words.specs.RequestPlain.{RequestPlain}
+use Rattle.game_io.specs.Files.{Files}
+use Rattle.command_answers.specs.declared.statuses.TheConstants.{DONE, REFUSED_WORDS, FAULT_READ}
+use Rattle.command_answers.specs.declared.statuses.TheConstants.{FAULT_WRITE, OUT_OF_MEMORY}
+use Rattle.command_answers.specs.Reply.{Reply, words_reply, read_fault}
+use Rattle.command_answers.specs.FileWrite.{OnlyChanges}
+use Rattle.command_answers.specs.Causes.{Causes, IsQuiet}
+use Rattle.command_answers.specs.Outside.{Outside, IsUnchanged, IsLater}
+use Rattle.command_answers.specs.Outcome.{IsPrinted, IsAnswered}
+use Rattle.command_answers.specs.WantedFiles.{in_order}
+use Rattle.command_answers.specs.Contents.{Contents, IsFirstThere, AreContents, IsUnread}
+use Rattle.match_commands.specs.Request.{wanted, written_by, given_reply, reply_to, IsFaultless}
+
+-- `refused words` is printed, or memory ran out before anything was.
+abbrev pub RefusesWords : ℕ → Causes → (old new : Outside) → Type 0
+RefusesWords status causes old new =
+    IsPrinted words_reply status causes old new
+    ⊎ ((status ≡ OUT_OF_MEMORY) × IsUnchanged old new)
+
+-- Over a disk that tells its files, the words and the files decide. Else a read failed, which it
+-- can where the first file is there.
+abbrev pub IsToldAnswer : RequestPlain → Files → ℕ → Causes → (old new : Outside) → Type 0
+IsToldAnswer request files status causes old new =
+    IsAnswered (reply_to request files) status causes old new
+    ⊎ (IsFirstThere (in_order (wanted request)) files
+    × causes.read
+    × IsPrinted read_fault status causes old new)
+
+-- Over a disk that tells nothing, the contents that it gave decide. Else its count of faults rose,
+-- and a file is missing, too long, or could not be read; or memory ran out before anything was
+-- printed.
+abbrev pub IsUntoldAnswer : RequestPlain → ℕ → Causes → (old new : Outside) → Type 0
+IsUntoldAnswer request status causes old new =
+    ((contents : Contents)
+    × (AreContents (wanted request) contents
+    × IsAnswered (given_reply request contents) status causes old new))
+    ⊎ ((causes.read
+    × (((reply : Reply)
+    × (IsUnread (in_order (wanted request)) reply × IsAnswered reply status causes old new))
+    ⊎ IsPrinted read_fault status causes old new))
+    ⊎ ((status ≡ OUT_OF_MEMORY) × IsUnchanged old new))
+
+-- A run of a request.
+pub record RunsRequest
+    (request : RequestPlain) (status : ℕ) (causes : Causes) (old new : Outside) : Type 0 where
+  pub told :
+      IfSome old.disk.files (λ files. IsToldAnswer request files status causes old new)
+  pub untold : IfNone old.disk.files (IsUntoldAnswer request status causes old new)
+  pub accepted : status ≢ REFUSED_WORDS
+  pub read : status ≡ FAULT_READ → causes.read ⊎ causes.net
+  pub write : status ≡ FAULT_WRITE → causes.sink ⊎ causes.write
+  pub files : OnlyChanges (written_by request) old.disk.files new.disk.files
+  pub later : IsLater old new
+
+-- A run of the program, for the request that its words name, if they name one.
+pub record Runs
+    (request : Option RequestPlain) (status : ℕ) (causes : Causes) (old new : Outside)
+    : Type 0 where
+  -- Status 2: exactly where the words name no request.
+  pub refused : IfNone request (RefusesWords status causes old new)
+  pub only_refused : status ≡ REFUSED_WORDS → request ≡ None
+  -- Every status, over a told disk: as the words and the files say.
+  pub told :
+      IfSome request (λ request.
+      IfSome old.disk.files (λ files. IsToldAnswer request files status causes old new))
+  pub untold :
+      IfSome request (λ request.
+      IfNone old.disk.files (IsUntoldAnswer request status causes old new))
+  -- Status 0, or 6: where the files are there and without a fault, and nothing failed in the run.
+  pub complete :
+      IsQuiet causes →
+      IfSome request (λ request.
+      IfSome old.disk.files
+      (λ files. IsFaultless request files → (status ≡ DONE) ⊎ (status ≡ OUT_OF_MEMORY)))
+  -- Status 4 and 5: only where a count of faults rose.
+  pub read : status ≡ FAULT_READ → causes.read ⊎ causes.net
+  pub write : status ≡ FAULT_WRITE → causes.sink ⊎ causes.write
+  -- No file changed but the one that the words name to be written.
+  pub files : OnlyChanges (option_and_then written_by request) old.disk.files new.disk.files
+  pub later : IsLater old new

@@ -1,0 +1,139 @@
+ghost use Rattle.std.specs.Prelude.{◌≡◌, ◌≤◌, length, map, option_map, string_bytes};
+ghost use Rattle.command_words.specs.RequestPlain.{Drill, Yaml, Check, Route, plain_of};
+ghost use Rattle.command_words.specs.RequestPlain.{plain_drill, plain_route, HasFewFiles};
+ghost use Rattle.command_words.specs.Reading.{request_of};
+ghost use Rattle.command_answers.specs.Causes.{causes_of};
+ghost use Rattle.command_answers.specs.Outside.{outside};
+ghost use Rattle.match_commands.specs.Run.{Runs, RunsRequest};
+ghost use Rattle.match_commands.specs.TopCalls.{returning, returning_request};
+
+use crate::making::make_text;
+use crate::preparing::prepare_drill;
+use crate::worlds::print_report;
+use command_answers::{
+    OUT_OF_MEMORY, print_stop, print_text, read_files, read_rules, read_script_files, refuse_words,
+};
+use command_words::{
+    DrillQuery, FileNames, MAX_FILES, Request, RouteQuery, WordsFault, read_words,
+};
+use game_io::{Disk, Sink};
+use rule_commands::{check_text, route_text, yaml_text};
+use std::alloc::Global;
+
+/// Runs the command that the words name, where it is one that always returns; the first word is the
+/// program's name. All other commands are those of [`run_waiting`](crate::run_waiting), and are
+/// refused here as words. It changes no file that the words don't name to be written, and returns:
+///
+/// - 0, the command is done, and exactly its text was written;
+/// - 2, the words are refused;
+/// - 3, a file that they name is missing, too long, or has a fault, or there is a `RouteFault`;
+/// - 4, a read failed: the disk's count of faults rose;
+/// - 5, a write failed: the sink's count of faults rose, and a prefix of the text was written;
+/// - 6, out of memory, and a prefix of the text was written.
+pub fn run<D: Disk, K: Sink>(alloc: Global, words: &[String], disk: &mut D, out: &mut K) -> u8
+    ensures { let old = outside (D.state disk.old) (K.state out.old) in
+        let new = outside (D.state disk.new) (K.state out.new) in
+        Runs (returning_request (request_of (map string_bytes words.now))) result
+        (causes_of old new) old new }
+{
+    match read_words(alloc, words) {
+        Ok(request) => run_request(alloc, &request, disk, out),
+        Err(WordsFault::Refused) => refuse_words(out),
+        Err(WordsFault::NoMemory) => OUT_OF_MEMORY,
+    }
+}
+
+/// Runs the command of a request, where it always returns, and refuses every other one as words.
+fn run_request<D: Disk, K: Sink>(
+    alloc: Global,
+    request: &Request<'_>,
+    disk: &mut D,
+    out: &mut K,
+) -> u8
+    requires { HasFewFiles request.now }
+    ensures { let old = outside (D.state disk.old) (K.state out.old) in
+        let new = outside (D.state disk.new) (K.state out.new) in
+        Runs (returning (plain_of request.now)) result (causes_of old new) old new }
+{
+    match request {
+        Request::Drill(query) => run_script(alloc, query, disk, out),
+        Request::Yaml { files } => run_yaml(alloc, files, disk, out),
+        Request::Check { map_file, rules } => run_check(alloc, *map_file, rules, disk, out),
+        Request::Route(query) => run_route(alloc, query, disk, out),
+        Request::Make { number } => print_text(alloc, make_text(alloc, *number), out),
+        Request::Local(_) => refuse_words(out),
+    }
+}
+
+/// The command `drill`: reads rule files, a map for them and the script, and runs it.
+fn run_script<D: Disk, K: Sink>(
+    alloc: Global,
+    query: &DrillQuery<'_>,
+    disk: &mut D,
+    out: &mut K,
+) -> u8
+    requires { length query.now.rules ≤ MAX_FILES }
+    ensures { let old = outside (D.state disk.old) (K.state out.old) in
+        let new = outside (D.state disk.new) (K.state out.new) in
+        RunsRequest (Drill (plain_drill query.now)) result (causes_of old new) old new }
+{
+    let names = query.rules.as_slice();
+    match read_script_files(alloc, disk, names, query.map_file, query.script) {
+        Ok(given) => print_report(alloc, prepare_drill(alloc, query, &given), out),
+        Err(stop) => print_stop(alloc, stop, out),
+    }
+}
+
+/// The command `yaml`: reads rule files and prints their resolved forest.
+fn run_yaml<D: Disk, K: Sink>(alloc: Global, names: &FileNames<'_>, disk: &mut D, out: &mut K) -> u8
+    requires { length names.now ≤ MAX_FILES }
+    ensures { let old = outside (D.state disk.old) (K.state out.old) in
+        let new = outside (D.state disk.new) (K.state out.new) in
+        RunsRequest (Yaml names.now) result (causes_of old new) old new }
+{
+    let names = names.as_slice();
+    match read_rules(alloc, disk, names) {
+        Ok(contents) => print_text(alloc, yaml_text(alloc, names, &contents), out),
+        Err(stop) => print_stop(alloc, stop, out),
+    }
+}
+
+/// The command `check`: reads rule files and a map for them, if one is named, and prints what they
+/// have.
+fn run_check<D: Disk, K: Sink>(
+    alloc: Global,
+    map_file: Option<&str>,
+    names: &FileNames<'_>,
+    disk: &mut D,
+    out: &mut K,
+) -> u8
+    requires { length names.now ≤ MAX_FILES }
+    ensures { let old = outside (D.state disk.old) (K.state out.old) in
+        let new = outside (D.state disk.new) (K.state out.new) in
+        RunsRequest (Check (option_map (λ name. name.now) map_file.entry) names.now) result
+        (causes_of old new) old new }
+{
+    let names = names.as_slice();
+    match read_files(alloc, disk, names, map_file) {
+        Ok(given) => print_text(alloc, check_text(alloc, names, map_file, &given), out),
+        Err(stop) => print_stop(alloc, stop, out),
+    }
+}
+
+/// The command `route`: reads rule files and a map for them, and prints a route over it.
+fn run_route<D: Disk, K: Sink>(
+    alloc: Global,
+    query: &RouteQuery<'_>,
+    disk: &mut D,
+    out: &mut K,
+) -> u8
+    requires { length query.now.rules ≤ MAX_FILES }
+    ensures { let old = outside (D.state disk.old) (K.state out.old) in
+        let new = outside (D.state disk.new) (K.state out.new) in
+        RunsRequest (Route (plain_route query.now)) result (causes_of old new) old new }
+{
+    match read_files(alloc, disk, query.rules.as_slice(), Some(query.map_file)) {
+        Ok(given) => print_text(alloc, route_text(alloc, query, &given), out),
+        Err(stop) => print_stop(alloc, stop, out),
+    }
+}

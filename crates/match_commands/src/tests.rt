@@ -1,0 +1,208 @@
+//! Whole runs over a disk and a sink in memory whose first call fails, over files of the greatest
+//! length, and over the sample. Recorded runs stand in the crate `case_runs`.
+mod sample_world;
+
+use super::run;
+use game_io::{FailingCall, MemDisk, MemSink, Remains};
+use std::alloc::{AllocError, Global};
+use std::test::Fail;
+
+/// The words of a drill, after the program's name.
+const DRILL: [&str; 3] = ["drill", "--script", "d"];
+
+/// The program's name, and these words after it.
+fn command_line(alloc: Global, words: &[&str]) -> Result<Vec<String>, AllocError> {
+    let mut line = Vec::new(alloc);
+    line.push(String::from_str(alloc, "lockstep")?)?;
+    for word in words {
+        line.push(String::from_str(alloc, word)?)?;
+    }
+    Ok(line)
+}
+
+/// The first call is to fail, if it is said what remains after it.
+fn first_fails(alloc: Global, remains: Option<Remains>) -> Result<Vec<FailingCall>, AllocError> {
+    let mut failing = Vec::new(alloc);
+    if let Some(remains) = remains {
+        failing.push(FailingCall { call: 0, remains })?;
+    }
+    Ok(failing)
+}
+
+/// A disk that holds these files, and in which the first read fails or none does.
+fn disk_of(
+    alloc: Global,
+    files: &[(&str, &str)],
+    read: Option<Remains>,
+) -> Result<MemDisk, AllocError> {
+    let mut disk = MemDisk::new(alloc, first_fails(alloc, read)?);
+    for (name, text) in files {
+        disk.add(alloc, name, text.as_bytes())?;
+    }
+    Ok(disk)
+}
+
+/// Whether the program returns this status and prints this text, where the first put fails or none
+/// does.
+fn is_answered(
+    alloc: Global,
+    words: &[&str],
+    mut disk: MemDisk,
+    put: Option<Remains>,
+    status: u8,
+    text: &str,
+) -> Result<bool, AllocError> {
+    let line = command_line(alloc, words)?;
+    let mut out = MemSink::new(alloc, first_fails(alloc, put)?);
+    let answered = run(alloc, line.as_slice(), &mut disk, &mut out);
+    Ok(answered == status && out.bytes() == text.as_bytes())
+}
+
+/// A drill of one event, and one that names a client outside the match.
+const SEALED: &str = "match 1 2 1\nseal 0\n";
+
+const OUTSIDE: &str = "match 1 2 1\nseal 7\n";
+
+/// What fails: the words, the file `d`, what a failed read and a failed put leave, the status and
+/// the text.
+const FAILED: [(&[&str], &str, Option<Remains>, Option<Remains>, u8, &str); 14] = [
+    (
+        &DRILL,
+        SEALED,
+        Some(Remains::Nothing),
+        None,
+        4,
+        "fault read\n",
+    ),
+    (&DRILL, SEALED, None, Some(Remains::Nothing), 5, ""),
+    (
+        &DRILL,
+        SEALED,
+        None,
+        Some(Remains::Prefix(16)),
+        5,
+        "0 sealed 0\ncolum",
+    ),
+    // Both fail.
+    (
+        &DRILL,
+        SEALED,
+        Some(Remains::Nothing),
+        Some(Remains::Old),
+        5,
+        "",
+    ),
+    (
+        &DRILL,
+        SEALED,
+        Some(Remains::Nothing),
+        Some(Remains::Prefix(7)),
+        5,
+        "fault r",
+    ),
+    // A refusal that is not printed.
+    (
+        &DRILL,
+        OUTSIDE,
+        None,
+        Some(Remains::Prefix(9)),
+        5,
+        "refused d",
+    ),
+    (&["drill"], SEALED, None, Some(Remains::Nothing), 5, ""),
+    (
+        &["dance"],
+        SEALED,
+        None,
+        Some(Remains::Prefix(99)),
+        5,
+        "refused words\n",
+    ),
+    // Rule files.
+    (
+        &["yaml", "d"],
+        SEALED,
+        Some(Remains::Nothing),
+        None,
+        4,
+        "fault read\n",
+    ),
+    (
+        &["yaml", "d"],
+        SEALED,
+        None,
+        Some(Remains::Prefix(5)),
+        5,
+        "match",
+    ),
+    (
+        &["check", "d"],
+        SEALED,
+        None,
+        Some(Remains::Prefix(4)),
+        5,
+        "kind",
+    ),
+    // A file that is not there decides, and none after it is read before.
+    (
+        &["yaml", "a", "d"],
+        SEALED,
+        Some(Remains::Nothing),
+        None,
+        3,
+        "refused a 0 Missing\n",
+    ),
+    (
+        &["yaml", "d", "a"],
+        SEALED,
+        Some(Remains::Nothing),
+        None,
+        4,
+        "fault read\n",
+    ),
+    // No file is read.
+    (
+        &["dance"],
+        SEALED,
+        Some(Remains::Nothing),
+        None,
+        2,
+        "refused words\n",
+    ),
+];
+
+#[test]
+fn failures_are_printed(rt: HostRuntime) -> Result<(), Fail> {
+    for (words, script, read, put, status, text) in FAILED {
+        let disk = disk_of(rt.alloc(), &[("d", script)], read)?;
+        let right = is_answered(rt.alloc(), words, disk, put, status, text)?;
+        assert!(rt; right, "{words:?}: {status} {text}");
+    }
+    Ok(())
+}
+
+/// A disk with the file `a` of so many empty lines.
+fn disk_of_lines(alloc: Global, lines: u32) -> Result<MemDisk, AllocError> {
+    let mut text = Vec::new(alloc);
+    for _ in 0..lines {
+        text.push(b'\n')?;
+    }
+    let mut disk = MemDisk::new(alloc, Vec::new(alloc));
+    disk.add(alloc, "a", text.as_slice())?;
+    Ok(disk)
+}
+
+#[test]
+fn long_rule_files_are_refused(rt: HostRuntime) -> Result<(), Fail> {
+    let rows = [
+        (65_536, 0, ""),
+        (4_194_304, 3, "refused a 65537 TooManyLines\n"),
+        (4_194_305, 3, "refused a 0 TooLong\n"),
+    ];
+    for (lines, status, text) in rows {
+        let disk = disk_of_lines(rt.alloc(), lines)?;
+        let right = is_answered(rt.alloc(), &["yaml", "a"], disk, None, status, text)?;
+        assert!(rt; right, "{lines}");
+    }
+    Ok(())
+}

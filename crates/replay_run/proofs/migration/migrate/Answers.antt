@@ -1,0 +1,54 @@
+use Rattle.std.proofs.Common.{rules, refl, ◌∙◌, ◌≡◌}
+use Rattle.std.specs.Prelude.{None}
+use Rattle.replay_file.specs.declared.limits.TheConstants.{VERSION}
+use Rattle.replay_file.specs.ReplayBytes.{header_bytes}
+use Rattle.replay_run.specs.MigratingLemmas.{all_written, written_begins, written_step}
+use Rattle.replay_run.specs.Rerun.{rerun_over}
+use Rattle.replay_run.specs.RerunLemmas.{IsSoFar, begins, part_step}
+use Rattle.replay_run.proofs.migration.migrate.Goals as goal
+
+pub loop-part-init : goal.loop-part-init
+loop-part-init g c =
+    let r = c.args.r.now in
+    let run =
+    rerun_over g.S.Sim.after g.S.Sim.hash_of g.S.FirstHash.first_hash_of g.S.Sim.summary_of
+    c.args.world in
+    let so_far :
+    IsSoFar run r c.iter-left.result
+    (record { difference = None; frames = 0; world = c.args.world }) =
+    begins _ _ _ _ c.requires.valid c.iter-left.ensures refl refl refl in (
+      c.requires.clients,
+      c.requires.fresh,
+      refl,
+      so_far,
+      written_begins run r (header_bytes VERSION r.rules r.seed r.clients) c.in_ok-writer.writer
+          c.iter-left.result _ c.requires.valid so_far c.iter-left.ensures c.in_ok-writer.ensures,
+    )
+
+pub loop-part-preserved : goal.loop-part-preserved
+loop-part-preserved g c =
+    let r = c.args.r.now in
+    let run =
+    rerun_over g.S.Sim.after g.S.Sim.hash_of g.S.FirstHash.first_hash_of g.S.Sim.summary_of
+    c.args.world in
+    let is = c.loop-part.invariant in
+    let none : c.pass.new.self.difference ≡ None = search rules in (
+      c.pass.ensures.clients ∙ is.0,
+      c.pass.ensures.steps is.1,
+      none,
+      part_step _ _ _ _ _ _ _ is.3 c.in-Some.ensures c.pass.ensures.value,
+      written_step run r (header_bytes VERSION r.rules r.seed r.clients) c.in-Some.part
+          c.loop-part.left c.next.new.self c.loop-part.run c.pass.new.self c.loop-part.writer
+          c.write_anew.new.writer c.loop-part.marks c.in_ok-marks.field-0 is.3 c.in-Some.ensures
+          c.pass.ensures.value c.in_ok-marks.ensures.written c.in_ok-marks.ensures.fits
+          c.in_ok-marks.ensures.marks is.4,
+    )
+
+pub returns : goal.returns
+returns g c =
+    let r = c.args.r.now in
+    let is = c.loop-part.invariant in
+    all_written _ r c.loop-part.run c.loop-part.left
+    (header_bytes VERSION r.rules r.seed r.clients) c.loop-part.writer c.in_ok-finish.field-0
+    c.loop-part.marks c.requires.valid c.replay_fits.ensures refl is.3 is.2 c.in_default.ensures.0
+    is.4 c.in_ok-finish.ensures

@@ -1,0 +1,9 @@
+pub mod Migrating
+pub mod MigratingLemmas
+pub mod Passing
+pub mod RecordLaws
+pub mod Recording
+pub mod RecordingLemmas
+pub mod Rerun
+pub mod RerunLemmas
+pub mod Shown

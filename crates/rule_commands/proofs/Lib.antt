@@ -1,0 +1,4 @@
+pub mod StopLemmas
+pub mod LeastLemmas
+pub mod RouteLemmas
+pub mod KindLemmas
