@@ -46,10 +46,13 @@ route_shape =
 abbrev make_shape : Shape
 make_shape = shape_with (codes "make") (with_index 1 (filled (required_number (codes "number"))) ∷ [])
 
+abbrev local_shape : Shape
+local_shape = shape_with (codes "local") (wanted_rule (codes "script") ∷ map_rule ∷ names_rule ∷ [])
+
 -- The commands, as the parse has them.
 abbrev command_shapes : List Shape
 command_shapes =
-    drill_shape ∷ names_shape false (codes "yaml") ∷ names_shape true (codes "check") ∷ route_shape ∷ make_shape ∷ []
+    drill_shape ∷ names_shape false (codes "yaml") ∷ names_shape true (codes "check") ∷ route_shape ∷ make_shape ∷ local_shape ∷ []
 
 -- What is known of rows that a command without a fault has found.
 record AreFound (s : Shape) (rows : List Row) : Type 0 where
@@ -104,6 +107,12 @@ drill_found words quiet =
     let rows = rows_after drill_shape.rules [] words in
     let found : AreFound drill_shape rows = found_rows drill_shape words ((refl, refl), ((refl, refl), ((refl, refl), tt))) (λ x. refl) quiet in
     given_row drill_shape.rules (codes "script") rows found.full (required (is_given (codes "script") rows) found.checks)
+
+local_found : FirstIsThere local_shape (codes "script")
+local_found words quiet =
+    let rows = rows_after local_shape.rules [] words in
+    let found : AreFound local_shape rows = found_rows local_shape words ((refl, refl), ((refl, refl), ((refl, refl), tt))) (λ x. refl) quiet in
+    given_row local_shape.rules (codes "script") rows found.full (required (is_given (codes "script") rows) found.checks)
 
 make_found : FirstIsThere make_shape (codes "number")
 make_found words quiet =
@@ -194,6 +203,16 @@ make_request rows has = go (number_in (codes "number") rows) refl (number_there 
     go None is there = cc
     go (Some number) is there = inl (rw is refl)
 
+local_request : (rows : List Row) → HasRow local_shape.rules (codes "script") rows → HasRequest (Some (codes "local", rows))
+unfolding command_request drill_in
+local_request rows has = go (first_of (codes "script") rows) (names_in 0 rows) refl refl (given_first local_shape.rules (codes "script") rows has)
+  where
+    go : (script : Option Text) (names : Option (List Text)) → first_of (codes "script") rows ≡ script → names_in 0 rows ≡ names → is_some script ≡ true
+        → HasRequest (Some (codes "local", rows))
+    go None names a b there = cc
+    go (Some script) None a b there = inr (inl b)
+    go (Some script) (Some names) a b there = inl (rw (a, b) refl)
+
 -- Each of the commands, where its words have no fault.
 abbrev GivesRequest : Shape → Type 0
 GivesRequest s = (words : List Text) → level_fault s [] nothing_held words false [] ≡ [] → HasRequest (Some (rows_at s words))
@@ -211,7 +230,10 @@ all_give_requests = (
       λ words quiet. check_request (rows_after (names_rules true) [] words),
       (
         λ words quiet. route_request (rows_after route_shape.rules [] words) (route_found words quiet),
-        (λ words quiet. make_request (rows_after make_shape.rules [] words) (make_found words quiet), tt),
+        (
+          λ words quiet. make_request (rows_after make_shape.rules [] words) (make_found words quiet),
+          (λ words quiet. local_request (rows_after local_shape.rules [] words) (local_found words quiet), tt),
+        ),
       ),
     ),
   ),
