@@ -169,13 +169,13 @@ best_nearest actors a (e ∷ entries) S best nearest =
 named_there : (actors : List Actor) (owner kind : ℕ) (ys : List Actor) (x : Actor) → AllByRecursion (λ (y : Actor). actor_of actors y.id ≡ Some y) ys → Named actors (listed_of ys owner kind) x → (actor_of actors x.id ≡ Some x) × (is_of owner kind x ≡ true)
 named_there actors owner kind [] x each named = absurd named
 named_there actors owner kind (y ∷ ys) x each named = elim (bool_tells (is_of owner kind y)) [
-  | inl met ↦ one met (rw met at named)
+  | inl met ↦ one met (λ later. named_there actors owner kind ys x each.1 later) (rw met at named)
   | inr fails ↦ named_there actors owner kind ys x each.1 (rw fails at named)
 ]
   where
-    one : is_of owner kind y ≡ true → (actor_of actors y.id ≡ Some x) ⊎ Named actors (listed_of ys owner kind) x → (actor_of actors x.id ≡ Some x) × (is_of owner kind x ≡ true)
-    one met (inl here) = subst (λ (z : Actor). (actor_of actors z.id ≡ Some z) × (is_of owner kind z ≡ true)) (same_some y x (sym each.0 ∙ here)) (each.0, met)
-    one met (inr later) = named_there actors owner kind ys x each.1 later
+    one : is_of owner kind y ≡ true → (Named actors (listed_of ys owner kind) x → (actor_of actors x.id ≡ Some x) × (is_of owner kind x ≡ true)) → (actor_of actors y.id ≡ Some x) ⊎ Named actors (listed_of ys owner kind) x → (actor_of actors x.id ≡ Some x) × (is_of owner kind x ≡ true)
+    one met rest (inl here) = subst (λ (z : Actor). (actor_of actors z.id ≡ Some z) × (is_of owner kind z ≡ true)) (same_some y x (sym each.0 ∙ here)) (each.0, met)
+    one met rest (inr later) = rest later
 
 is_first : (y : Actor) (ys : List Actor) (id : ℕ) (x : Actor) → eqb y.id id ≡ true → actor_of (y ∷ ys) id ≡ Some x → y ≡ x
 is_first y ys id x hit found = same_some y x (rw hit at found)
