@@ -40,9 +40,9 @@ fn played_text(
     }
 }
 
-/// The command of a drill.
-fn drill_text(alloc: Global, query: &DrillQuery<'_>) -> Result<String, NoMemory> {
-    let command = played_text(alloc, "drill", query.script, query.map_file)?;
+/// The command of a drill or of a local match.
+fn match_text(alloc: Global, command: &str, query: &DrillQuery<'_>) -> Result<String, NoMemory> {
+    let command = played_text(alloc, command, query.script, query.map_file)?;
     written(alloc, &command, query.rules.as_slice())
 }
 
@@ -59,7 +59,8 @@ fn route_text(alloc: Global, query: &RouteQuery<'_>) -> Result<String, NoMemory>
 /// The request that a list of words names, of which the first is the program's name.
 fn request_text(alloc: Global, words: &[String]) -> Result<String, NoMemory> {
     match read_words(alloc, words) {
-        Ok(Request::Drill(query)) => drill_text(alloc, &query),
+        Ok(Request::Drill(query)) => match_text(alloc, "drill", &query),
+        Ok(Request::Local(query)) => match_text(alloc, "local", &query),
         Ok(Request::Make { number }) => format!(in alloc; "make {number}"),
         Ok(Request::Yaml { files }) => written(alloc, "yaml", files.as_slice()),
         Ok(
@@ -127,7 +128,7 @@ const WITHOUT_A_COMMAND: [&str; 31] = [
 ];
 
 /// Words after a command that are refused.
-const REFUSED_AFTER: [&str; 34] = [
+const REFUSED_AFTER: [&str; 36] = [
     // `drill`: its option once, with one value.
     "drill",
     "drill|--script",
@@ -155,6 +156,8 @@ const REFUSED_AFTER: [&str; 34] = [
     "drill|--=d",
     "drill|script=d",
     "drill|--map|m|r",
+    "local",
+    "local|--script|s|--script|s",
     "drill|--script|d|--map",
     // `yaml` and `check`: names, in their order, and no option.
     "yaml",
@@ -169,11 +172,16 @@ const REFUSED_AFTER: [&str; 34] = [
 ];
 
 /// Words with the request that they name.
-const ACCEPTED_LINES: [(&str, &str); 35] = [
+const ACCEPTED_LINES: [(&str, &str); 37] = [
     // There is no help and no version.
     ("yaml|help", "yaml <help>"),
     // `drill`: its option once, with one value.
     ("drill|--script|d", "drill <d>"),
+    ("local|--script|s", "local <s>"),
+    (
+        "local|b|--map=--|a|--script=|b|--|--map",
+        "local <> map <--> <b> <a> <b> <--map>",
+    ),
     ("drill|--script=d", "drill <d>"),
     ("drill|--script=d=e", "drill <d=e>"),
     ("drill|--script=--script", "drill <--script>"),
