@@ -30,4 +30,3 @@ fn main(rt: HostRuntime) -> ExitCode {
     let mut out = StdSink::new(io::writer(&rt));
     ExitCode::from(run(rt.alloc(), &words, &mut disk, &mut out))
 }
-
