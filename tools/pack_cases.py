@@ -5,7 +5,9 @@ usage: pack_cases.py FOLDER .. > FILE
 
 Each FOLDER is a case: the file `args` has the arguments, one a line; `files/` the files that are
 there before; `expect-files/` those that must have been written; `stdout` what must be printed;
-`status` the status (0 without it). The case is called after its folder.
+`status` the status (0 without it); `world` the world that the server of a drill must be left in,
+field by field. The case is called after its folder. A case `ref-hash` is a drill whose `stdout`
+may go on with that world.
 """
 import os
 import sys
@@ -26,6 +28,13 @@ def packed(folder):
     words = content(f"{folder}/args").decode().split("\n")
     if words and words[-1] == "":
         words.pop()
+    text = content(f"{folder}/stdout")
+    world = content(f"{folder}/world") if os.path.exists(f"{folder}/world") else None
+    if words and words[0] == "ref-hash":
+        words[0] = "drill"
+        report, end, rest = text.partition(b"\nend\n")
+        text = report + end if end else text.removesuffix(b"\n") + b"\n"
+        world = rest or world
     yield b"case %s\n" % os.path.basename(folder.rstrip("/")).encode()
     for word in words:
         yield b"word %s\n" % word.encode()
@@ -34,8 +43,9 @@ def packed(folder):
             yield b"%s %d %s\n%s\n" % (kind.encode(), len(data), name.encode(), data)
     status = content(f"{folder}/status").strip() if os.path.exists(f"{folder}/status") else b"0"
     yield b"status %s\n" % status
-    text = content(f"{folder}/stdout")
     yield b"text %d\n%s\n" % (len(text), text)
+    if world is not None:
+        yield b"world %d\n%s\n" % (len(world), world)
 
 
 def main():

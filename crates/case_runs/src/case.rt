@@ -1,3 +1,7 @@
+use base::NoMemory;
+use game_io::MemDisk;
+use std::alloc::Global;
+
 /// A file of a case: its name and its bytes.
 #[derive(Drop)]
 pub struct CaseFile<'a> {
@@ -22,4 +26,17 @@ pub struct Case<'a> {
     pub status: u8,
     /// The text that must be printed.
     pub text: &'a [u8],
+    /// The world that the server of a drill must be left in, field by field, if the case has it.
+    pub world: Option<&'a [u8]>,
+}
+
+impl Case<'_> {
+    /// A disk in memory with the files that are there before.
+    pub fn disk(&self, alloc: Global) -> Result<MemDisk, NoMemory> {
+        let mut disk = MemDisk::new(alloc, Vec::new(alloc));
+        for file in &self.files {
+            disk.add(alloc, file.name, file.bytes)?;
+        }
+        Ok(disk)
+    }
 }

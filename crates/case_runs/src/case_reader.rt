@@ -8,7 +8,8 @@ use std::alloc::Global;
 /// - `file LENGTH NAME` and so many bytes, a file that is there before;
 /// - `written LENGTH NAME` and so many bytes, a file that must be there after;
 /// - `status N`;
-/// - `text LENGTH` and so many bytes, what must be printed.
+/// - `text LENGTH` and so many bytes, what must be printed;
+/// - `world LENGTH` and so many bytes, the world that the server of a drill must be left in.
 ///
 /// A line feed ends each line and follows all bytes.
 #[derive(Drop)]
@@ -41,6 +42,7 @@ impl<'a> CaseReader<'a> {
             written: Vec::new(alloc),
             status: 0,
             text: &[],
+            world: None,
         };
         for _ in 0..self.rest.len() {
             if self.rest.is_empty() || self.rest.starts_with(b"case ") {
@@ -70,6 +72,7 @@ impl<'a> CaseReader<'a> {
                 case.status = status;
             }
             Some(("text", length)) => case.text = self.bytes(length)?,
+            Some(("world", length)) => case.world = Some(self.bytes(length)?),
             _ => return Err(ReadFault::NoCase),
         }
         Ok(())

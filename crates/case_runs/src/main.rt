@@ -6,6 +6,8 @@ mod case;
 mod case_reader;
 mod checking;
 mod read_fault;
+mod server_world;
+mod world_text;
 
 use crate::checking::{Shown, run_cases};
 use crate::read_fault::ReadFault;
@@ -25,7 +27,7 @@ fn main(rt: HostRuntime) -> io::Result<ExitCode> {
             status = ExitCode::FAILURE;
             continue;
         };
-        match run_cases(rt.alloc(), &bytes) {
+        match run_cases(&rt, rt.alloc(), &bytes) {
             Ok(Shown::AllRight(number)) => println!(rt; "{name}: {number} cases")?,
             Ok(Shown::Wrong(case)) => println!(rt; "{name}: {case} is wrong")?,
             Err(ReadFault::NoCase) => println!(rt; "{name}: no case")?,

@@ -1,21 +1,25 @@
 -- Accepted words name a request, but for the number of positional arguments and for cells that are
 -- none.
-use Rattle.std.proofs.Common.{◌≡◌, ◌⊎◌, ◌||◌, inl, inr, Bool, true, false, not, cond, List, [], ◌∷◌, Option, Some, None, is_some, codes, refl}
-use Rattle.std.specs.Prelude.{option_map}
+use Rattle.std.proofs.Common.{◌≡◌, ◌⊎◌, ◌∙◌, ◌||◌, ap, inl, inr, ℕ, Bool, true, false, not, cond, List, [], ◌∷◌, Option, Some, None, is_some, codes, refl}
+use Rattle.std.specs.Prelude.{find, option_map, option_and_then, pos}
 use Rattle.std.specs.Option.{option_map_or}
 use Rattle.clap.specs.Walk.{Row, Rule, Text, settled, finished, nothing_held, walk, walk_from, rows_after, first_of, answers_to}
 use Rattle.clap.specs.Simple.{Shape, new_shape, filled, with_index, built, entered, rows_at, names_of, label_of, argument_words, subcommand_of}
 use Rattle.clap.specs.Takes.{is_given}
+use Rattle.clap.specs.ValueTests.{is_signed_in}
 use Rattle.clap.specs.Kinds.{or_else}
 use Rattle.clap.specs.Faults.{walk_fault, settle_fault, defaults_fault, check_fault, level_fault, entered_fault, fault_of}
 use Rattle.clap.specs.declared.error.kind.ErrorKind.TheVariants.{MissingRequiredArgument}
 use Rattle.clap.proofs.SimpleLemmas.{is_nil}
+use Rattle.clap.proofs.WalkLemmas.{both}
 use Rattle.world_units.specs.declared.cell.CPos.{CPos}
-use Rattle.command_words.specs.RequestPlain.{Drill, Yaml, Check, Route, RoutePlain}
-use Rattle.command_words.specs.Commands.{required_option, file_names, bare_app, drill_app, yaml_app, check_app, routed_app, ends_app, route_app, first_app, lockstep_app}
-use Rattle.command_words.specs.Reading.{is_accepted, command_request, names_in, cell_in, route_in, found_request, request_of, NamesRefused, CellRefused}
-use Rattle.command_words.proofs.PlainWordsLemmas.{names_shape}
-use Rattle.command_words.proofs.FoundValuesLemmas.{Full, AllWant, Shortless, first_none, second_none, some_kind, settle_full, walk_full, defaults_full, given_first}
+use Rattle.command_words.specs.RequestPlain.{Route}
+use Rattle.command_words.specs.Commands.{required_option, required_number, bare_app, lockstep_app}
+use Rattle.command_words.specs.Reading.{is_accepted, command_request, names_in, cell_in, number_of, number_in, drill_in, route_in, found_request, request_of, NamesRefused, CellRefused}
+use Rattle.command_words.proofs.OnCommands.{all_commands}
+use Rattle.command_words.proofs.NumberLemmas.{let_through}
+use Rattle.command_words.proofs.PlainWordsLemmas.{map_rule, names_rule, names_rules, names_shape}
+use Rattle.command_words.proofs.FoundValuesLemmas.{Full, AllWant, Shortless, HasRow, first_none, second_none, some_kind, settle_full, walk_full, defaults_full, given_row, given_first, given_one}
 
 -- A command with these arguments, as the parse has it.
 abbrev shape_with : Text → List Rule → Shape
@@ -31,20 +35,31 @@ abbrev wanted_rule : Text → Rule
 wanted_rule name = with_index 1 (filled (required_option name))
 
 abbrev drill_shape : Shape
-drill_shape = shape_with (codes "drill") (wanted_rule (codes "script") ∷ [])
+drill_shape = shape_with (codes "drill") (wanted_rule (codes "script") ∷ map_rule ∷ names_rule ∷ [])
 
 abbrev route_shape : Shape
 route_shape =
     shape_with (codes "route")
     (wanted_rule (codes "map") ∷ wanted_rule (codes "kind") ∷ wanted_rule (codes "from") ∷ wanted_rule (codes "to")
-    ∷ with_index 1 (filled file_names) ∷ [])
+    ∷ names_rule ∷ [])
+
+abbrev make_shape : Shape
+make_shape = shape_with (codes "make") (with_index 1 (filled (required_number (codes "number"))) ∷ [])
+
+abbrev local_shape : Shape
+local_shape = shape_with (codes "local") (wanted_rule (codes "script") ∷ map_rule ∷ names_rule ∷ [])
+
+-- The commands, as the parse has them.
+abbrev command_shapes : List Shape
+command_shapes =
+    drill_shape ∷ names_shape false (codes "yaml") ∷ names_shape true (codes "check") ∷ route_shape ∷ make_shape ∷ local_shape ∷ []
 
 -- What is known of rows that a command without a fault has found.
 record AreFound (s : Shape) (rows : List Row) : Type 0 where
-  full : Full rows
+  full : Full s.rules rows
   checks : check_fault s rows false ≡ []
 
-found_rows : (s : Shape) (words : List Text) → AllWant s.rules → Shortless s.rules → level_fault s [] nothing_held words false [] ≡ []
+found_rows : (s : Shape) (words : List Text) → AllWant s.rules s.rules → Shortless s.rules → level_fault s [] nothing_held words false [] ≡ []
     → AreFound s (rows_after s.rules [] words)
 found_rows s words all shortless quiet =
     let c = s.rules in
@@ -54,9 +69,11 @@ found_rows s words all shortless quiet =
     let defaults = defaults_fault (settled c end).rows c in
     let checks = check_fault s (finished c end) false in
     let later : or_else settles (or_else defaults checks) ≡ [] = second_none walks (or_else settles (or_else defaults checks)) quiet in
-    let full_end : Full end.rows = walk_full s [] (walk_from nothing_held) words all shortless tt (first_none walks (or_else settles (or_else defaults checks)) quiet) in
+    let full_end : Full c end.rows = walk_full s [] (walk_from nothing_held) words all shortless tt (first_none walks (or_else settles (or_else defaults checks)) quiet) in
     record {
-      full = defaults_full (settled c end).rows c (settle_full c s.args_override_self end all full_end (first_none settles (or_else defaults checks) later));
+      full =
+          defaults_full c (settled c end).rows c all (settle_full c s.args_override_self end all full_end (first_none settles (or_else defaults checks) later))
+          (first_none defaults checks (second_none settles (or_else defaults checks) later));
       checks = second_none defaults checks (second_none settles (or_else defaults checks) later);
     }
 
@@ -81,11 +98,27 @@ all_required false b c d quiet = absurd (some_kind MissingRequiredArgument [] qu
 abbrev IsThere : Text → List Row → Type 0
 IsThere name rows = is_some (first_of name rows) ≡ true
 
-drill_found : (words : List Text) → level_fault drill_shape [] nothing_held words false [] ≡ [] → IsThere (codes "script") (rows_after drill_shape.rules [] words)
+-- The rows of a command without a fault, whose first argument alone has to be there.
+abbrev FirstIsThere : Shape → Text → Type 0
+FirstIsThere s name = (words : List Text) → level_fault s [] nothing_held words false [] ≡ [] → HasRow s.rules name (rows_after s.rules [] words)
+
+drill_found : FirstIsThere drill_shape (codes "script")
 drill_found words quiet =
     let rows = rows_after drill_shape.rules [] words in
-    let found : AreFound drill_shape rows = found_rows drill_shape words (refl, tt) (λ x. refl) quiet in
-    given_first (codes "script") rows found.full (required (is_given (codes "script") rows) found.checks)
+    let found : AreFound drill_shape rows = found_rows drill_shape words ((refl, refl), ((refl, refl), ((refl, refl), tt))) (λ x. refl) quiet in
+    given_row drill_shape.rules (codes "script") rows found.full (required (is_given (codes "script") rows) found.checks)
+
+local_found : FirstIsThere local_shape (codes "script")
+local_found words quiet =
+    let rows = rows_after local_shape.rules [] words in
+    let found : AreFound local_shape rows = found_rows local_shape words ((refl, refl), ((refl, refl), ((refl, refl), tt))) (λ x. refl) quiet in
+    given_row local_shape.rules (codes "script") rows found.full (required (is_given (codes "script") rows) found.checks)
+
+make_found : FirstIsThere make_shape (codes "number")
+make_found words quiet =
+    let rows = rows_after make_shape.rules [] words in
+    let found : AreFound make_shape rows = found_rows make_shape words ((refl, refl), tt) (λ x. refl) quiet in
+    given_row make_shape.rules (codes "number") rows found.full (required (is_given (codes "number") rows) found.checks)
 
 -- The options of a route are there.
 record RouteIsThere (rows : List Row) : Type 0 where
@@ -96,87 +129,150 @@ record RouteIsThere (rows : List Row) : Type 0 where
 
 route_found : (words : List Text) → level_fault route_shape [] nothing_held words false [] ≡ [] → RouteIsThere (rows_after route_shape.rules [] words)
 route_found words quiet =
+    let c = route_shape.rules in
     let rows = rows_after route_shape.rules [] words in
-    let found : AreFound route_shape rows = found_rows route_shape words (refl, (refl, (refl, (refl, (refl, tt))))) (λ x. refl) quiet in
+    let found : AreFound route_shape rows = found_rows route_shape words ((refl, refl), ((refl, refl), ((refl, refl), ((refl, refl), ((refl, refl), tt))))) (λ x. refl) quiet in
     let given : AreGiven (is_given (codes "map") rows) (is_given (codes "kind") rows) (is_given (codes "from") rows) (is_given (codes "to") rows) =
     all_required (is_given (codes "map") rows) (is_given (codes "kind") rows) (is_given (codes "from") rows) (is_given (codes "to") rows) found.checks in
     record {
-      map_file = given_first (codes "map") rows found.full given.first;
-      kind = given_first (codes "kind") rows found.full given.second;
-      from = given_first (codes "from") rows found.full given.third;
-      to = given_first (codes "to") rows found.full given.fourth;
+      map_file = given_first c (codes "map") rows (given_row c (codes "map") rows found.full given.first);
+      kind = given_first c (codes "kind") rows (given_row c (codes "kind") rows found.full given.second);
+      from = given_first c (codes "from") rows (given_row c (codes "from") rows found.full given.third);
+      to = given_first c (codes "to") rows (given_row c (codes "to") rows found.full given.fourth);
     }
 
 -- A command has a request, or refuses the number of its names or a cell.
 abbrev HasRequest : Option (Text × List Row) → Type 0
 HasRequest found = (is_some (found_request found) ≡ true) ⊎ (NamesRefused found ⊎ CellRefused found)
 
-drill_request : (rows : List Row) → IsThere (codes "script") rows → HasRequest (Some (codes "drill", rows))
-unfolding command_request
-drill_request rows there = go (first_of (codes "script") rows) there
+drill_request : (rows : List Row) → HasRow drill_shape.rules (codes "script") rows → HasRequest (Some (codes "drill", rows))
+unfolding command_request drill_in
+drill_request rows has = go (first_of (codes "script") rows) (names_in 0 rows) refl refl (given_first drill_shape.rules (codes "script") rows has)
   where
-    go : (script : Option Text) → is_some script ≡ true → (is_some (option_map Drill script) ≡ true) ⊎ (NamesRefused (Some (codes "drill", rows)) ⊎ CellRefused (Some (codes "drill", rows)))
-    go None present = cc
-    go (Some script) present = inl refl
+    go : (script : Option Text) (names : Option (List Text)) → first_of (codes "script") rows ≡ script → names_in 0 rows ≡ names → is_some script ≡ true
+        → HasRequest (Some (codes "drill", rows))
+    go None names a b there = cc
+    go (Some script) None a b there = inr (inl b)
+    go (Some script) (Some names) a b there = inl (rw (a, b) refl)
 
 yaml_request : (rows : List Row) → HasRequest (Some (codes "yaml", rows))
 unfolding command_request
-yaml_request rows = go (names_in rows) refl
+yaml_request rows = go (names_in 1 rows) refl
   where
-    go : (names : Option (List Text)) → names_in rows ≡ names → HasRequest (Some (codes "yaml", rows))
-    go None is = inr (inl (inl refl, is))
+    go : (names : Option (List Text)) → names_in 1 rows ≡ names → HasRequest (Some (codes "yaml", rows))
+    go None is = inr (inl is)
     go (Some names) is = inl (rw is refl)
 
 check_request : (rows : List Row) → HasRequest (Some (codes "check", rows))
 unfolding command_request
-check_request rows = go (names_in rows) refl
+check_request rows = go (names_in 1 rows) refl
   where
-    go : (names : Option (List Text)) → names_in rows ≡ names → HasRequest (Some (codes "check", rows))
-    go None is = inr (inl (inr (inl refl), is))
+    go : (names : Option (List Text)) → names_in 1 rows ≡ names → HasRequest (Some (codes "check", rows))
+    go None is = inr (inl is)
     go (Some names) is = inl (rw is refl)
 
 -- A route is named, or the number of its rule files is not allowed, or a cell is none.
 route_is : (rows : List Row) (map_file kind : Option Text) (from to : Option CPos) (names : Option (List Text))
-    → first_of (codes "map") rows ≡ map_file → first_of (codes "kind") rows ≡ kind → cell_in (codes "from") rows ≡ from → cell_in (codes "to") rows ≡ to → names_in rows ≡ names
+    → first_of (codes "map") rows ≡ map_file → first_of (codes "kind") rows ≡ kind → cell_in (codes "from") rows ≡ from → cell_in (codes "to") rows ≡ to → names_in 1 rows ≡ names
     → is_some map_file ≡ true → is_some kind ≡ true → (is_some (option_map Route (route_in rows)) ≡ true) ⊎ (NamesRefused (Some (codes "route", rows)) ⊎ CellRefused (Some (codes "route", rows)))
 unfolding route_in
 route_is rows None kind from to names a b c d e there there' = cc
 route_is rows (Some map_file) None from to names a b c d e there there' = cc
 route_is rows (Some map_file) (Some kind) None to names a b c d e there there' = inr (inr (refl, inl c))
 route_is rows (Some map_file) (Some kind) (Some from) None names a b c d e there there' = inr (inr (refl, inr d))
-route_is rows (Some map_file) (Some kind) (Some from) (Some to) None a b c d e there there' = inr (inl (inr (inr refl), e))
+route_is rows (Some map_file) (Some kind) (Some from) (Some to) None a b c d e there there' = inr (inl e)
 route_is rows (Some map_file) (Some kind) (Some from) (Some to) (Some names) a b c d e there there' = inl (rw (a, b, c, d, e) refl)
 
 route_request : (rows : List Row) → RouteIsThere rows → HasRequest (Some (codes "route", rows))
 unfolding command_request
 route_request rows there =
-    route_is rows (first_of (codes "map") rows) (first_of (codes "kind") rows) (cell_in (codes "from") rows) (cell_in (codes "to") rows) (names_in rows)
+    route_is rows (first_of (codes "map") rows) (first_of (codes "kind") rows) (cell_in (codes "from") rows) (cell_in (codes "to") rows) (names_in 1 rows)
     refl refl refl refl refl there.map_file there.kind
 
--- Which of the commands was met.
-one_of : (drill yaml check route : Bool) → Option Shape
-one_of drill yaml check route =
-    cond drill (Some drill_shape) (cond yaml (Some (names_shape false (codes "yaml"))) (cond check (Some (names_shape true (codes "check"))) (cond route (Some route_shape) None)))
+number_there : (rows : List Row) → HasRow make_shape.rules (codes "number") rows → is_some (number_in (codes "number") rows) ≡ true
+unfolding number_in
+number_there rows has =
+    ap (λ (text : Option Text). is_some (option_and_then number_of text)) (given_one make_shape.rules (codes "number") rows has)
+    ∙ let_through has.first (both (is_signed_in (pos 0) (pos 4294967295) has.first) _ has.passes).0
 
-request_at : (words : List Text) (rows : List Row) (drill yaml check route : Bool)
-    → option_map_or (λ s. level_fault s [] nothing_held words false []) (one_of drill yaml check route) [] ≡ []
-    → check_fault bare_app.top rows (is_some (option_map (λ s. rows_at s words) (one_of drill yaml check route))) ≡ []
-    → HasRequest (option_map (λ s. rows_at s words) (one_of drill yaml check route))
-unfolding one_of bare_app
-request_at words rows true yaml check route quiet checks = drill_request (rows_after drill_shape.rules [] words) (drill_found words quiet)
-request_at words rows false true check route quiet checks = yaml_request (rows_after (names_shape false (codes "yaml")).rules [] words)
-request_at words rows false false true route quiet checks = check_request (rows_after (names_shape true (codes "check")).rules [] words)
-request_at words rows false false false true quiet checks = route_request (rows_after route_shape.rules [] words) (route_found words quiet)
-request_at words rows false false false false quiet checks = absurd (some_kind _ _ checks)
+make_request : (rows : List Row) → HasRow make_shape.rules (codes "number") rows → HasRequest (Some (codes "make", rows))
+unfolding command_request
+make_request rows has = go (number_in (codes "number") rows) refl (number_there rows has)
+  where
+    go : (number : Option ℕ) → number_in (codes "number") rows ≡ number → is_some number ≡ true → HasRequest (Some (codes "make", rows))
+    go None is there = cc
+    go (Some number) is there = inl (rw is refl)
+
+local_request : (rows : List Row) → HasRow local_shape.rules (codes "script") rows → HasRequest (Some (codes "local", rows))
+unfolding command_request drill_in
+local_request rows has = go (first_of (codes "script") rows) (names_in 0 rows) refl refl (given_first local_shape.rules (codes "script") rows has)
+  where
+    go : (script : Option Text) (names : Option (List Text)) → first_of (codes "script") rows ≡ script → names_in 0 rows ≡ names → is_some script ≡ true
+        → HasRequest (Some (codes "local", rows))
+    go None names a b there = cc
+    go (Some script) None a b there = inr (inl b)
+    go (Some script) (Some names) a b there = inl (rw (a, b) refl)
+
+-- Each of the commands, where its words have no fault.
+abbrev GivesRequest : Shape → Type 0
+GivesRequest s = (words : List Text) → level_fault s [] nothing_held words false [] ≡ [] → HasRequest (Some (rows_at s words))
+
+abbrev AllGiveRequests : List Shape → Type 0
+AllGiveRequests [] = Unit {0}
+AllGiveRequests (s ∷ shapes) = GivesRequest s × AllGiveRequests shapes
+
+all_give_requests : AllGiveRequests command_shapes
+all_give_requests = (
+  λ words quiet. drill_request (rows_after drill_shape.rules [] words) (drill_found words quiet),
+  (
+    λ words quiet. yaml_request (rows_after (names_rules false) [] words),
+    (
+      λ words quiet. check_request (rows_after (names_rules true) [] words),
+      (
+        λ words quiet. route_request (rows_after route_shape.rules [] words) (route_found words quiet),
+        (
+          λ words quiet. make_request (rows_after make_shape.rules [] words) (make_found words quiet),
+          (λ words quiet. local_request (rows_after local_shape.rules [] words) (local_found words quiet), tt),
+        ),
+      ),
+    ),
+  ),
+)
+
+-- The command of this name, of some commands.
+abbrev command_at : Text → List Shape → Option Shape
+command_at name = find (λ s. answers_to name (label_of s))
+
+request_at : (name : Text) (words : List Text) (shapes : List Shape) → AllGiveRequests shapes
+    → option_map_or (λ s. level_fault s [] nothing_held words false []) (command_at name shapes) [] ≡ []
+    → is_some (option_map (λ s. rows_at s words) (command_at name shapes)) ≡ true
+    → HasRequest (option_map (λ s. rows_at s words) (command_at name shapes))
+request_at name words [] all quiet there = cc
+request_at name words (s ∷ shapes) all quiet there = go (answers_to name (label_of s)) quiet there (request_at name words shapes all.1)
+  where
+    go : (b : Bool) → option_map_or (λ s. level_fault s [] nothing_held words false []) (cond b (Some s) (command_at name shapes)) [] ≡ []
+        → is_some (option_map (λ s. rows_at s words) (cond b (Some s) (command_at name shapes))) ≡ true
+        → (option_map_or (λ s. level_fault s [] nothing_held words false []) (command_at name shapes) [] ≡ []
+        → is_some (option_map (λ s. rows_at s words) (command_at name shapes)) ≡ true
+        → HasRequest (option_map (λ s. rows_at s words) (command_at name shapes)))
+        → HasRequest (option_map (λ s. rows_at s words) (cond b (Some s) (command_at name shapes)))
+    go true quiet there later = all.0 words quiet
+    go false quiet there later = later quiet there
+
+-- One of the commands has to be there.
+some_command : (rows : List Row) (has : Bool) → check_fault bare_app.top rows has ≡ [] → has ≡ true
+unfolding bare_app
+some_command rows true checks = refl
+some_command rows false checks = absurd (some_kind _ _ checks)
 
 stop_request : (stop : Option (Text × List Text)) (rows : List Row) → entered_fault (built lockstep_app) stop ≡ []
     → check_fault (built lockstep_app).top rows (is_some (entered (built lockstep_app) stop)) ≡ []
     → HasRequest (entered (built lockstep_app) stop)
-unfolding one_of lockstep_app bare_app drill_app yaml_app check_app routed_app ends_app route_app first_app
+unfolding all_commands
 stop_request None rows quiet checks = absurd (some_kind _ _ checks)
 stop_request (Some p) rows quiet checks =
-    request_at p.1 rows (answers_to p.0 (label_of drill_shape)) (answers_to p.0 (label_of (names_shape false (codes "yaml"))))
-    (answers_to p.0 (label_of (names_shape true (codes "check")))) (answers_to p.0 (label_of route_shape)) quiet checks
+    request_at p.0 p.1 command_shapes all_give_requests quiet
+    (some_command rows (is_some (option_map (λ s. rows_at s p.1) (command_at p.0 command_shapes))) checks)
 
 quiet_request : (words : List Text) → fault_of lockstep_app words ≡ [] → HasRequest (subcommand_of lockstep_app words)
 quiet_request words quiet =

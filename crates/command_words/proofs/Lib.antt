@@ -1,4 +1,6 @@
+pub mod OnCommands
 pub mod LiteralLemmas
+pub mod NumberLemmas
 pub mod FoundValuesLemmas
 pub mod PlainWordsLemmas
 pub mod NamesLemmas

@@ -3,20 +3,20 @@ use Rattle.std.proofs.Common.{◌≡◌, ◌==◌, Bool, true, false, [], ◌∷
 use Rattle.clap.specs.Walk.{Text}
 use Rattle.clap.proofs.OnLiterals.{clap_on_literals}
 use Rattle.clap.proofs.SimpleLemmas.{is_false}
-use Rattle.command_words.specs.RequestPlain.{Drill}
-use Rattle.command_words.specs.Commands.{bare_app, drill_app, yaml_app, check_app, routed_app, ends_app, route_app, first_app, lockstep_app}
-use Rattle.command_words.specs.Reading.{is_accepted, command_request, names_in, cell_in, route_in, request_of, is_plain}
+use Rattle.command_words.specs.RequestPlain.{Drill, drill_alone}
+use Rattle.command_words.specs.Reading.{request_of, is_plain}
+use Rattle.command_words.proofs.OnCommands.{all_commands, request_on_literals}
 
-pub script_after_equals : (program script : Text) → request_of (program ∷ codes "drill" ∷ (codes "--script=" ++ script) ∷ []) ≡ Some (Drill script)
-unfolding request_of is_accepted command_request names_in route_in cell_in lockstep_app bare_app drill_app yaml_app check_app routed_app ends_app route_app first_app clap_on_literals
+pub script_after_equals : (program script : Text) → request_of (program ∷ codes "drill" ∷ (codes "--script=" ++ script) ∷ []) ≡ Some (Drill (drill_alone script))
+unfolding request_on_literals all_commands clap_on_literals
 script_after_equals program script = refl
 
-pub script_in_a_word : (program script : Text) → is_plain script ≡ true → request_of (program ∷ codes "drill" ∷ codes "--script" ∷ script ∷ []) ≡ Some (Drill script)
-unfolding request_of is_accepted command_request names_in route_in cell_in lockstep_app bare_app drill_app yaml_app check_app routed_app ends_app route_app first_app clap_on_literals
+pub script_in_a_word : (program script : Text) → is_plain script ≡ true → request_of (program ∷ codes "drill" ∷ codes "--script" ∷ script ∷ []) ≡ Some (Drill (drill_alone script))
+unfolding request_on_literals all_commands clap_on_literals
 script_in_a_word program [] plain = refl
 script_in_a_word program (first ∷ []) plain = by_hyphen (first == 45) refl
   where
-    by_hyphen : (hyphen : Bool) → (first == 45) ≡ hyphen → request_of (program ∷ codes "drill" ∷ codes "--script" ∷ (first ∷ []) ∷ []) ≡ Some (Drill (first ∷ []))
+    by_hyphen : (hyphen : Bool) → (first == 45) ≡ hyphen → request_of (program ∷ codes "drill" ∷ codes "--script" ∷ (first ∷ []) ∷ []) ≡ Some (Drill (drill_alone (first ∷ [])))
     by_hyphen true is = simp is refl
     by_hyphen false is = simp is refl
 script_in_a_word program (first ∷ second ∷ rest) plain =
@@ -24,9 +24,9 @@ script_in_a_word program (first ∷ second ∷ rest) plain =
     simp other refl
 
 pub no_words : request_of [] ≡ None
-unfolding request_of is_accepted command_request names_in route_in cell_in lockstep_app bare_app drill_app yaml_app check_app routed_app ends_app route_app first_app clap_on_literals
+unfolding request_on_literals all_commands clap_on_literals
 no_words = refl
 
 pub alone : (program : Text) → request_of (program ∷ []) ≡ None
-unfolding request_of is_accepted command_request names_in route_in cell_in lockstep_app bare_app drill_app yaml_app check_app routed_app ends_app route_app first_app clap_on_literals
+unfolding request_on_literals all_commands clap_on_literals
 alone program = refl

@@ -10,8 +10,9 @@ use Rattle.clap.proofs.WalkLemmas.{walk_stopped}
 use Rattle.clap.proofs.FaultLemmas.{stopped_fault}
 use Rattle.clap.proofs.OnLiterals.{clap_on_literals}
 use Rattle.command_words.specs.RequestPlain.{Yaml, Check}
-use Rattle.command_words.specs.Commands.{bare_app, drill_app, yaml_app, check_app, routed_app, ends_app, route_app, first_app, lockstep_app}
-use Rattle.command_words.specs.Reading.{is_accepted, command_request, names_in, cell_in, route_in, found_request, request_of, allowed}
+use Rattle.command_words.specs.Commands.{lockstep_app}
+use Rattle.command_words.specs.Reading.{is_accepted, command_request, names_in, found_request, request_of, allowed}
+use Rattle.command_words.proofs.OnCommands.{all_commands, request_on_literals}
 use Rattle.command_words.proofs.PlainWordsLemmas.{IsPlain, level_quiet, rows_found, found_names}
 
 -- The walk of the whole command line, which stopped at a command.
@@ -26,7 +27,7 @@ above_fault app end kinds = or_else kinds (or_else (entered_fault app end.stoppe
     (check_fault app.top (finished app.top.rules end.held) (is_some (entered app end.stopped))))))
 
 yaml_quiet : (program word : Text) (words : List Text) → All IsPlain (word ∷ words) → fault_of lockstep_app (program ∷ codes "yaml" ∷ word ∷ words) ≡ []
-unfolding above_fault lockstep_app bare_app drill_app yaml_app check_app routed_app ends_app route_app first_app walked walk_fault defaults_fault
+unfolding above_fault all_commands walked walk_fault defaults_fault
 yaml_quiet program word words plain =
     let app = built lockstep_app in
     ap₂ (above_fault app)
@@ -36,22 +37,22 @@ yaml_quiet program word words plain =
 
 yaml_found : (program word : Text) (words : List Text) → All IsPlain (word ∷ words)
     → subcommand_of lockstep_app (program ∷ codes "yaml" ∷ word ∷ words) ≡ Some (codes "yaml", found_names (word ∷ words))
-unfolding lockstep_app bare_app drill_app yaml_app check_app routed_app ends_app route_app first_app walked
+unfolding all_commands walked
 yaml_found program word words plain =
     let app = built lockstep_app in
     ap (λ (end : Walk). entered app end.stopped)
     (sym (walk_stopped app.top.rules (names_of app) (walk_from nothing_held) (codes "yaml") [] (word ∷ words)))
     ∙ ap (λ (rows : List Row). Some (codes "yaml", rows)) (rows_found false word words plain)
 
-yaml_named : (word : Text) (words : List Text) → found_request (Some (codes "yaml", found_names (word ∷ words))) ≡ option_map Yaml (allowed (word ∷ words))
+yaml_named : (word : Text) (words : List Text) → found_request (Some (codes "yaml", found_names (word ∷ words))) ≡ option_map Yaml (allowed 1 (word ∷ words))
 unfolding command_request names_in
 yaml_named word words = refl
 
 yaml_nothing : (program : Text) → request_of (program ∷ codes "yaml" ∷ []) ≡ None
-unfolding request_of is_accepted command_request names_in route_in cell_in lockstep_app bare_app drill_app yaml_app check_app routed_app ends_app route_app first_app clap_on_literals
+unfolding request_on_literals all_commands clap_on_literals
 yaml_nothing program = refl
 
-pub yaml_names : (program : Text) (names : List Text) → All IsPlain names → request_of (program ∷ codes "yaml" ∷ names) ≡ option_map Yaml (allowed names)
+pub yaml_names : (program : Text) (names : List Text) → All IsPlain names → request_of (program ∷ codes "yaml" ∷ names) ≡ option_map Yaml (allowed 1 names)
 unfolding request_of is_accepted
 yaml_names program [] plain = yaml_nothing program
 yaml_names program (word ∷ words) plain =
@@ -60,7 +61,7 @@ yaml_names program (word ∷ words) plain =
     ∙ yaml_named word words
 
 check_quiet : (program word : Text) (words : List Text) → All IsPlain (word ∷ words) → fault_of lockstep_app (program ∷ codes "check" ∷ word ∷ words) ≡ []
-unfolding above_fault lockstep_app bare_app drill_app yaml_app check_app routed_app ends_app route_app first_app walked walk_fault defaults_fault
+unfolding above_fault all_commands walked walk_fault defaults_fault
 check_quiet program word words plain =
     let app = built lockstep_app in
     ap₂ (above_fault app)
@@ -70,22 +71,22 @@ check_quiet program word words plain =
 
 check_found : (program word : Text) (words : List Text) → All IsPlain (word ∷ words)
     → subcommand_of lockstep_app (program ∷ codes "check" ∷ word ∷ words) ≡ Some (codes "check", found_names (word ∷ words))
-unfolding lockstep_app bare_app drill_app yaml_app check_app routed_app ends_app route_app first_app walked
+unfolding all_commands walked
 check_found program word words plain =
     let app = built lockstep_app in
     ap (λ (end : Walk). entered app end.stopped)
     (sym (walk_stopped app.top.rules (names_of app) (walk_from nothing_held) (codes "check") [] (word ∷ words)))
     ∙ ap (λ (rows : List Row). Some (codes "check", rows)) (rows_found true word words plain)
 
-check_named : (word : Text) (words : List Text) → found_request (Some (codes "check", found_names (word ∷ words))) ≡ option_map (Check None) (allowed (word ∷ words))
+check_named : (word : Text) (words : List Text) → found_request (Some (codes "check", found_names (word ∷ words))) ≡ option_map (Check None) (allowed 1 (word ∷ words))
 unfolding command_request names_in
 check_named word words = refl
 
 check_nothing : (program : Text) → request_of (program ∷ codes "check" ∷ []) ≡ None
-unfolding request_of is_accepted command_request names_in route_in cell_in lockstep_app bare_app drill_app yaml_app check_app routed_app ends_app route_app first_app clap_on_literals
+unfolding request_on_literals all_commands clap_on_literals
 check_nothing program = refl
 
-pub check_names : (program : Text) (names : List Text) → All IsPlain names → request_of (program ∷ codes "check" ∷ names) ≡ option_map (Check None) (allowed names)
+pub check_names : (program : Text) (names : List Text) → All IsPlain names → request_of (program ∷ codes "check" ∷ names) ≡ option_map (Check None) (allowed 1 names)
 unfolding request_of is_accepted
 check_names program [] plain = check_nothing program
 check_names program (word ∷ words) plain =

@@ -1,9 +1,10 @@
 -- The command line as it is given to the library `clap`: one definition a command, and the one
 -- level above them. `clap`'s own definitions decide what is accepted, and what the words then name.
-use Rattle.std.specs.Prelude.{Some, true, codes}
+use Rattle.std.specs.Prelude.{Some, pos, true, codes}
 use Rattle.clap.specs.Walk.{Rule, Text}
 use Rattle.clap.specs.Simple.{App, new_app, new_rule, on_top, with_rule, with_subcommand}
 use Rattle.clap.specs.declared.builder.action.ArgAction.TheVariants.{Append}
+use Rattle.clap.specs.declared.builder.value_parser.ValueParser.TheVariants.{Signed}
 
 -- `--NAME VALUE`, which may be left out.
 abbrev pub option_named : Text → Rule
@@ -13,13 +14,26 @@ option_named name = record (new_rule name) { long = Some name }
 abbrev pub required_option : Text → Rule
 required_option name = record (option_named name) { required = true }
 
+-- `--NAME N`, which is required: a number that `clap`'s parser of `u32` takes.
+abbrev pub required_number : Text → Rule
+required_number name =
+    record (required_option name) { parser = Some (Signed (pos 0) (pos 4294967295)) }
+
 -- The positional arguments: names of files, any number of them.
 abbrev pub file_names : Rule
 file_names = record (new_rule (codes "names")) { action = Some Append }
 
--- `drill --script FILE`.
+-- `COMMAND --OPTION FILE --map FILE`, so far: a match is played over a file, and a map, if one is
+-- named.
+unfoldable pub played_app : (command option : Text) → App
+played_app command option =
+    with_rule
+    (with_rule (new_app command) (required_option option))
+    (option_named (codes "map"))
+
+-- `drill --script FILE --map FILE RULES`, where the map may be left out.
 unfoldable pub drill_app : App
-drill_app = with_rule (new_app (codes "drill")) (required_option (codes "script"))
+drill_app = with_rule (played_app (codes "drill") (codes "script")) file_names
 
 -- `yaml FILES`.
 unfoldable pub yaml_app : App
@@ -48,6 +62,14 @@ ends_app =
 unfoldable pub route_app : App
 route_app = with_rule ends_app file_names
 
+-- `make --number N`.
+unfoldable pub make_app : App
+make_app = with_rule (new_app (codes "make")) (required_number (codes "number"))
+
+-- `local --script FILE --map FILE RULES`, where the map may be left out.
+unfoldable pub local_app : App
+local_app = with_rule (played_app (codes "local") (codes "script")) file_names
+
 -- A command that one of its subcommands must follow, without words for help or the version.
 unfoldable pub bare_app : App
 bare_app = on_top (λ shape. record shape {
@@ -62,6 +84,10 @@ unfoldable pub first_app : App
 first_app =
     with_subcommand (with_subcommand bare_app drill_app.top) yaml_app.top
 
+-- The same with those that ask about rules and maps.
+unfoldable pub asking_app : App
+asking_app = with_subcommand (with_subcommand first_app check_app.top) route_app.top
+
 -- The whole command line.
 unfoldable pub lockstep_app : App
-lockstep_app = with_subcommand (with_subcommand first_app check_app.top) route_app.top
+lockstep_app = with_subcommand (with_subcommand asking_app make_app.top) local_app.top

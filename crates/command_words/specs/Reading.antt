@@ -1,31 +1,50 @@
 -- The request that the words of a command line name.
-use Rattle.std.specs.Prelude.{◌≡◌, ◌⊎◌, ℕ, ◌&&◌, ◌==◌, Bool, true, not, nat_lt, nat_le}
+use Rattle.std.specs.Prelude.{◌≡◌, ◌⊎◌, ℕ, ◌&&◌, ◌==◌, Bool, true, not, nat_le}
 use Rattle.std.specs.Prelude.{if◌then◌else◌, List, [], ◌∷◌, length, Option, None, Some, codes}
-use Rattle.std.specs.Prelude.{option_map, option_and_then}
+use Rattle.std.specs.Prelude.{option_map, option_and_then, unwrap_or}
+use Rattle.std.specs.Option.{IsSomeAnd}
 use Rattle.std.specs.Str.{bytes_eq}
-use Rattle.clap.specs.Walk.{Row, Text, all_of, first_of, is_empty}
+use Rattle.std.specs.Str.Parse.{digits_value, without_leading_plus}
+use Rattle.clap.specs.Walk.{Row, Text, all_of, first_of, one_of, is_empty}
 use Rattle.clap.specs.Simple.{subcommand_of}
+use Rattle.clap.specs.ValueTests.{is_unsigned_in}
 use Rattle.clap.specs.Faults.{fault_of}
 use Rattle.command_words.specs.declared.TheConstants.{MAX_FILES}
 use Rattle.rule_values.specs.Cells.{cell_of}
 use Rattle.world_units.specs.declared.cell.CPos.{CPos}
-use Rattle.command_words.specs.RequestPlain.{RequestPlain, Drill, Yaml, Check, Route, RoutePlain}
+use Rattle.command_words.specs.RequestPlain.{RequestPlain, Drill, Yaml, Check, Route, Make}
+use Rattle.command_words.specs.RequestPlain.{Local}
+use Rattle.command_words.specs.RequestPlain.{DrillPlain, RoutePlain}
 use Rattle.command_words.specs.Commands.{lockstep_app}
 
 -- `clap` accepts the words as a command line of `lockstep`.
 unfoldable pub is_accepted : List Text → Bool
 is_accepted words = is_empty (fault_of lockstep_app words)
 
--- So many positional arguments are allowed.
-abbrev pub is_allowed : ℕ → Bool
-is_allowed count = nat_lt 0 count && nat_le count MAX_FILES
+-- So many positional arguments are allowed, where a command takes at least so many.
+abbrev pub is_allowed : (least count : ℕ) → Bool
+is_allowed least count = nat_le least count && nat_le count MAX_FILES
 
-abbrev pub allowed : List Text → Option (List Text)
-allowed names = if is_allowed (length names) then Some names else None
+abbrev pub allowed : ℕ → List Text → Option (List Text)
+allowed least names = if is_allowed least (length names) then Some names else None
+
+-- The positional arguments; there are none where no use of them was found.
+abbrev pub all_names : List Row → List Text
+all_names found = unwrap_or (all_of (codes "names") found) []
 
 -- The positional arguments, where their number is allowed.
-unfoldable pub names_in : List Row → Option (List Text)
-names_in found = option_and_then allowed (all_of (codes "names") found)
+unfoldable pub names_in : ℕ → List Row → Option (List Text)
+names_in least found = allowed least (all_names found)
+
+-- The number that a text writes, as Rust reads a `u32`: a plus may stand before its digits.
+abbrev pub number_of : Text → Option ℕ
+number_of text =
+    if is_unsigned_in 0 4294967295 text
+    then Some (digits_value 10 (without_leading_plus text)) else None
+
+-- The number that an option writes, where it is given and writes one.
+unfoldable pub number_in : Text → List Row → Option ℕ
+number_in name found = option_and_then number_of (one_of name found)
 
 abbrev pub to_cell : ℕ × ℕ → CPos
 to_cell at = record { x = at.0; y = at.1 }
@@ -33,6 +52,18 @@ to_cell at = record { x = at.0; y = at.1 }
 -- The cell that an option writes, where it is given and writes one.
 unfoldable pub cell_in : Text → List Row → Option CPos
 cell_in name found = option_map to_cell (option_and_then cell_of (first_of name found))
+
+-- The drill that is to be run.
+unfoldable pub drill_in : List Row → Option DrillPlain
+drill_in found =
+    option_and_then (λ script.
+    option_map (λ rules. record {
+      script = script;
+      map_file = first_of (codes "map") found;
+      rules = rules;
+    })
+    (names_in 0 found))
+    (first_of (codes "script") found)
 
 -- The route that is asked for.
 unfoldable pub route_in : List Row → Option RoutePlain
@@ -48,7 +79,7 @@ route_in found =
       to = to;
       rules = rules;
     })
-    (names_in found))
+    (names_in 1 found))
     (cell_in (codes "to") found))
     (cell_in (codes "from") found))
     (first_of (codes "kind") found))
@@ -57,11 +88,14 @@ route_in found =
 -- The request of a command, with what was found after it.
 unfoldable pub command_request : Text → List Row → Option RequestPlain
 command_request command found =
-    if bytes_eq command (codes "drill") then option_map Drill (first_of (codes "script") found)
-    else if bytes_eq command (codes "yaml") then option_map Yaml (names_in found)
+    if bytes_eq command (codes "drill") then option_map Drill (drill_in found)
+    else if bytes_eq command (codes "yaml") then option_map Yaml (names_in 1 found)
     else if bytes_eq command (codes "check")
-    then option_map (Check (first_of (codes "map") found)) (names_in found)
+    then option_map (Check (first_of (codes "map") found)) (names_in 1 found)
     else if bytes_eq command (codes "route") then option_map Route (route_in found)
+    else if bytes_eq command (codes "make")
+    then option_map Make (number_in (codes "number") found)
+    else if bytes_eq command (codes "local") then option_map Local (drill_in found)
     else None
 
 -- The request of the command that the words name, if they name one.
@@ -75,12 +109,21 @@ unfoldable pub request_of : List Text → Option RequestPlain
 request_of words =
     if is_accepted words then found_request (subcommand_of lockstep_app words) else None
 
+-- How many positional arguments a command takes at least, if it takes some.
+abbrev pub least_names : Text → Option ℕ
+least_names command =
+    if bytes_eq command (codes "drill") then Some 0
+    else if bytes_eq command (codes "yaml") then Some 1
+    else if bytes_eq command (codes "check") then Some 1
+    else if bytes_eq command (codes "route") then Some 1
+    else if bytes_eq command (codes "local") then Some 0
+    else None
+
 -- The command takes positional arguments, and their number is not allowed.
 abbrev pub NamesRefused : Option (Text × List Row) → Type 0
 NamesRefused None = ⊥
 NamesRefused (Some command) =
-    ((command.0 ≡ codes "yaml") ⊎ ((command.0 ≡ codes "check") ⊎ (command.0 ≡ codes "route")))
-    × (names_in command.1 ≡ None)
+    IsSomeAnd (least_names command.0) (λ least. names_in least command.1 ≡ None)
 
 -- The command is `route`, and `--from` or `--to` writes no cell.
 abbrev pub CellRefused : Option (Text × List Row) → Type 0

@@ -1,10 +1,22 @@
 -- A request as plain data: names are lists of bytes.
-use Rattle.std.specs.Prelude.{ℕ, ◌≤◌, List, length, Option, option_map}
+use Rattle.std.specs.Prelude.{ℕ, ◌≤◌, List, [], length, Option, None, option_map}
+use Rattle.std.specs.Borrow.{Bor}
 use Rattle.world_units.specs.declared.cell.CPos.{CPos}
 use Rattle.command_words.specs.declared.TheConstants.{MAX_FILES}
+use Rattle.command_words.specs.declared.drill_query.DrillQuery.{DrillQuery}
 use Rattle.command_words.specs.declared.route_query.RouteQuery.{RouteQuery}
 use Rattle.command_words.specs.declared.request.Request.{Request}
 use Rattle.command_words.specs.declared.request.Request.TheVariants as request
+
+-- A drill that is to be run.
+pub record DrillPlain : Type 0 where
+  pub script : List ℕ
+  pub map_file : Option (List ℕ)
+  pub rules : List (List ℕ)
+
+-- A drill without a map and rules.
+abbrev pub drill_alone : List ℕ → DrillPlain
+drill_alone script = record { script = script; map_file = None; rules = [] }
 
 -- A route that is asked for.
 pub record RoutePlain : Type 0 where
@@ -15,10 +27,23 @@ pub record RoutePlain : Type 0 where
   pub rules : List (List ℕ)
 
 pub data RequestPlain : Type 0 where
-  Drill : (script : List ℕ) → RequestPlain
+  Drill : DrillPlain → RequestPlain
   Yaml : (files : List (List ℕ)) → RequestPlain
   Check : (map_file : Option (List ℕ)) → (rules : List (List ℕ)) → RequestPlain
   Route : RoutePlain → RequestPlain
+  Make : (number : ℕ) → RequestPlain
+  Local : DrillPlain → RequestPlain
+
+abbrev pub plain_name : Option (Bor (List ℕ)) → Option (List ℕ)
+plain_name = option_map (λ name. name.now)
+
+abbrev pub plain_drill : DrillQuery → DrillPlain
+plain_drill query =
+    record {
+      script = query.script.now;
+      map_file = plain_name query.map_file;
+      rules = query.rules;
+    }
 
 abbrev pub plain_route : RouteQuery → RoutePlain
 plain_route query =
@@ -32,14 +57,18 @@ plain_route query =
 
 -- The plain form of a request.
 abbrev pub plain_of : Request → RequestPlain
-plain_of (request.Drill script) = Drill script.now
+plain_of (request.Drill query) = Drill (plain_drill query)
 plain_of (request.Yaml files) = Yaml files
-plain_of (request.Check map_file rules) = Check (option_map (λ name. name.now) map_file) rules
+plain_of (request.Check map_file rules) = Check (plain_name map_file) rules
 plain_of (request.Route query) = Route (plain_route query)
+plain_of (request.Make number) = Make number
+plain_of (request.Local query) = Local (plain_drill query)
 
 -- A request has at most `MAX_FILES` positional arguments.
 abbrev pub HasFewFiles : Request → Type 0
-HasFewFiles (request.Drill script) = Unit {0}
+HasFewFiles (request.Drill query) = length query.rules ≤ MAX_FILES
 HasFewFiles (request.Yaml files) = length files ≤ MAX_FILES
 HasFewFiles (request.Check map_file rules) = length rules ≤ MAX_FILES
 HasFewFiles (request.Route query) = length query.rules ≤ MAX_FILES
+HasFewFiles (request.Make number) = Unit {0}
+HasFewFiles (request.Local query) = length query.rules ≤ MAX_FILES

@@ -1,20 +1,32 @@
 ghost use Rattle.std.specs.Prelude.{◌≡◌, IfOk, false};
-ghost use Rattle.command_words.specs.Commands.{bare_app, drill_app, yaml_app, check_app, route_app};
-ghost use Rattle.command_words.specs.Commands.{routed_app, ends_app, first_app};
-ghost use Rattle.command_words.specs.Commands.{lockstep_app, option_named, required_option};
+ghost use Rattle.command_words.specs.Commands.{bare_app, played_app, drill_app, yaml_app};
+ghost use Rattle.command_words.specs.Commands.{check_app, routed_app, ends_app, route_app, make_app};
+ghost use Rattle.command_words.specs.Commands.{local_app};
+ghost use Rattle.command_words.specs.Commands.{first_app, asking_app, lockstep_app};
+ghost use Rattle.command_words.specs.Commands.{option_named, required_option, required_number};
 ghost use Rattle.command_words.specs.Commands.{file_names};
 ghost use Rattle.command_words.specs.Follows.{Follows};
 ghost use Rattle.clap.specs.Simple.{app_of};
 ghost use Rattle.clap.specs.Walk.{rule_of};
 
 use base::NoMemory;
-use clap::{Arg, ArgAction, Command};
+use clap::{Arg, ArgAction, Command, value_parser};
 use std::alloc::Global;
 
 /// The command of the program itself, with its subcommands.
 #[tactic(auto, unfolding(crate::specs::Commands::lockstep_app))]
 pub(crate) fn lockstep_command<'a>(alloc: Global) -> Result<Command<'a>, NoMemory>
     ensures { IfOk result (λ command. app_of command ≡ lockstep_app) }
+{
+    let make = make_command(alloc)?;
+    let local = local_command(alloc)?;
+    asking_commands(alloc)?.subcommand(make)?.subcommand(local)
+}
+
+/// The command of the program with the subcommands that only ask about rules and maps, too.
+#[tactic(auto, unfolding(crate::specs::Commands::asking_app))]
+fn asking_commands<'a>(alloc: Global) -> Result<Command<'a>, NoMemory>
+    ensures { IfOk result (Follows asking_app) }
 {
     let check = check_command(alloc)?;
     let route = route_command(alloc)?;
@@ -47,8 +59,22 @@ fn bare_command<'a>(alloc: Global) -> Command<'a>
 fn drill_command<'a>(alloc: Global) -> Result<Command<'a>, NoMemory>
     ensures { IfOk result (Follows drill_app) }
 {
-    let script = required_option(alloc, "script");
-    Command::new(alloc, "drill").arg(script)
+    let names = file_names(alloc);
+    played_command(alloc, "drill", "script")?.arg(names)
+}
+
+/// A command that plays a match over the file of this option, and a map, if one is named, so far.
+#[tactic(auto, unfolding(crate::specs::Commands::played_app))]
+fn played_command<'a>(
+    alloc: Global,
+    command: &'a str,
+    option: &'a str,
+) -> Result<Command<'a>, NoMemory>
+    ensures { IfOk result (Follows (played_app command.entry.now option.entry.now)) }
+{
+    let file = required_option(alloc, option);
+    let map = option_named(alloc, "map");
+    Command::new(alloc, command).arg(file)?.arg(map)
 }
 
 #[tactic(auto, unfolding(crate::specs::Commands::yaml_app))]
@@ -96,6 +122,22 @@ fn routed_command<'a>(alloc: Global) -> Result<Command<'a>, NoMemory>
     Command::new(alloc, "route").arg(map)?.arg(kind)
 }
 
+#[tactic(auto, unfolding(crate::specs::Commands::local_app))]
+fn local_command<'a>(alloc: Global) -> Result<Command<'a>, NoMemory>
+    ensures { IfOk result (Follows local_app) }
+{
+    let names = file_names(alloc);
+    played_command(alloc, "local", "script")?.arg(names)
+}
+
+#[tactic(auto, unfolding(crate::specs::Commands::make_app))]
+fn make_command<'a>(alloc: Global) -> Result<Command<'a>, NoMemory>
+    ensures { IfOk result (Follows make_app) }
+{
+    let number = required_number(alloc, "number");
+    Command::new(alloc, "make").arg(number)
+}
+
 /// `--NAME VALUE`, which may be left out.
 fn option_named<'a>(alloc: Global, name: &'a str) -> Arg<'a>
     ensures rule { rule_of result ≡ option_named name.entry.now }
@@ -110,6 +152,14 @@ fn required_option<'a>(alloc: Global, name: &'a str) -> Arg<'a>
     ensures local { result.global ≡ false }
 {
     Arg::new(alloc, name).long(name).required(true)
+}
+
+/// `--NAME N`, which is required: a number that `clap`'s parser of `u32` takes.
+fn required_number<'a>(alloc: Global, name: &'a str) -> Arg<'a>
+    ensures rule { rule_of result ≡ required_number name.entry.now }
+    ensures local { result.global ≡ false }
+{
+    required_option(alloc, name).value_parser(value_parser!(u32))
 }
 
 /// The positional arguments: any number of them, each a use of its own.

@@ -1,7 +1,7 @@
 use std::marker::Model;
 
-/// Names of files, as the words have them, in their order. In a `Request` they are 1 to
-/// `MAX_FILES`.
+/// Names of files, as the words have them, in their order. In a `Request` they are at most
+/// `MAX_FILES`, and at least one where a command wants one.
 #[derive(Debug, Drop)]
 pub struct FileNames<'a> {
     held: Vec<&'a str>,
@@ -25,7 +25,7 @@ impl<'a> FileNames<'a> {
         FileNames { held }
     }
 
-    /// The names in their order. In a `Request` they are 1 to `MAX_FILES`.
+    /// The names in their order. In a `Request` they are at most `MAX_FILES`.
     pub fn as_slice(&self) -> &[&'a str]
         ensures { map (λ name. name.now) result.now ≡ self.now }
     {

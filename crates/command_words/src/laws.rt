@@ -3,7 +3,7 @@ ghost use Rattle.std.specs.Prelude.{option_map, is_some, ◌⊎◌};
 ghost use Rattle.std.specs.List.{All};
 ghost use Rattle.clap.specs.Simple.{subcommand_of};
 ghost use Rattle.command_words.specs.Commands.{lockstep_app};
-ghost use Rattle.command_words.specs.RequestPlain.{Drill, Yaml, Check};
+ghost use Rattle.command_words.specs.RequestPlain.{Drill, Yaml, Check, drill_alone};
 ghost use Rattle.command_words.specs.Reading.{request_of, is_accepted, is_plain, allowed};
 ghost use Rattle.command_words.specs.Reading.{NamesRefused, CellRefused};
 
@@ -19,7 +19,7 @@ pub fn no_command()
 pub fn script_after_equals()
     ensures { (program script : List ℕ) →
         request_of (program ∷ codes "drill" ∷ (codes "--script=" ++ script) ∷ [])
-        ≡ Some (Drill script) }
+        ≡ Some (Drill (drill_alone script)) }
 {}
 
 /// A law of the definition: `--script FILE` names FILE, if that does not begin with `-` or is `-`
@@ -28,7 +28,7 @@ pub fn script_after_equals()
 pub fn script_in_a_word()
     ensures { (program script : List ℕ) → is_plain script ≡ true →
         request_of (program ∷ codes "drill" ∷ codes "--script" ∷ script ∷ [])
-        ≡ Some (Drill script) }
+        ≡ Some (Drill (drill_alone script)) }
 {}
 
 /// A law of the definition: `yaml FILES` names exactly these words in their order, if none of them
@@ -37,7 +37,7 @@ pub fn script_in_a_word()
 pub fn yaml_names()
     ensures { (program : List ℕ) (names : List (List ℕ)) →
         All (λ name. is_plain name ≡ true) names →
-        request_of (program ∷ codes "yaml" ∷ names) ≡ option_map Yaml (allowed names) }
+        request_of (program ∷ codes "yaml" ∷ names) ≡ option_map Yaml (allowed 1 names) }
 {}
 
 /// A law of the definition: `check RULES` names exactly these words in their order, if none of them
@@ -46,11 +46,11 @@ pub fn yaml_names()
 pub fn check_names()
     ensures { (program : List ℕ) (names : List (List ℕ)) →
         All (λ name. is_plain name ≡ true) names →
-        request_of (program ∷ codes "check" ∷ names) ≡ option_map (Check None) (allowed names) }
+        request_of (program ∷ codes "check" ∷ names) ≡ option_map (Check None) (allowed 1 names) }
 {}
 
-/// A law of the definition: words that `clap` accepts name a request, unless they have too many
-/// positional arguments after `yaml`, `check` or `route`, or none, or a cell of `route` is none.
+/// A law of the definition: words that `clap` accepts name a request, unless a command that takes
+/// positional arguments has too many of them, or too few, or a cell of `route` is none.
 #[tactic(auto, using(crate::proofs::AcceptedLemmas::accepted_request))]
 pub fn accepted_words_name_a_request()
     ensures { (words : List (List ℕ)) → is_accepted words ≡ true →

@@ -7,6 +7,7 @@
 #![tactic(auto)]
 
 mod command;
+mod drill_query;
 mod file_names;
 mod laws;
 mod reading;
@@ -14,6 +15,7 @@ mod request;
 mod route_query;
 mod words_fault;
 
+pub use drill_query::DrillQuery;
 pub use file_names::FileNames;
 pub use laws::{
     accepted_words_name_a_request, check_names, no_command, script_after_equals, script_in_a_word,
@@ -24,7 +26,7 @@ pub use request::Request;
 pub use route_query::RouteQuery;
 pub use words_fault::WordsFault;
 
-/// The most positional arguments of `yaml`, `check` and `route`.
+/// The most positional arguments of a command that takes some.
 pub const MAX_FILES: usize = 64;
 
 #[cfg(test)]

@@ -5,12 +5,13 @@ ghost use Rattle.clap.specs.Walk.{rows_of, first_of, all_of};
 ghost use Rattle.clap.specs.Matches.{found_of};
 ghost use Rattle.clap.specs.Simple.{subcommand_of, subcommand_rows_of};
 ghost use Rattle.command_words.specs.Commands.{lockstep_app};
-ghost use Rattle.command_words.specs.RequestPlain.{plain_of, plain_route, HasFewFiles};
-ghost use Rattle.command_words.specs.Reading.{is_accepted, is_allowed, command_request, names_in};
-ghost use Rattle.command_words.specs.Reading.{found_request, request_of, cell_in, route_in};
+ghost use Rattle.command_words.specs.RequestPlain.{plain_of, plain_drill, plain_route, HasFewFiles};
+ghost use Rattle.command_words.specs.Reading.{is_accepted, is_allowed, command_request};
+ghost use Rattle.command_words.specs.Reading.{found_request, request_of, names_in, number_in};
+ghost use Rattle.command_words.specs.Reading.{cell_in, drill_in, route_in};
 
 use crate::command::lockstep_command;
-use crate::{FileNames, MAX_FILES, Request, RouteQuery, WordsFault};
+use crate::{DrillQuery, FileNames, MAX_FILES, Request, RouteQuery, WordsFault};
 use clap::ArgMatches;
 use clap::error::ErrorKind;
 use rule_values::read_cell;
@@ -87,19 +88,40 @@ fn request_for<'a>(
         command_request command.now (rows_of (found_of found.now)) ≡ None }
 {
     match command {
-        "drill" => Ok(Request::Drill {
-            script: value_in(found, "script").ok_or(WordsFault::Refused)?,
-        }),
+        "drill" => Ok(Request::Drill(drill_in(alloc, found)?)),
         "yaml" => Ok(Request::Yaml {
-            files: names_in(alloc, found)?,
+            files: names_in(alloc, found, 1)?,
         }),
         "check" => Ok(Request::Check {
             map_file: value_in(found, "map"),
-            rules: names_in(alloc, found)?,
+            rules: names_in(alloc, found, 1)?,
         }),
         "route" => Ok(Request::Route(route_in(alloc, found)?)),
+        "local" => Ok(Request::Local(drill_in(alloc, found)?)),
+        "make" => Ok(Request::Make {
+            number: number_in(found, "number").ok_or(WordsFault::Refused)?,
+        }),
         _ => Err(WordsFault::Refused),
     }
+}
+
+/// The drill that is to be run.
+#[tactic(auto, unfolding(crate::specs::Reading::drill_in))]
+fn drill_in<'a>(alloc: Global, found: &ArgMatches<'a>) -> Result<DrillQuery<'a>, WordsFault>
+    ensures query { IfOk result
+        (λ query. drill_in (rows_of (found_of found.now)) ≡ Some (plain_drill query)) }
+    ensures few { IfOk result (λ query. length query.rules ≤ MAX_FILES) }
+    ensures refused { result ≡ Err WordsFault.Refused →
+        drill_in (rows_of (found_of found.now)) ≡ None }
+{
+    let script = value_in(found, "script").ok_or(WordsFault::Refused)?;
+    let map_file = value_in(found, "map");
+    let rules = names_in(alloc, found, 0)?;
+    Ok(DrillQuery {
+        script,
+        map_file,
+        rules,
+    })
 }
 
 /// The route that is asked for.
@@ -115,7 +137,7 @@ fn route_in<'a>(alloc: Global, found: &ArgMatches<'a>) -> Result<RouteQuery<'a>,
     let kind = value_in(found, "kind").ok_or(WordsFault::Refused)?;
     let from = cell_in(found, "from").ok_or(WordsFault::Refused)?;
     let to = cell_in(found, "to").ok_or(WordsFault::Refused)?;
-    let rules = names_in(alloc, found)?;
+    let rules = names_in(alloc, found, 1)?;
     Ok(RouteQuery {
         map_file,
         kind,
@@ -142,31 +164,47 @@ fn cell_in(found: &ArgMatches<'_>, option: &str) -> Option<CPos>
     Some(CPos { x, y })
 }
 
-/// The positional arguments, where their number is allowed.
-#[tactic(auto, unfolding(crate::specs::Reading::names_in))]
-fn names_in<'a>(alloc: Global, found: &ArgMatches<'a>) -> Result<FileNames<'a>, WordsFault>
-    ensures few { IfOk result (λ names. length names ≤ MAX_FILES) }
-    ensures names { IfOk result (λ names. names_in (rows_of (found_of found.now)) ≡ Some names) }
-    ensures refused { result ≡ Err WordsFault.Refused →
-        names_in (rows_of (found_of found.now)) ≡ None }
+/// The number that an option writes, where it is given and writes one.
+#[tactic(auto, unfolding(crate::specs::Reading::number_in))]
+fn number_in(found: &ArgMatches<'_>, option: &str) -> Option<u32>
+    ensures { result ≡ number_in option.now (rows_of (found_of found.now)) }
 {
-    match all_names(found) {
-        Some(names) if is_allowed(names.len()) => Ok(FileNames::from_vec(names.to_vec(alloc)?)),
+    found.get_one(option)
+}
+
+/// The positional arguments, where there are at least so many and no more than are allowed.
+#[tactic(auto, unfolding(crate::specs::Reading::names_in))]
+fn names_in<'a>(
+    alloc: Global,
+    found: &ArgMatches<'a>,
+    least: usize,
+) -> Result<FileNames<'a>, WordsFault>
+    ensures few { IfOk result (λ names. length names ≤ MAX_FILES) }
+    ensures names { IfOk result
+        (λ names. names_in least (rows_of (found_of found.now)) ≡ Some names) }
+    ensures refused { result ≡ Err WordsFault.Refused →
+        names_in least (rows_of (found_of found.now)) ≡ None }
+{
+    match used_names(found) {
+        Some(names) if is_allowed(least, names.len()) => {
+            Ok(FileNames::from_vec(names.to_vec(alloc)?))
+        }
+        None if is_allowed(least, 0) => Ok(FileNames::from_vec(Vec::new(alloc))),
         _ => Err(WordsFault::Refused),
     }
 }
 
-/// All positional arguments; there are none where no use of them was found.
-fn all_names<'b, 'a>(found: &'b ArgMatches<'a>) -> Option<&'b [&'a str]>
+/// The positional arguments, where a use of them was found.
+fn used_names<'b, 'a>(found: &'b ArgMatches<'a>) -> Option<&'b [&'a str]>
     ensures { option_map (λ names. map (λ name. name.now) names.now) result
         ≡ all_of (codes "names") (rows_of (found_of found.now)) }
 {
     found.get_strs("names")
 }
 
-/// Whether so many positional arguments are allowed.
-fn is_allowed(count: usize) -> bool
-    ensures { result ≡ is_allowed count }
+/// Whether so many positional arguments are allowed, where a command takes at least so many.
+fn is_allowed(least: usize, count: usize) -> bool
+    ensures { result ≡ is_allowed least count }
 {
-    0 < count && count <= MAX_FILES
+    least <= count && count <= MAX_FILES
 }

@@ -1,3 +1,4 @@
+use crate::drill_query::DrillQuery;
 use crate::file_names::FileNames;
 use crate::route_query::RouteQuery;
 
@@ -5,11 +6,9 @@ use crate::route_query::RouteQuery;
 /// it was given.
 #[derive(Debug, Drop)]
 pub enum Request<'a> {
-    /// `drill --script FILE`: run the drill that the file holds.
-    Drill {
-        /// The name of the drill's file.
-        script: &'a str,
-    },
+    /// `drill --script FILE --map FILE RULES`: run the drill that the file holds, over the map and
+    /// the rules.
+    Drill(DrillQuery<'a>),
 
     /// `yaml FILES`: print the resolved forest of the files, taken together in this order.
     Yaml {
@@ -28,4 +27,14 @@ pub enum Request<'a> {
 
     /// `route --map FILE --kind NAME --from X,Y --to X,Y RULES`: print a route over the map.
     Route(RouteQuery<'a>),
+
+    /// `make --number N`: run the made match of this number.
+    Make {
+        /// The number of the match.
+        number: u32,
+    },
+
+    /// `local --script FILE --map FILE RULES`: play the script that the file holds on threads of
+    /// this machine, over the map and the rules.
+    Local(DrillQuery<'a>),
 }

@@ -1,6 +1,6 @@
 //! Command lines with the request that they name, or that are refused.
 
-use crate::{MAX_FILES, Request, RouteQuery, WordsFault, read_words};
+use crate::{DrillQuery, MAX_FILES, Request, RouteQuery, WordsFault, read_words};
 use base::NoMemory;
 use std::alloc::{AllocError, Global};
 use std::fmt::Write;
@@ -27,6 +27,25 @@ fn written(alloc: Global, command: &str, names: &[&str]) -> Result<String, NoMem
     Ok(text)
 }
 
+/// A command that plays a match: the file that it plays, and the map, if one is named.
+fn played_text(
+    alloc: Global,
+    command: &str,
+    file: &str,
+    map_file: Option<&str>,
+) -> Result<String, NoMemory> {
+    match map_file {
+        Some(map_file) => format!(in alloc; "{command} <{file}> map <{map_file}>"),
+        None => format!(in alloc; "{command} <{file}>"),
+    }
+}
+
+/// The command of a drill or of a local match.
+fn match_text(alloc: Global, command: &str, query: &DrillQuery<'_>) -> Result<String, NoMemory> {
+    let command = played_text(alloc, command, query.script, query.map_file)?;
+    written(alloc, &command, query.rules.as_slice())
+}
+
 /// The command of a route and its options.
 fn route_text(alloc: Global, query: &RouteQuery<'_>) -> Result<String, NoMemory> {
     let (map_file, kind) = (query.map_file, query.kind);
@@ -40,7 +59,9 @@ fn route_text(alloc: Global, query: &RouteQuery<'_>) -> Result<String, NoMemory>
 /// The request that a list of words names, of which the first is the program's name.
 fn request_text(alloc: Global, words: &[String]) -> Result<String, NoMemory> {
     match read_words(alloc, words) {
-        Ok(Request::Drill { script }) => written(alloc, "drill", &[script]),
+        Ok(Request::Drill(query)) => match_text(alloc, "drill", &query),
+        Ok(Request::Local(query)) => match_text(alloc, "local", &query),
+        Ok(Request::Make { number }) => format!(in alloc; "make {number}"),
         Ok(Request::Yaml { files }) => written(alloc, "yaml", files.as_slice()),
         Ok(
             Request::Check {
@@ -125,11 +146,7 @@ const REFUSED_AFTER: [&str; 36] = [
     "drill|d",
     "drill|",
     "drill|-",
-    "drill|--script|d|e",
-    "drill|e|--script|d",
-    "drill|--script|d|--|e",
     "drill|--|--script|d",
-    "drill|--script|d|--map|m",
     "drill|--script|d|--record=r",
     "drill|--scrip|d",
     "drill|--SCRIPT|d",
@@ -138,6 +155,10 @@ const REFUSED_AFTER: [&str; 36] = [
     "drill|---script|d",
     "drill|--=d",
     "drill|script=d",
+    "drill|--map|m|r",
+    "local",
+    "local|--script|s|--script|s",
+    "drill|--script|d|--map",
     // `yaml` and `check`: names, in their order, and no option.
     "yaml",
     "yaml|--",
@@ -151,11 +172,16 @@ const REFUSED_AFTER: [&str; 36] = [
 ];
 
 /// Words with the request that they name.
-const ACCEPTED_LINES: [(&str, &str); 28] = [
+const ACCEPTED_LINES: [(&str, &str); 37] = [
     // There is no help and no version.
     ("yaml|help", "yaml <help>"),
     // `drill`: its option once, with one value.
     ("drill|--script|d", "drill <d>"),
+    ("local|--script|s", "local <s>"),
+    (
+        "local|b|--map=--|a|--script=|b|--|--map",
+        "local <> map <--> <b> <a> <b> <--map>",
+    ),
     ("drill|--script=d", "drill <d>"),
     ("drill|--script=d=e", "drill <d=e>"),
     ("drill|--script=--script", "drill <--script>"),
@@ -175,6 +201,19 @@ const ACCEPTED_LINES: [(&str, &str); 28] = [
     ("drill|--script=--", "drill <-->"),
     // Names, other options and other spellings of the option.
     ("drill|--script|d|--", "drill <d>"),
+    ("drill|--script|d|e", "drill <d> <e>"),
+    ("drill|e|--script|d", "drill <d> <e>"),
+    ("drill|--script|d|--|e", "drill <d> <e>"),
+    ("drill|--script|d|--map|m", "drill <d> map <m>"),
+    (
+        "drill|b|--map=--|a|--script=s|b",
+        "drill <s> map <--> <b> <a> <b>",
+    ),
+    (
+        "drill|--script|d|--|--map|m|--record",
+        "drill <d> <--map> <m> <--record>",
+    ),
+    ("drill|--map=|--script=|", "drill <> map <> <>"),
     // `yaml` and `check`: names, in their order, and no option.
     ("yaml|a", "yaml <a>"),
     ("yaml|b|a|b", "yaml <b> <a> <b>"),
@@ -185,6 +224,51 @@ const ACCEPTED_LINES: [(&str, &str); 28] = [
     ("yaml|yaml|check", "yaml <yaml> <check>"),
     ("check|r.yaml", "check <r.yaml>"),
     ("check|r|-|--|--map|m", "check <r> <-> <--map> <m>"),
+];
+
+/// Words after `make` that are refused.
+const REFUSED_NUMBERS: [&str; 24] = [
+    "make",
+    "make|7",
+    "make|--number",
+    "make|--number|7|--number|7",
+    "make|--number=7|--number=8",
+    "make|--number|7|r",
+    "make|--number|7|--|r",
+    "make|--number|7|--map|m",
+    "make|--number|7|--script|d",
+    "make|--numbe|7",
+    "make|-n|7",
+    // A number has a digit, and nothing but digits after its sign.
+    "make|--number|",
+    "make|--number=",
+    "make|--number|+",
+    "make|--number=-",
+    "make|--number|-",
+    "make|--number|1 ",
+    "make|--number|1_000",
+    "make|--number|0x7",
+    "make|--number|7.0",
+    "make|--number=++7",
+    // It is 0 to 4,294,967,295, and a word of its own does not begin with `-`.
+    "make|--number|4294967296",
+    "make|--number=-7",
+    "make|--number|-0",
+];
+
+/// Words after `make` with the request that they name.
+const ACCEPTED_NUMBERS: [(&str, &str); 11] = [
+    ("make|--number|7", "make 7"),
+    ("make|--number=7", "make 7"),
+    ("make|--number|0", "make 0"),
+    ("make|--number|007", "make 7"),
+    ("make|--number|+7", "make 7"),
+    ("make|--number=+007", "make 7"),
+    ("make|--number=-0", "make 0"),
+    ("make|--number|4294967295", "make 4294967295"),
+    ("make|--number|+0000000004294967295", "make 4294967295"),
+    ("make|--number|00000000000000000000000000", "make 0"),
+    ("make|--number|7|--", "make 7"),
 ];
 
 /// Words after `check` and `route` that are refused.
@@ -278,6 +362,28 @@ fn accepted_queries(rt: HostRuntime) -> Result<(), Fail> {
 }
 
 #[test]
+fn refused_numbers(rt: HostRuntime) -> Result<(), Fail> {
+    let alloc = rt.alloc();
+    for words in REFUSED_NUMBERS {
+        let line = command_line(alloc, words)?;
+        let got = request_text(alloc, &line)?;
+        assert_eq!(rt; got.as_str(), REFUSED, "of {words}");
+    }
+    Ok(())
+}
+
+#[test]
+fn accepted_numbers(rt: HostRuntime) -> Result<(), Fail> {
+    let alloc = rt.alloc();
+    for (words, want) in ACCEPTED_NUMBERS {
+        let line = command_line(alloc, words)?;
+        let got = request_text(alloc, &line)?;
+        assert_eq!(rt; got.as_str(), want, "of {words}");
+    }
+    Ok(())
+}
+
+#[test]
 fn lines_without_a_command(rt: HostRuntime) -> Result<(), Fail> {
     let alloc = rt.alloc();
     for words in WITHOUT_A_COMMAND {
@@ -333,11 +439,21 @@ fn request_of_many(alloc: Global, command: &str, count: usize) -> Result<String,
     request_text(alloc, &line)
 }
 
+/// Commands with what they print before their names, and whether they want a name.
+const COMMANDS_OF_NAMES: [(&str, &str, bool); 3] = [
+    ("yaml", "yaml", true),
+    ("check", "check", true),
+    ("drill|--script|s", "drill <s>", false),
+];
+
 #[test]
 fn numbers_of_names(rt: HostRuntime) -> Result<(), Fail> {
     let alloc = rt.alloc();
-    for command in ["yaml", "check"] {
-        let mut most = String::from_str(alloc, command)?;
+    for (command, printed, wants_a_name) in COMMANDS_OF_NAMES {
+        let none = request_of_many(alloc, command, 0)?;
+        let fewest = if wants_a_name { REFUSED } else { printed };
+        assert_eq!(rt; none.as_str(), fewest, "of {command}");
+        let mut most = String::from_str(alloc, printed)?;
         for i in 0..MAX_FILES {
             write!(most, " <{i}>")?;
         }

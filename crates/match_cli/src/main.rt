@@ -1,9 +1,10 @@
-//! The program `lockstep`: it hands its words, the real files and the real output to `run`.
+//! The program `lockstep`: it hands its words, the real files and the real output to `run`, or to
+//! `run_waiting`, where the command is one of that call's.
 #![tactic(auto)]
 
 use command_answers::OUT_OF_MEMORY;
-use game_io::{FileDisk, StdSink};
-use match_commands::run;
+use game_io::{FileDisk, MemNet, MemSource, NoGate, StdSink};
+use match_commands::{may_wait, run, run_waiting};
 use std::io::ErrorKind;
 use std::process::ExitCode;
 use std::{env, io};
@@ -28,5 +29,20 @@ fn main(rt: HostRuntime) -> ExitCode {
     };
     let mut disk = FileDisk::new(&rt);
     let mut out = StdSink::new(io::writer(&rt));
-    ExitCode::from(run(rt.alloc(), &words, &mut disk, &mut out))
+    if !may_wait(&words) {
+        return ExitCode::from(run(rt.alloc(), &words, &mut disk, &mut out));
+    }
+    // No command uses a net or a console yet.
+    let mut net = MemNet::new(rt.alloc(), Vec::new(rt.alloc()));
+    let mut console = MemSource::new(Vec::new(rt.alloc()), Vec::new(rt.alloc()));
+    ExitCode::from(run_waiting(
+        &rt,
+        rt.alloc(),
+        &words,
+        &mut disk,
+        &mut out,
+        &mut net,
+        &mut console,
+        &NoGate,
+    ))
 }

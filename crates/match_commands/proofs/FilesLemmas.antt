@@ -1,47 +1,85 @@
--- The commands over rules and a map.
-use Rattle.std.proofs.Common.{◌≡◌, ◌≤◌, ℕ, List, Option, None, Ok, Result, IfSome, IfNone, sym, subst}
+-- The commands over rules and a map, and over a script after them.
+use Rattle.std.proofs.Common.{◌≡◌, ◌≤◌, ℕ, List, [], Option, None, Some, Ok, Result, IfSome, IfNone, refl, sym, subst, arith}
 use Rattle.std.specs.Global.{Vec}
 use Rattle.base.specs.Cause.{Rose}
 use Rattle.command_words.specs.RequestPlain.{RequestPlain}
+use Rattle.game_io.specs.Files.{Files}
 use Rattle.game_io.specs.DiskState.{DiskState}
 use Rattle.game_io.specs.SinkState.{SinkState}
 use Rattle.command_answers.specs.declared.stop.Stop.{Stop}
-use Rattle.command_answers.specs.WantedFiles.{in_order, rules_and_map}
+use Rattle.command_answers.specs.Step.{Step, replied}
+use Rattle.command_answers.specs.WantedFiles.{WantedFiles, no_files, in_order}
 use Rattle.command_answers.specs.Contents.{Contents, contents_of, IsFirstThere, AreContents}
 use Rattle.command_answers.specs.Causes.{causes_of}
 use Rattle.command_answers.specs.Outside.{outside}
 use Rattle.command_answers.specs.Stop.{IsReadStop, IsUntoldStop, ReturnsStep, PrintsStop, PrintsText}
-use Rattle.match_commands.specs.Request.{wanted, written_by, text_of}
+use Rattle.match_commands.specs.Request.{wanted, written_by, answer_of, given_reply, text_reply}
 use Rattle.match_commands.specs.Run.{RunsRequest}
-use Rattle.match_commands.proofs.RequestLemmas.{request_given, request_stopped, text_printed}
+use Rattle.match_commands.proofs.RequestLemmas.{Printed, request_given, request_stopped, text_printed}
 
--- The files were read, and the command's text was printed.
-pub files_given :
-    (request : RequestPlain) (names : List (List ℕ)) (map_file : Option (List ℕ)) (contents : Contents) (text : Result (Vec ℕ) Stop) (status : ℕ) (d d' : DiskState) (s s' : SinkState) →
-    wanted request ≡ rules_and_map names map_file → written_by request ≡ None →
+-- The contents of no files.
+abbrev pub no_contents : Contents
+no_contents = record { rules = []; map_file = None; script = None; replay = None }
+
+-- The files were read, and the answer to their contents was printed.
+pub all_given :
+    (request : RequestPlain) (all : WantedFiles) (contents : Contents) (status : ℕ) (d d' : DiskState) (s s' : SinkState) →
+    wanted request ≡ all → written_by request ≡ None →
     d'.files ≡ d.files → d.faults ≤ d'.faults → s.faults ≤ s'.faults →
-    IfSome d.files (λ files. contents_of (rules_and_map names map_file) files ≡ Ok contents) →
-    IfNone d.files (AreContents (rules_and_map names map_file) contents) →
-    ReturnsStep text (λ text. text.items) (text_of request contents) →
-    PrintsText text status s s' →
+    IfSome d.files (λ files. contents_of all files ≡ Ok contents) →
+    IfNone d.files (AreContents all contents) →
+    Printed (given_reply request contents) status d d' s s' →
     RunsRequest request status (causes_of (outside d s) (outside d' s')) (outside d s) (outside d' s')
-files_given request names map_file contents text status d d' s s' wants none same later later' told untold returns prints =
+all_given request all contents status d d' s s' wants none same later later' told untold printed =
     request_given request contents status d d' s s' none same later later'
     (subst (λ wanted. IfSome d.files (λ files. contents_of wanted files ≡ Ok contents)) (sym wants) told)
     (subst (λ wanted. IfNone d.files (AreContents wanted contents)) (sym wants) untold)
-    (text_printed text (text_of request contents) status d d' s s' same returns prints)
+    printed
+
+-- The same for a command that prints a text.
+pub files_given :
+    (request : RequestPlain) (all : WantedFiles) (contents : Contents) (text : Result (Vec ℕ) Stop) (step : Step (List ℕ)) (status : ℕ) (d d' : DiskState) (s s' : SinkState) →
+    wanted request ≡ all → written_by request ≡ None →
+    d'.files ≡ d.files → d.faults ≤ d'.faults → s.faults ≤ s'.faults →
+    IfSome d.files (λ files. contents_of all files ≡ Ok contents) →
+    IfNone d.files (AreContents all contents) →
+    ReturnsStep text (λ text. text.items) step → answer_of request contents ≡ text_reply step →
+    PrintsText text status s s' →
+    RunsRequest request status (causes_of (outside d s) (outside d' s')) (outside d s) (outside d' s')
+files_given request all contents text step status d d' s s' wants none same later later' told untold returns answers prints =
+    all_given request all contents status d d' s s' wants none same later later' told untold
+    (subst (λ answer. Printed (replied answer) status d d' s s') (sym answers)
+    (text_printed text step status d d' s s' same returns prints))
+
+-- A command that reads no files and prints a text.
+pub nothing_read :
+    (request : RequestPlain) (text : Result (Vec ℕ) Stop) (step : Step (List ℕ)) (status : ℕ) (d : DiskState) (s s' : SinkState) →
+    wanted request ≡ no_files → written_by request ≡ None → s.faults ≤ s'.faults →
+    ReturnsStep text (λ text. text.items) step → answer_of request no_contents ≡ text_reply step →
+    PrintsText text status s s' →
+    RunsRequest request status (causes_of (outside d s) (outside d s')) (outside d s) (outside d s')
+nothing_read request text step status d s s' wants none later' returns answers prints =
+    files_given request no_files no_contents text step status d d s s' wants none refl (omega arith) later'
+    (told d.files) (untold d.files) returns answers prints where
+      told : (o : Option Files) → IfSome o (λ files. contents_of no_files files ≡ Ok no_contents)
+      told None = tt
+      told (Some files) = refl
+
+      untold : (o : Option Files) → IfNone o (AreContents no_files no_contents)
+      untold None = record { rules = tt; map_file = tt; script = tt; replay = tt }
+      untold (Some files) = tt
 
 -- One of them was not.
 pub files_stopped :
-    (request : RequestPlain) (names : List (List ℕ)) (map_file : Option (List ℕ)) (stop : Stop) (status : ℕ) (d d' : DiskState) (s s' : SinkState) →
-    wanted request ≡ rules_and_map names map_file → written_by request ≡ None →
+    (request : RequestPlain) (all : WantedFiles) (stop : Stop) (status : ℕ) (d d' : DiskState) (s s' : SinkState) →
+    wanted request ≡ all → written_by request ≡ None →
     d'.files ≡ d.files → d.faults ≤ d'.faults → s.faults ≤ s'.faults →
-    IfSome d.files (λ files. IsReadStop stop (contents_of (rules_and_map names map_file) files)
-    (IsFirstThere (in_order (rules_and_map names map_file)) files × Rose d.faults d'.faults)) →
-    IfNone d.files (IsUntoldStop stop (in_order (rules_and_map names map_file)) (Rose d.faults d'.faults)) →
+    IfSome d.files (λ files. IsReadStop stop (contents_of all files)
+    (IsFirstThere (in_order all) files × Rose d.faults d'.faults)) →
+    IfNone d.files (IsUntoldStop stop (in_order all) (Rose d.faults d'.faults)) →
     PrintsStop stop status s s' →
     RunsRequest request status (causes_of (outside d s) (outside d' s')) (outside d s) (outside d' s')
-files_stopped request names map_file stop status d d' s s' wants none same later later' told untold prints =
+files_stopped request all stop status d d' s s' wants none same later later' told untold prints =
     request_stopped request stop status d d' s s' none same later later'
     (subst (λ wanted. IfSome d.files (λ files. IsReadStop stop (contents_of wanted files) (IsFirstThere (in_order wanted) files × Rose d.faults d'.faults))) (sym wants) told)
     (subst (λ wanted. IfNone d.files (IsUntoldStop stop (in_order wanted) (Rose d.faults d'.faults))) (sym wants) untold)

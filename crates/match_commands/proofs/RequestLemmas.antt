@@ -3,7 +3,7 @@ use Rattle.std.proofs.Common.{◌≡◌, ◌≤◌, ◌⊎◌, ℕ, List, [], �
 use Rattle.std.specs.Global.{Vec}
 use Rattle.base.specs.Cause.{Rose}
 use Rattle.base.specs.Steps.{◌>>=◌}
-use Rattle.command_words.specs.RequestPlain.{RequestPlain, Drill}
+use Rattle.command_words.specs.RequestPlain.{RequestPlain}
 use Rattle.game_io.specs.Files.{Files}
 use Rattle.game_io.specs.DiskState.{DiskState}
 use Rattle.game_io.specs.SinkState.{SinkState}
@@ -12,25 +12,19 @@ use Rattle.command_answers.specs.declared.stop.Stop.{Stop}
 use Rattle.command_answers.specs.declared.stop.Stop.TheVariants.{Refused, ReadFault, NoMemory}
 use Rattle.command_answers.specs.FileWrite.{OnlyChanges}
 use Rattle.command_answers.specs.Reply.{Reply, done, refusal, read_fault}
-use Rattle.command_answers.specs.Step.{Step, ended}
+use Rattle.command_answers.specs.Step.{Step, ended, replied}
 use Rattle.command_answers.specs.Causes.{causes_of}
 use Rattle.command_answers.specs.Outside.{outside}
 use Rattle.command_answers.specs.Outcome.{IsPrinted, IsAnswered}
 use Rattle.command_answers.specs.Printing.{PrintsReply, MayPrintReply}
-use Rattle.command_answers.specs.WantedFiles.{WantedFiles, no_files, in_order, rule_file, script_file}
+use Rattle.command_answers.specs.WantedFiles.{WantedFiles, no_files, in_order, rule_file}
 use Rattle.command_answers.specs.Contents.{Contents, contents_of, read_after, content_of, IsFirstThere, AreWithinLimits, AreContents}
-use Rattle.match_commands.specs.Drills.{drill_step, drill_reply}
-use Rattle.match_commands.specs.Request.{wanted, written_by, text_of, given_reply, reply_to}
+use Rattle.match_commands.specs.Request.{wanted, written_by, answer_of, text_reply, given_reply, reply_to}
 use Rattle.match_commands.specs.Run.{RunsRequest}
 use Rattle.command_answers.specs.Stop.{IsReadStop, IsUntoldStop, ReturnsStep, PrintsStop, PrintsText}
 use Rattle.command_answers.specs.OptionLemmas.{map_some, map_none}
 use Rattle.command_answers.specs.CausesLemmas.{HasCauses, at_done, at_file, at_memory, at_write, at_read}
 use Rattle.command_answers.specs.OutcomeLemmas.{printed_outcome, answered_outcome, memory_outcome}
-
--- The reply of a command to files that were read: it is done or refuses a file, and writes none.
-pub record IsOfFiles (reply : Reply) : Type 0 where
-  pub status : (reply.status ≡ DONE) ⊎ (reply.status ≡ REFUSED_FILE)
-  pub write : reply.write ≡ None
 
 -- What was printed for a command's text: the reply, and the causes of the status.
 pub record Printed (reply : Reply) (status : ℕ) (d d' : DiskState) (s s' : SinkState) : Type 0 where
@@ -75,16 +69,16 @@ memory_printed reply status d d' s s' same memory = record {
 pub text_printed :
     (text : Result (Vec ℕ) Stop) (step : Step (List ℕ)) (status : ℕ) (d d' : DiskState) (s s' : SinkState) →
     d'.files ≡ d.files → ReturnsStep text (λ text. text.items) step → PrintsText text status s s' →
-    Printed (ended step done) status d d' s s'
+    Printed (replied (text_reply step)) status d d' s s'
 text_printed (Ok text) step status d d' s s' same returns prints =
-    subst (λ step. Printed (ended step done) status d d' s s') (sym returns)
+    subst (λ step. Printed (replied (text_reply step)) status d d' s s') (sym returns)
     (done_printed text.items status d d' s s' same (inl prints))
 text_printed (Err (Refused name place cause)) step status d d' s s' same returns prints =
-    subst (λ step. Printed (ended step done) status d d' s s') (sym returns)
+    subst (λ step. Printed (replied (text_reply step)) status d d' s s') (sym returns)
     (refusal_printed name.now place cause.now status d d' s s' same prints)
 text_printed (Err ReadFault) step status d d' s s' same returns prints = absurd returns
 text_printed (Err NoMemory) step status d d' s s' same returns prints =
-    memory_printed (ended step done) status d d' s s' same prints
+    memory_printed (replied (text_reply step)) status d d' s s' same prints
 
 -- All files were read, and the answer to their contents was printed.
 pub request_given :
@@ -106,7 +100,7 @@ request_given request contents status d d' s s' none same later later' told unto
   answer : (files : Files) → contents_of (wanted request) files ≡ Ok contents →
       IsAnswered (reply_to request files) status (causes_of (outside d s) (outside d' s')) (outside d s) (outside d' s')
   answer files read =
-      subst (λ step. IsAnswered (ended (step >>= text_of request) done) status (causes_of (outside d s) (outside d' s')) (outside d s) (outside d' s'))
+      subst (λ step. IsAnswered (replied (step >>= answer_of request)) status (causes_of (outside d s) (outside d' s')) (outside d s) (outside d' s'))
       (sym read) printed.answered
 
   only : written_by request ≡ None → OnlyChanges (written_by request) d.files d'.files
@@ -144,7 +138,7 @@ request_stopped request (Refused name place cause) status d d' s s' none same la
   answer : (files : Files) → contents_of (wanted request) files ≡ Err reply →
       IsAnswered (reply_to request files) status (causes_of (outside d s) (outside d' s')) (outside d s) (outside d' s')
   answer files read =
-      subst (λ step. IsAnswered (ended (step >>= text_of request) done) status (causes_of (outside d s) (outside d' s')) (outside d s) (outside d' s'))
+      subst (λ step. IsAnswered (replied (step >>= answer_of request)) status (causes_of (outside d s) (outside d' s')) (outside d s) (outside d' s'))
       (sym read) printed.answered
 request_stopped request ReadFault status d d' s s' none same later later' told untold prints = record {
   told = map_some d.files _ _ (λ files read. inr (read.0, read.1, outcome)) told;
@@ -221,57 +215,26 @@ pub rules_stop_untold :
     IfNone o (IsUntoldStop stop (map rule_file names) R) → IfNone o (IsUntoldStop stop (in_order (rules_alone names)) R)
 rules_stop_untold names stop R o = map_none o (λ stops. subst (λ all. IsUntoldStop stop all R) (sym (rules_in_order names)) stops)
 
--- ---- a script
-
-abbrev pub script_contents : List ℕ → Contents
-script_contents bytes = record { rules = []; map_file = None; script = Some bytes; replay = None }
-
-pub script_told :
-    (script bytes : List ℕ) (o : Option Files) →
-    IfSome o (λ files. content_of (script_file script) (files script) ≡ Ok bytes) →
-    IfSome o (λ files. contents_of (wanted (Drill script)) files ≡ Ok (script_contents bytes))
-script_told script bytes o =
-    map_some o _ _ (λ files read. ap (λ step. (step >>= λ bytes. Ok (Some bytes)) >>= λ script. Ok (record { rules = []; map_file = None; script = script; replay = None })) read)
-
-pub script_untold :
-    (script bytes : List ℕ) (o : Option Files) →
-    IfNone o (length bytes ≤ (script_file script).limit) → IfNone o (AreContents (wanted (Drill script)) (script_contents bytes))
-script_untold script bytes o = map_none o (λ short. record { rules = tt; map_file = tt; script = short; replay = tt })
-
-script_stop :
-    (script : List ℕ) (stop : Stop) (files : Files) (R : Type 0) →
-    IsReadStop stop (content_of (script_file script) (files script)) (IsSome (files script) × R) →
-    IsReadStop stop (contents_of (wanted (Drill script)) files) (IsFirstThere (in_order (wanted (Drill script))) files × R)
-script_stop script (Refused name place cause) files R stops =
-    ap (λ step. (step >>= λ bytes. Ok (Some bytes)) >>= λ script. Ok (record { rules = []; map_file = None; script = script; replay = None })) stops
-script_stop script ReadFault files R stops = stops
-script_stop script NoMemory files R stops = tt
-
-pub script_stop_told :
-    (script : List ℕ) (stop : Stop) (R : Type 0) (o : Option Files) →
-    IfSome o (λ files. IsReadStop stop (content_of (script_file script) (files script)) (IsSome (files script) × R)) →
-    IfSome o (λ files. IsReadStop stop (contents_of (wanted (Drill script)) files) (IsFirstThere (in_order (wanted (Drill script))) files × R))
-script_stop_told script stop R o = map_some o _ _ (λ files stops. script_stop script stop files R stops)
-
 -- ---- the commands
 
 -- Rule files were read, and the command's text was printed.
 pub rules_given :
-    (request : RequestPlain) (names contents : List (List ℕ)) (text : Result (Vec ℕ) Stop) (status : ℕ) (d d' : DiskState) (s s' : SinkState) →
+    (request : RequestPlain) (names contents : List (List ℕ)) (text : Result (Vec ℕ) Stop) (step : Step (List ℕ)) (status : ℕ) (d d' : DiskState) (s s' : SinkState) →
     wanted request ≡ rules_alone names → written_by request ≡ None →
     d'.files ≡ d.files → d.faults ≤ d'.faults → s.faults ≤ s'.faults →
     IfSome d.files (λ files. read_after [] (map rule_file names) files ≡ Ok contents) →
     IfNone d.files (AreWithinLimits (map rule_file names) contents) →
-    ReturnsStep text (λ text. text.items) (text_of request (rule_contents contents)) →
+    ReturnsStep text (λ text. text.items) step → answer_of request (rule_contents contents) ≡ text_reply step →
     PrintsText text status s s' →
     RunsRequest request status (causes_of (outside d s) (outside d' s')) (outside d s) (outside d' s')
-rules_given request names contents text status d d' s s' wants none same later later' told untold returns prints =
+rules_given request names contents text step status d d' s s' wants none same later later' told untold returns answers prints =
     request_given request (rule_contents contents) status d d' s s' none same later later'
     (subst (λ wanted. IfSome d.files (λ files. contents_of wanted files ≡ Ok (rule_contents contents))) (sym wants)
     (rules_told names contents d.files told))
     (subst (λ wanted. IfNone d.files (AreContents wanted (rule_contents contents))) (sym wants)
     (rules_untold names contents d.files untold))
-    (text_printed text (text_of request (rule_contents contents)) status d d' s s' same returns prints)
+    (subst (λ answer. Printed (replied answer) status d d' s s') (sym answers)
+    (text_printed text step status d d' s s' same returns prints))
 
 -- A rule file was not read.
 pub rules_stopped :
@@ -290,46 +253,3 @@ rules_stopped request names stop status d d' s s' wants none same later later' t
     (subst (λ wanted. IfNone d.files (IsUntoldStop stop (in_order wanted) (Rose d.faults d'.faults)))
     (sym wants) (rules_stop_untold names stop (Rose d.faults d'.faults) d.files untold))
     prints
-
--- The text of a command, which is a step's, was printed piece by piece, or the step's refusal was.
-pub step_printed :
-    (step : Step (List ℕ)) (status : ℕ) (d d' : DiskState) (s s' : SinkState) →
-    IsOfFiles (ended step done) → d'.files ≡ d.files → MayPrintReply (ended step done) status s s' →
-    Printed (ended step done) status d d' s s'
-step_printed step status d d' s s' of same prints = record {
-  answered = answered_outcome (ended step done) status d d' s s' of.write same prints;
-  causes = cause of.status prints;
-} where
-  cause : ((ended step done).status ≡ DONE) ⊎ ((ended step done).status ≡ REFUSED_FILE) → MayPrintReply (ended step done) status s s' →
-      HasCauses status (Rose d.faults d'.faults) (Rose s.faults s'.faults)
-  cause (inl done) (inl (inl wrote)) = at_done status _ _ (wrote.0 ∙ done)
-  cause (inr file) (inl (inl wrote)) = at_file status _ _ (wrote.0 ∙ file)
-  cause of (inl (inr cut)) = at_write status _ _ cut.1 cut.0
-  cause of (inr memory) = at_memory status _ _ memory.0
-
--- A script was read, and the drill was run or refused.
-pub script_given :
-    (script bytes given : List ℕ) (status : ℕ) (d d' : DiskState) (s s' : SinkState) →
-    given ≡ bytes → IsOfFiles (drill_reply script given) →
-    d'.files ≡ d.files → d.faults ≤ d'.faults → s.faults ≤ s'.faults →
-    IfSome d.files (λ files. content_of (script_file script) (files script) ≡ Ok bytes) →
-    IfNone d.files (length bytes ≤ (script_file script).limit) →
-    MayPrintReply (drill_reply script given) status s s' →
-    RunsRequest (Drill script) status (causes_of (outside d s) (outside d' s')) (outside d s) (outside d' s')
-script_given script bytes given status d d' s s' is of same later later' told untold prints =
-    request_given (Drill script) (script_contents bytes) status d d' s s' refl same later later'
-    (script_told script bytes d.files told) (script_untold script bytes d.files untold)
-    (subst (λ bytes. Printed (drill_reply script bytes) status d d' s s') is
-    (step_printed (drill_step script given) status d d' s s' of same prints))
-
--- The script was not read.
-pub script_stopped :
-    (script : List ℕ) (stop : Stop) (status : ℕ) (d d' : DiskState) (s s' : SinkState) →
-    d'.files ≡ d.files → d.faults ≤ d'.faults → s.faults ≤ s'.faults →
-    IfSome d.files (λ files. IsReadStop stop (content_of (script_file script) (files script)) (IsSome (files script) × Rose d.faults d'.faults)) →
-    IfNone d.files (IsUntoldStop stop (script_file script ∷ []) (Rose d.faults d'.faults)) →
-    PrintsStop stop status s s' →
-    RunsRequest (Drill script) status (causes_of (outside d s) (outside d' s')) (outside d s) (outside d' s')
-script_stopped script stop status d d' s s' same later later' told untold prints =
-    request_stopped (Drill script) stop status d d' s s' refl same later later'
-    (script_stop_told script stop (Rose d.faults d'.faults) d.files told) untold prints

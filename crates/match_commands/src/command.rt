@@ -1,26 +1,28 @@
 ghost use Rattle.std.specs.Prelude.{◌≡◌, ◌≤◌, length, map, option_map, string_bytes};
 ghost use Rattle.command_words.specs.RequestPlain.{Drill, Yaml, Check, Route, plain_of};
-ghost use Rattle.command_words.specs.RequestPlain.{plain_route, HasFewFiles};
+ghost use Rattle.command_words.specs.RequestPlain.{plain_drill, plain_route, HasFewFiles};
 ghost use Rattle.command_words.specs.Reading.{request_of};
 ghost use Rattle.command_answers.specs.Causes.{causes_of};
 ghost use Rattle.command_answers.specs.Outside.{outside};
-ghost use Rattle.command_answers.specs.Printing.{MayPrintReply};
-ghost use Rattle.match_commands.specs.Drills.{drill_reply};
 ghost use Rattle.match_commands.specs.Run.{Runs, RunsRequest};
+ghost use Rattle.match_commands.specs.TopCalls.{returning, returning_request};
 
-use crate::worlds::run_worlds;
+use crate::making::make_text;
+use crate::preparing::prepare_drill;
+use crate::worlds::print_report;
 use command_answers::{
-    OUT_OF_MEMORY, drill_stop, print_stop, print_text, read_files, read_one, read_rules,
-    refuse_words,
+    OUT_OF_MEMORY, print_stop, print_text, read_files, read_rules, read_script_files, refuse_words,
 };
-use command_words::{FileNames, MAX_FILES, Request, RouteQuery, WordsFault, read_words};
-use drill_words::{MAX_DRILL_BYTES, read_drill};
+use command_words::{
+    DrillQuery, FileNames, MAX_FILES, Request, RouteQuery, WordsFault, read_words,
+};
 use game_io::{Disk, Sink};
 use rule_commands::{check_text, route_text, yaml_text};
 use std::alloc::Global;
 
-/// Runs the command that the words name; the first word is the program's name. It changes no file
-/// that the words don't name to be written, and returns:
+/// Runs the command that the words name, where it is one that always returns; the first word is the
+/// program's name. All other commands are those of [`run_waiting`](crate::run_waiting), and are
+/// refused here as words. It changes no file that the words don't name to be written, and returns:
 ///
 /// - 0, the command is done, and exactly its text was written;
 /// - 2, the words are refused;
@@ -31,7 +33,8 @@ use std::alloc::Global;
 pub fn run<D: Disk, K: Sink>(alloc: Global, words: &[String], disk: &mut D, out: &mut K) -> u8
     ensures { let old = outside (D.state disk.old) (K.state out.old) in
         let new = outside (D.state disk.new) (K.state out.new) in
-        Runs (request_of (map string_bytes words.now)) result (causes_of old new) old new }
+        Runs (returning_request (request_of (map string_bytes words.now))) result
+        (causes_of old new) old new }
 {
     match read_words(alloc, words) {
         Ok(request) => run_request(alloc, &request, disk, out),
@@ -40,7 +43,7 @@ pub fn run<D: Disk, K: Sink>(alloc: Global, words: &[String], disk: &mut D, out:
     }
 }
 
-/// Runs the command of a request.
+/// Runs the command of a request, where it always returns, and refuses every other one as words.
 fn run_request<D: Disk, K: Sink>(
     alloc: Global,
     request: &Request<'_>,
@@ -50,38 +53,34 @@ fn run_request<D: Disk, K: Sink>(
     requires { HasFewFiles request.now }
     ensures { let old = outside (D.state disk.old) (K.state out.old) in
         let new = outside (D.state disk.new) (K.state out.new) in
-        RunsRequest (plain_of request.now) result (causes_of old new) old new }
+        Runs (returning (plain_of request.now)) result (causes_of old new) old new }
 {
     match request {
-        Request::Drill { script } => run_script(alloc, script, disk, out),
+        Request::Drill(query) => run_script(alloc, query, disk, out),
         Request::Yaml { files } => run_yaml(alloc, files, disk, out),
         Request::Check { map_file, rules } => run_check(alloc, *map_file, rules, disk, out),
         Request::Route(query) => run_route(alloc, query, disk, out),
+        Request::Make { number } => print_text(alloc, make_text(alloc, *number), out),
+        Request::Local(_) => refuse_words(out),
     }
 }
 
-/// The command `drill`: reads the script and runs it.
-fn run_script<D: Disk, K: Sink>(alloc: Global, script: &str, disk: &mut D, out: &mut K) -> u8
+/// The command `drill`: reads rule files, a map for them and the script, and runs it.
+fn run_script<D: Disk, K: Sink>(
+    alloc: Global,
+    query: &DrillQuery<'_>,
+    disk: &mut D,
+    out: &mut K,
+) -> u8
+    requires { length query.now.rules ≤ MAX_FILES }
     ensures { let old = outside (D.state disk.old) (K.state out.old) in
         let new = outside (D.state disk.new) (K.state out.new) in
-        RunsRequest (Drill script.now) result (causes_of old new) old new }
+        RunsRequest (Drill (plain_drill query.now)) result (causes_of old new) old new }
 {
-    match read_one(alloc, disk, script, MAX_DRILL_BYTES) {
-        Ok(bytes) => run_bytes(alloc, script, &bytes, out),
+    let names = query.rules.as_slice();
+    match read_script_files(alloc, disk, names, query.map_file, query.script) {
+        Ok(given) => print_report(alloc, prepare_drill(alloc, query, &given), out),
         Err(stop) => print_stop(alloc, stop, out),
-    }
-}
-
-/// Runs the drill of these bytes, or refuses the file.
-fn run_bytes<K: Sink>(alloc: Global, script: &str, bytes: &[u8], out: &mut K) -> u8
-    requires { length bytes.now ≤ MAX_DRILL_BYTES }
-    ensures prints { MayPrintReply (drill_reply script.now bytes.now) result
-        (K.state out.old) (K.state out.new) }
-    ensures later { (K.state out.old).faults ≤ (K.state out.new).faults }
-{
-    match read_drill(alloc, bytes) {
-        Ok(drill) => run_worlds(alloc, &drill, out),
-        Err(fault) => print_stop(alloc, drill_stop(script, &fault), out),
     }
 }
 

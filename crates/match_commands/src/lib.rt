@@ -1,14 +1,20 @@
 //! The top calls of the program `lockstep`: they read their words, run the command that the words
 //! name over a disk, and print the answer.
 //!
-//! `run` is the whole program over any disk and any sink. Its clause says what is printed and which
-//! status is answered, for every list of words and every content of the files. The program hands it
-//! the real ones.
+//! `run` has the commands that always return, and `run_waiting` those that may wait for threads or
+//! links; each refuses the other's. Both are the whole program over any disk and any sink, and
+//! `run_waiting` also over any net and console. Their clauses say what is printed and which status is
+//! answered, for every list of words and every content of the files. The program hands them the real
+//! ones.
 #![tactic(auto)]
 
 mod command;
+mod making;
+mod preparing;
 #[cfg(test)]
 mod tests;
+mod waiting;
 mod worlds;
 
 pub use command::run;
+pub use waiting::{may_wait, run_waiting};

@@ -6,17 +6,18 @@ use Rattle.clap.specs.Kinds.{Kinds, IsAmong}
 use Rattle.clap.specs.declared.error.kind.ErrorKind.{ErrorKind}
 use Rattle.clap.specs.declared.error.kind.ErrorKind.TheVariants.{OutOfMemory}
 use Rattle.clap.proofs.OnLiterals.{clap_on_literals}
-use Rattle.command_words.specs.Commands.{bare_app, drill_app, yaml_app, check_app, routed_app, ends_app, route_app, first_app, lockstep_app}
+use Rattle.command_words.specs.Commands.{lockstep_app}
 use Rattle.command_words.specs.Reading.{is_accepted}
+use Rattle.command_words.proofs.OnCommands.{all_commands}
 use Rattle.command_words.proofs.reading.matches_of.Goals as goal
 
 -- `clap` says of such a command exactly what it finds and what it refuses.
 simple : is_simple lockstep_app ≡ true
-unfolding lockstep_app bare_app drill_app yaml_app check_app routed_app ends_app route_app first_app clap_on_literals
+unfolding all_commands clap_on_literals
 simple = refl
 
 free : is_simple_and_free lockstep_app ≡ true
-unfolding lockstep_app bare_app drill_app yaml_app check_app routed_app ends_app route_app first_app clap_on_literals
+unfolding all_commands clap_on_literals
 free = refl
 
 -- An error of one of these kinds, other than out of memory, says that there is such a kind.

@@ -1,6 +1,7 @@
-use Rattle.match_commands.proofs.RunLemmas.{accepted_runs}
+use Rattle.match_commands.specs.TopCalls.{returning}
+use Rattle.match_commands.proofs.RunLemmas.{named_runs}
 use Rattle.match_commands.proofs.command.run.Goals as goal
 
 -- The words name a request.
 pub returns-in-Ok : goal.returns-in-Ok
-returns-in-Ok g c = accepted_runs _ _ _ _ _ _ c.in-Ok.ensures.request c.run_request.ensures
+returns-in-Ok g c = named_runs returning _ _ _ _ _ _ c.in-Ok.ensures.request c.run_request.ensures

@@ -1,18 +1,33 @@
-use Rattle.match_commands.proofs.RequestLemmas.{script_given, script_stopped}
-use Rattle.match_commands.proofs.DrillLemmas.{drill_of_files}
+use Rattle.std.proofs.Common.{refl, sym, ap, map}
+use Rattle.command_words.specs.RequestPlain.{Drill, plain_drill}
+use Rattle.command_answers.specs.Given.{script_contents}
+use Rattle.command_answers.specs.WantedFiles.{rules_and_map, with_script}
+use Rattle.match_commands.specs.Drills.{prepared_step}
+use Rattle.match_commands.proofs.DrillLemmas.{report_printed}
+use Rattle.match_commands.proofs.FilesLemmas.{all_given, files_stopped}
 use Rattle.match_commands.proofs.command.run_script.Goals as goal
 
--- The script was read.
+-- The files were read.
 pub returns-in-Ok : goal.returns-in-Ok
 returns-in-Ok g c =
-    script_given c.args.script.now c.in-Ok.bytes.items c.deref.result.now c.run_bytes.result _ _ _ _
-    c.deref.ensures.value (drill_of_files c.args.script.now c.deref.result.now)
-    c.in-Ok.ensures.files c.in-Ok.ensures.later c.run_bytes.ensures.later c.in-Ok.ensures.told c.in-Ok.ensures.untold
-    c.run_bytes.ensures.prints
+    let query = plain_drill c.args.query.now in
+    let contents = script_contents c.in-Ok.given in
+    let d = g.D.Disk.state c.args.disk.now in
+    let d' = g.D.Disk.state c.read_script_files.new.disk in
+    let s = g.K.Sink.state c.args.out.now in
+    let s' = g.K.Sink.state c.print_report.new.out in
+    all_given (Drill query) (with_script query.script (rules_and_map (map (λ name. name.now) c.as_slice-names.result.now) query.map_file)) contents c.print_report.result d d' s s'
+    (ap (λ names. with_script query.script (rules_and_map names query.map_file)) (sym c.as_slice-names.ensures)) refl
+    c.in-Ok.ensures.files c.in-Ok.ensures.later c.print_report.ensures.later c.in-Ok.ensures.told c.in-Ok.ensures.untold
+    (report_printed c.prepare_drill.result (prepared_step query contents) c.print_report.result d d' s s' c.in-Ok.ensures.files
+    c.prepare_drill.ensures c.print_report.ensures.prints)
 
--- It was not.
+-- One of them was not.
 pub returns-in-Err : goal.returns-in-Err
 returns-in-Err g c =
-    script_stopped c.args.script.now c.in-Err.stop c.print_stop.result _ _ _ _
+    let query = plain_drill c.args.query.now in
+    files_stopped (Drill query) (with_script query.script (rules_and_map (map (λ name. name.now) c.as_slice-names.result.now) query.map_file)) c.in-Err.stop c.print_stop.result
+    (g.D.Disk.state c.args.disk.now) (g.D.Disk.state c.read_script_files.new.disk) (g.K.Sink.state c.args.out.now) (g.K.Sink.state c.print_stop.new.out)
+    (ap (λ names. with_script query.script (rules_and_map names query.map_file)) (sym c.as_slice-names.ensures)) refl
     c.in-Err.ensures.files c.in-Err.ensures.later c.print_stop.ensures.later c.in-Err.ensures.told c.in-Err.ensures.untold
     c.print_stop.ensures.prints

@@ -17,9 +17,9 @@ returns-in-Ok g c =
     let s' = g.K.Sink.state c.print_text.new.out in
     subst (λ names. RunsRequest (Yaml names) c.print_text.result (causes_of (outside d s) (outside d' s')) (outside d s) (outside d' s'))
     c.as_slice-names.ensures
-    (rules_given (Yaml names) names contents c.yaml_text.result c.print_text.result d d' s s' refl refl
+    (rules_given (Yaml names) names contents c.yaml_text.result _ c.print_text.result d d' s s' refl refl
     c.in-Ok.ensures.files c.in-Ok.ensures.later c.print_text.ensures.later c.in-Ok.ensures.told c.in-Ok.ensures.untold
-    (rw c.deref.ensures.value at c.yaml_text.ensures) c.print_text.ensures.prints)
+    (rw c.deref.ensures.value at c.yaml_text.ensures) refl c.print_text.ensures.prints)
 
 -- One of them was not.
 pub returns-in-Err : goal.returns-in-Err

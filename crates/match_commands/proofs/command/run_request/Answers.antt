@@ -1,0 +1,26 @@
+use Rattle.std.proofs.Common.{refl}
+use Rattle.command_words.specs.RequestPlain.{Make}
+use Rattle.match_commands.specs.Made.{make_step}
+use Rattle.match_commands.proofs.FilesLemmas.{nothing_read}
+use Rattle.match_commands.proofs.RunLemmas.{request_runs}
+use Rattle.match_commands.proofs.command.run_request.Goals as goal
+
+pub returns-in-Drill : goal.returns-in-Drill
+returns-in-Drill g c = request_runs _ _ _ _ _ c.run_script.ensures
+
+pub returns-in-Yaml : goal.returns-in-Yaml
+returns-in-Yaml g c = request_runs _ _ _ _ _ c.run_yaml.ensures
+
+pub returns-in-Check : goal.returns-in-Check
+returns-in-Check g c = request_runs _ _ _ _ _ c.run_check.ensures
+
+pub returns-in-Route : goal.returns-in-Route
+returns-in-Route g c = request_runs _ _ _ _ _ c.run_route.ensures
+
+-- The made match reads no files.
+pub returns-in-Make : goal.returns-in-Make
+returns-in-Make g c =
+    request_runs _ _ _ _ _
+    (nothing_read (Make c.in-Make.number.now) c.make_text.result (make_step c.in-Make.number.now) c.print_text.result
+    (g.D.Disk.state c.args.disk.now) (g.K.Sink.state c.args.out.now) (g.K.Sink.state c.print_text.new.out)
+    refl refl c.print_text.ensures.later c.make_text.ensures refl c.print_text.ensures.prints)
