@@ -1,5 +1,6 @@
 pub mod FileWrite
 pub mod Reply
+pub mod Answer
 pub mod Causes
 pub mod Outside
 pub mod Outcome

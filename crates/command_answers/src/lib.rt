@@ -8,14 +8,18 @@
 //! any sink, whichever of their calls fail.
 #![tactic(auto)]
 
+mod answer;
 mod files;
 mod print;
 mod script_stop;
 mod statuses;
 mod stop;
 
+pub use answer::{Answer, FileBytes};
 pub use files::{GivenFiles, MAX_RULE_BYTES, read_files, read_one, read_rules, read_script_files};
 pub use print::{print_last, print_stop, print_text, refuse_words};
 pub use script_stop::drill_stop;
-pub use statuses::{DONE, FAULT_READ, FAULT_WRITE, OUT_OF_MEMORY, REFUSED_FILE, REFUSED_WORDS};
+pub use statuses::{
+    DONE, FAULT_READ, FAULT_WRITE, MARK_DIFFERS, OUT_OF_MEMORY, REFUSED_FILE, REFUSED_WORDS,
+};
 pub use stop::Stop;

@@ -15,3 +15,6 @@ pub const FAULT_WRITE: u8 = 5;
 
 /// Out of memory.
 pub const OUT_OF_MEMORY: u8 = 6;
+
+/// A mark differs from the hash of the world after its frames.
+pub const MARK_DIFFERS: u8 = 7;
