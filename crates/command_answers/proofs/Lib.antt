@@ -1,3 +1,3 @@
 pub mod ContentsLemmas
 pub mod FilesLemmas
-pub mod ScriptLemmas
+pub mod PlayedLemmas

@@ -1,4 +1,5 @@
 -- What failed in a call. Each field is that the count of faults of an object rose in it.
+use Rattle.std.specs.Prelude.{ℕ, List, Option, IsSome}
 use Rattle.base.specs.Cause.{Rose}
 use Rattle.command_answers.specs.Outside.{Outside}
 
@@ -12,11 +13,11 @@ pub record Causes : Type 1 where
   -- The net, or a link whose fault ends the command.
   pub net : Type 0
 
--- The causes of a command that writes no file and uses no net.
-abbrev pub causes_of : (old new : Outside) → Causes
-causes_of old new = record {
+-- The causes of a command that uses no net, and writes the file of this name, if one is given.
+abbrev pub causes_of : (written : Option (List ℕ)) → (old new : Outside) → Causes
+causes_of written old new = record {
   read = Rose old.disk.faults new.disk.faults;
-  write = ⊥;
+  write = IsSome written × Rose old.disk.faults new.disk.faults;
   sink = Rose old.sink.faults new.sink.faults;
   net = ⊥;
 }

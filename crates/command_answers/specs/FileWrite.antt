@@ -1,5 +1,5 @@
 -- A file that a reply writes.
-use Rattle.std.specs.Prelude.{◌≡◌, ℕ, List, Option, None, Some}
+use Rattle.std.specs.Prelude.{◌≡◌, ◌⊎◌, ℕ, List, Option, None, Some}
 use Rattle.std.specs.Option.{option_map}
 use Rattle.game_io.specs.Files.{Files, with_file}
 use Rattle.game_io.specs.DiskState.{LeftPartly}
@@ -8,6 +8,10 @@ use Rattle.game_io.specs.DiskState.{LeftPartly}
 pub record FileWrite : Type 0 where
   pub name : List ℕ
   pub bytes : List ℕ
+
+-- The name of the file, if there is one.
+abbrev pub name_of : Option FileWrite → Option (List ℕ)
+name_of = option_map (λ write. write.name)
 
 -- The files after the write, if there is one: its file has its bytes, and no other file changed.
 abbrev pub files_after : Option FileWrite → Option Files → Option Files
@@ -24,4 +28,5 @@ IsLeftPartly (Some write) old new = LeftPartly old new write.name write.bytes
 abbrev pub OnlyChanges : Option (List ℕ) → (old new : Option Files) → Type 0
 OnlyChanges None old new = new ≡ old
 OnlyChanges (Some name) old new =
-    (content : Option (List ℕ)) × (new ≡ option_map (with_file name content) old)
+    (new ≡ old)
+    ⊎ ((content : Option (List ℕ)) × (new ≡ option_map (with_file name content) old))

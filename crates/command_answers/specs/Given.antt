@@ -1,7 +1,11 @@
 -- The contents that the code holds of files that were read.
-use Rattle.std.specs.Prelude.{ℕ, None, Some, map, option_map}
+use Rattle.std.specs.Prelude.{ℕ, List, Option, None, Some, map, option_map}
 use Rattle.std.specs.Global.{Vec}
 use Rattle.command_answers.specs.declared.files.GivenFiles.{GivenFiles}
+use Rattle.command_answers.specs.declared.files.PlayedFile.{PlayedFile}
+use Rattle.command_answers.specs.declared.files.PlayedFile.TheVariants.{Script, Replay}
+use Rattle.command_answers.specs.WantedFiles.{Wanted, WantedFiles, script_file, replay_file}
+use Rattle.command_answers.specs.WantedFiles.{rules_and_map, with_script, with_replay}
 use Rattle.command_answers.specs.Contents.{Contents}
 
 abbrev pub given_contents : GivenFiles → Contents
@@ -13,6 +17,19 @@ given_contents given =
       replay = None;
     }
 
--- Those of rule files, a map and a script.
-abbrev pub script_contents : GivenFiles × Vec ℕ → Contents
-script_contents given = record (given_contents given.0) { script = Some given.1.items }
+-- The file of what is played.
+abbrev pub played_file : PlayedFile → Wanted
+played_file (Script name) = script_file name.now
+played_file (Replay name) = replay_file name.now
+
+-- Rule files, a map, if one is named, and after them the file of what is played.
+abbrev pub played_files : PlayedFile → List (List ℕ) → Option (List ℕ) → WantedFiles
+played_files (Script name) names map_file = with_script name.now (rules_and_map names map_file)
+played_files (Replay name) names map_file = with_replay name.now (rules_and_map names map_file)
+
+-- Their contents.
+abbrev pub played_contents : PlayedFile → GivenFiles × Vec ℕ → Contents
+played_contents (Script name) given =
+    record (given_contents given.0) { script = Some given.1.items }
+played_contents (Replay name) given =
+    record (given_contents given.0) { replay = Some given.1.items }

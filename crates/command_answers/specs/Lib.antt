@@ -10,8 +10,10 @@ pub mod WantedFiles
 pub mod Contents
 pub mod Given
 pub mod Stop
+pub mod Writing
 pub mod ScriptStop
 pub mod OptionLemmas
 pub mod ListLemmas
 pub mod CausesLemmas
 pub mod OutcomeLemmas
+pub mod WritingLemmas

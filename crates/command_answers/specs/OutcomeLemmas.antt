@@ -12,20 +12,20 @@ use Rattle.command_answers.specs.Outcome.{IsPrinted, IsAnswered, IsOutOfMemory}
 use Rattle.command_answers.specs.Printing.{PrintsReply, MayPrintReply}
 
 pub printed_outcome :
-    (reply : Reply) (status : ℕ) (d d' : DiskState) (s s' : SinkState) →
+    (reply : Reply) (status : ℕ) (written : Option (List ℕ)) (d d' : DiskState) (s s' : SinkState) →
     reply.write ≡ None → d'.files ≡ d.files → PrintsReply reply status s s' →
-    IsPrinted reply status (causes_of (outside d s) (outside d' s')) (outside d s) (outside d' s')
-printed_outcome reply status d d' s s' none same (inl wrote) =
+    IsPrinted reply status (causes_of written (outside d s) (outside d' s')) (outside d s) (outside d' s')
+printed_outcome reply status written d d' s s' none same (inl wrote) =
     inl (wrote.0, wrote.1, same ∙ ap (λ write. files_after write d.files) (sym none))
-printed_outcome reply status d d' s s' none same (inr cut) = inr (inl (cut.0, cut.1, cut.2, same))
+printed_outcome reply status written d d' s s' none same (inr cut) = inr (inl (cut.0, cut.1, cut.2, same))
 
 pub answered_outcome :
-    (reply : Reply) (status : ℕ) (d d' : DiskState) (s s' : SinkState) →
+    (reply : Reply) (status : ℕ) (written : Option (List ℕ)) (d d' : DiskState) (s s' : SinkState) →
     reply.write ≡ None → d'.files ≡ d.files → MayPrintReply reply status s s' →
-    IsAnswered reply status (causes_of (outside d s) (outside d' s')) (outside d s) (outside d' s')
-answered_outcome reply status d d' s s' none same (inl prints) =
-    inl (printed_outcome reply status d d' s s' none same prints)
-answered_outcome reply status d d' s s' none same (inr memory) = inr (memory.0, memory.1, same)
+    IsAnswered reply status (causes_of written (outside d s) (outside d' s')) (outside d s) (outside d' s')
+answered_outcome reply status written d d' s s' none same (inl prints) =
+    inl (printed_outcome reply status written d d' s s' none same prints)
+answered_outcome reply status written d d' s s' none same (inr memory) = inr (memory.0, memory.1, same)
 
 -- Nothing written is a prefix of any text.
 nothing_written : (old new : Option (List ℕ)) (text : List ℕ) → new ≡ old → WrotePrefix old new text

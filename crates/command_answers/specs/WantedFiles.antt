@@ -2,6 +2,7 @@
 use Rattle.std.specs.Prelude.{ℕ, List, [], ◌∷◌, ◌++◌, Option, None, Some, map, option_map}
 use Rattle.drill_words.specs.declared.limits.TheConstants.{MAX_DRILL_BYTES}
 use Rattle.command_answers.specs.declared.files.TheConstants.{MAX_RULE_BYTES}
+use Rattle.command_answers.specs.declared.files.TheConstants.{MAX_REPLAY_BYTES}
 
 -- A file to be read, and how many bytes it may have.
 pub record Wanted : Type 0 where
@@ -33,6 +34,9 @@ rule_file name = record { name = name; limit = MAX_RULE_BYTES }
 abbrev pub script_file : List ℕ → Wanted
 script_file name = record { name = name; limit = MAX_DRILL_BYTES }
 
+abbrev pub replay_file : List ℕ → Wanted
+replay_file name = record { name = name; limit = MAX_REPLAY_BYTES }
+
 -- Rule files, and a map, if one is named. A map is as long as a rule file at most.
 abbrev pub rules_and_map : List (List ℕ) → Option (List ℕ) → WantedFiles
 rules_and_map names map_file =
@@ -41,3 +45,7 @@ rules_and_map names map_file =
 -- The same files, and a script after them.
 abbrev pub with_script : List ℕ → WantedFiles → WantedFiles
 with_script script files = record files { script = Some (script_file script) }
+
+-- The same files, and a replay after them.
+abbrev pub with_replay : List ℕ → WantedFiles → WantedFiles
+with_replay name files = record files { replay = Some (replay_file name) }

@@ -4,10 +4,11 @@ ghost use Rattle.base.specs.Cause.{Rose};
 ghost use Rattle.command_answers.specs.Contents.{content_of, read_after, IsFirstThere, AreWithinLimits};
 ghost use Rattle.command_answers.specs.Contents.{read_optional, contents_of, IsWithinLimit, AreContents};
 ghost use Rattle.command_answers.specs.Reply.{refusal};
-ghost use Rattle.command_answers.specs.Given.{given_contents, script_contents};
+ghost use Rattle.command_answers.specs.Given.{given_contents, played_contents};
+ghost use Rattle.command_answers.specs.Given.{played_file, played_files};
 ghost use Rattle.command_answers.specs.Stop.{IsRefusal, ReturnsOrStops, ReturnsUntold};
 ghost use Rattle.command_answers.specs.WantedFiles.{and_then, in_order};
-ghost use Rattle.command_answers.specs.WantedFiles.{rule_file, rules_and_map, with_script};
+ghost use Rattle.command_answers.specs.WantedFiles.{rule_file, rules_and_map};
 
 use crate::stop::Stop;
 use drill_words::MAX_DRILL_BYTES;
@@ -196,32 +197,66 @@ pub fn read_files<'a, D: Disk>(
     }
 }
 
-/// Reads rule files in order, then a map, if one is named, and then a script.
-pub fn read_script_files<'a, D: Disk>(
+/// The most bytes of a replay.
+pub const MAX_REPLAY_BYTES: u32 = 268_435_456;
+
+/// The file of what is played, with its name.
+#[derive(Clone, Copy, Drop)]
+pub enum PlayedFile<'a> {
+    /// That of a drill or a script.
+    Script(&'a str),
+    /// That of a replay.
+    Replay(&'a str),
+}
+
+/// Reads the file of what is played.
+fn read_played<'a, D: Disk>(
+    alloc: Global,
+    disk: &mut D,
+    played: PlayedFile<'a>,
+) -> Result<Vec<u8>, Stop<'a>>
+    ensures told { IfSome (D.state disk.old).files
+        (λ files. ReturnsOrStops result (λ bytes. bytes.items)
+        (content_of (played_file played.entry) (files (played_file played.entry).name))
+        (IsSome (files (played_file played.entry).name)
+        × Rose (D.state disk.old).faults (D.state disk.new).faults)) }
+    ensures untold { IfNone (D.state disk.old).files
+        (ReturnsUntold result (λ bytes. length bytes.items ≤ (played_file played.entry).limit)
+        (played_file played.entry ∷ []) (Rose (D.state disk.old).faults (D.state disk.new).faults)) }
+    ensures short { IfOk result (λ bytes. length bytes.items ≤ (played_file played.entry).limit) }
+    ensures files { (D.state disk.new).files ≡ (D.state disk.old).files }
+    ensures later { (D.state disk.old).faults ≤ (D.state disk.new).faults }
+{
+    match played {
+        PlayedFile::Script(name) => read_one(alloc, disk, name, MAX_DRILL_BYTES),
+        PlayedFile::Replay(name) => read_one(alloc, disk, name, MAX_REPLAY_BYTES),
+    }
+}
+
+/// Reads rule files in order, then a map, if one is named, and then the file of what is played.
+pub fn read_played_files<'a, D: Disk>(
     alloc: Global,
     disk: &mut D,
     names: &[&'a str],
     map_file: Option<&'a str>,
-    script: &'a str,
+    played: PlayedFile<'a>,
 ) -> Result<(GivenFiles, Vec<u8>), Stop<'a>>
     ensures told { IfSome (D.state disk.old).files
-        (λ files. ReturnsOrStops result script_contents
-        (contents_of (with_script script.now (rules_and_map (map (λ name. name.now) names.now)
-        (option_map (λ name. name.now) map_file.entry))) files)
-        (IsFirstThere (in_order (with_script script.now
-        (rules_and_map (map (λ name. name.now) names.now)
-        (option_map (λ name. name.now) map_file.entry)))) files
+        (λ files. ReturnsOrStops result (played_contents played.entry)
+        (contents_of (played_files played.entry (map (λ name. name.now) names.now)
+        (option_map (λ name. name.now) map_file.entry)) files)
+        (IsFirstThere (in_order (played_files played.entry (map (λ name. name.now) names.now)
+        (option_map (λ name. name.now) map_file.entry))) files
         × Rose (D.state disk.old).faults (D.state disk.new).faults)) }
     ensures untold { IfNone (D.state disk.old).files
         (ReturnsUntold result
-        (λ given. AreContents (with_script script.now
-        (rules_and_map (map (λ name. name.now) names.now)
-        (option_map (λ name. name.now) map_file.entry))) (script_contents given))
-        (in_order (with_script script.now (rules_and_map (map (λ name. name.now) names.now)
-        (option_map (λ name. name.now) map_file.entry))))
+        (λ given. AreContents (played_files played.entry (map (λ name. name.now) names.now)
+        (option_map (λ name. name.now) map_file.entry)) (played_contents played.entry given))
+        (in_order (played_files played.entry (map (λ name. name.now) names.now)
+        (option_map (λ name. name.now) map_file.entry)))
         (Rose (D.state disk.old).faults (D.state disk.new).faults)) }
     ensures one_each { IfOk result (λ given. length given.0.rules.items ≡ length names.now) }
-    ensures short { IfOk result (λ given. length given.1.items ≤ MAX_DRILL_BYTES) }
+    ensures short { IfOk result (λ given. length given.1.items ≤ (played_file played.entry).limit) }
     ensures files { (D.state disk.new).files ≡ (D.state disk.old).files }
     ensures later { (D.state disk.old).faults ≤ (D.state disk.new).faults }
 {
@@ -229,7 +264,7 @@ pub fn read_script_files<'a, D: Disk>(
         Ok(given) => given,
         Err(stop) => return Err(stop),
     };
-    match read_one(alloc, disk, script, MAX_DRILL_BYTES) {
+    match read_played(alloc, disk, played) {
         Ok(bytes) => Ok((given, bytes)),
         Err(stop) => Err(stop),
     }
