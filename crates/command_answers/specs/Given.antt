@@ -17,6 +17,14 @@ given_contents given =
       replay = None;
     }
 
+-- Those of rule files and a map, and of a script.
+abbrev pub script_contents : GivenFiles × Vec ℕ → Contents
+script_contents given = record (given_contents given.0) { script = Some given.1.items }
+
+-- The same with a replay.
+abbrev pub replay_contents : GivenFiles × Vec ℕ → Contents
+replay_contents given = record (given_contents given.0) { replay = Some given.1.items }
+
 -- The file of what is played.
 abbrev pub played_file : PlayedFile → Wanted
 played_file (Script name) = script_file name.now
@@ -29,7 +37,5 @@ played_files (Replay name) names map_file = with_replay name.now (rules_and_map 
 
 -- Their contents.
 abbrev pub played_contents : PlayedFile → GivenFiles × Vec ℕ → Contents
-played_contents (Script name) given =
-    record (given_contents given.0) { script = Some given.1.items }
-played_contents (Replay name) given =
-    record (given_contents given.0) { replay = Some given.1.items }
+played_contents (Script name) given = script_contents given
+played_contents (Replay name) given = replay_contents given

@@ -13,9 +13,9 @@ use Rattle.clap.specs.declared.error.kind.ErrorKind.TheVariants.{MissingRequired
 use Rattle.clap.proofs.SimpleLemmas.{is_nil}
 use Rattle.clap.proofs.WalkLemmas.{both}
 use Rattle.world_units.specs.declared.cell.CPos.{CPos}
-use Rattle.command_words.specs.RequestPlain.{Route}
-use Rattle.command_words.specs.Commands.{required_option, required_number, bare_app, lockstep_app}
-use Rattle.command_words.specs.Reading.{is_accepted, command_request, names_in, cell_in, number_of, number_in, drill_in, route_in, found_request, request_of, NamesRefused, CellRefused}
+use Rattle.command_words.specs.RequestPlain.{Drill, Local, MatchPlain, Migrate, Replay, RequestPlain, Route}
+use Rattle.command_words.specs.Commands.{option_named, required_option, required_number, bare_app, lockstep_app}
+use Rattle.command_words.specs.Reading.{is_accepted, command_request, names_in, cell_in, number_of, number_in, match_in, migrate_in, route_in, found_request, request_of, NamesRefused, CellRefused}
 use Rattle.command_words.proofs.OnCommands.{all_commands}
 use Rattle.command_words.proofs.NumberLemmas.{let_through}
 use Rattle.command_words.proofs.PlainWordsLemmas.{map_rule, names_rule, names_rules, names_shape}
@@ -34,8 +34,11 @@ shape_with command rules = record (new_shape command) {
 abbrev wanted_rule : Text → Rule
 wanted_rule name = with_index 1 (filled (required_option name))
 
+abbrev record_rule : Rule
+record_rule = with_index 1 (filled (option_named (codes "record")))
+
 abbrev drill_shape : Shape
-drill_shape = shape_with (codes "drill") (wanted_rule (codes "script") ∷ map_rule ∷ names_rule ∷ [])
+drill_shape = shape_with (codes "drill") (wanted_rule (codes "script") ∷ map_rule ∷ record_rule ∷ names_rule ∷ [])
 
 abbrev route_shape : Shape
 route_shape =
@@ -49,10 +52,17 @@ make_shape = shape_with (codes "make") (with_index 1 (filled (required_number (c
 abbrev local_shape : Shape
 local_shape = shape_with (codes "local") (wanted_rule (codes "script") ∷ map_rule ∷ names_rule ∷ [])
 
+abbrev replay_shape : Shape
+replay_shape = shape_with (codes "replay") (wanted_rule (codes "file") ∷ map_rule ∷ names_rule ∷ [])
+
+abbrev migrate_shape : Shape
+migrate_shape = shape_with (codes "migrate") (wanted_rule (codes "file") ∷ map_rule ∷ wanted_rule (codes "to") ∷ names_rule ∷ [])
+
 -- The commands, as the parse has them.
 abbrev command_shapes : List Shape
 command_shapes =
-    drill_shape ∷ names_shape false (codes "yaml") ∷ names_shape true (codes "check") ∷ route_shape ∷ make_shape ∷ local_shape ∷ []
+    drill_shape ∷ names_shape false (codes "yaml") ∷ names_shape true (codes "check") ∷ route_shape ∷ make_shape ∷ local_shape
+    ∷ replay_shape ∷ migrate_shape ∷ []
 
 -- What is known of rows that a command without a fault has found.
 record AreFound (s : Shape) (rows : List Row) : Type 0 where
@@ -81,6 +91,16 @@ required : (given : Bool) → cond (not given || false) (MissingRequiredArgument
 required true quiet = refl
 required false quiet = absurd (some_kind MissingRequiredArgument [] quiet)
 
+-- Two arguments that have to be there.
+record BothGiven (a b : Bool) : Type 0 where
+  first : a ≡ true
+  second : b ≡ true
+
+both_required : (a b : Bool) → cond (not a || (not b || false)) (MissingRequiredArgument ∷ []) [] ≡ [] → BothGiven a b
+both_required true true quiet = record { first = refl; second = refl }
+both_required true false quiet = absurd (some_kind MissingRequiredArgument [] quiet)
+both_required false b quiet = absurd (some_kind MissingRequiredArgument [] quiet)
+
 -- Four arguments that have to be there.
 record AreGiven (a b c d : Bool) : Type 0 where
   first : a ≡ true
@@ -105,7 +125,7 @@ FirstIsThere s name = (words : List Text) → level_fault s [] nothing_held word
 drill_found : FirstIsThere drill_shape (codes "script")
 drill_found words quiet =
     let rows = rows_after drill_shape.rules [] words in
-    let found : AreFound drill_shape rows = found_rows drill_shape words ((refl, refl), ((refl, refl), ((refl, refl), tt))) (λ x. refl) quiet in
+    let found : AreFound drill_shape rows = found_rows drill_shape words ((refl, refl), ((refl, refl), ((refl, refl), ((refl, refl), tt)))) (λ x. refl) quiet in
     given_row drill_shape.rules (codes "script") rows found.full (required (is_given (codes "script") rows) found.checks)
 
 local_found : FirstIsThere local_shape (codes "script")
@@ -114,11 +134,33 @@ local_found words quiet =
     let found : AreFound local_shape rows = found_rows local_shape words ((refl, refl), ((refl, refl), ((refl, refl), tt))) (λ x. refl) quiet in
     given_row local_shape.rules (codes "script") rows found.full (required (is_given (codes "script") rows) found.checks)
 
+replay_found : FirstIsThere replay_shape (codes "file")
+replay_found words quiet =
+    let rows = rows_after replay_shape.rules [] words in
+    let found : AreFound replay_shape rows = found_rows replay_shape words ((refl, refl), ((refl, refl), ((refl, refl), tt))) (λ x. refl) quiet in
+    given_row replay_shape.rules (codes "file") rows found.full (required (is_given (codes "file") rows) found.checks)
+
 make_found : FirstIsThere make_shape (codes "number")
 make_found words quiet =
     let rows = rows_after make_shape.rules [] words in
     let found : AreFound make_shape rows = found_rows make_shape words ((refl, refl), tt) (λ x. refl) quiet in
     given_row make_shape.rules (codes "number") rows found.full (required (is_given (codes "number") rows) found.checks)
+
+-- The options of a migration that have to be there are there.
+record MigrateIsThere (rows : List Row) : Type 0 where
+  file : IsThere (codes "file") rows
+  to : IsThere (codes "to") rows
+
+migrate_found : (words : List Text) → level_fault migrate_shape [] nothing_held words false [] ≡ [] → MigrateIsThere (rows_after migrate_shape.rules [] words)
+migrate_found words quiet =
+    let c = migrate_shape.rules in
+    let rows = rows_after migrate_shape.rules [] words in
+    let found : AreFound migrate_shape rows = found_rows migrate_shape words ((refl, refl), ((refl, refl), ((refl, refl), ((refl, refl), tt)))) (λ x. refl) quiet in
+    let given : BothGiven (is_given (codes "file") rows) (is_given (codes "to") rows) = both_required (is_given (codes "file") rows) (is_given (codes "to") rows) found.checks in
+    record {
+      file = given_first c (codes "file") rows (given_row c (codes "file") rows found.full given.first);
+      to = given_first c (codes "to") rows (given_row c (codes "to") rows found.full given.second);
+    }
 
 -- The options of a route are there.
 record RouteIsThere (rows : List Row) : Type 0 where
@@ -145,15 +187,49 @@ route_found words quiet =
 abbrev HasRequest : Option (Text × List Row) → Type 0
 HasRequest found = (is_some (found_request found) ≡ true) ⊎ (NamesRefused found ⊎ CellRefused found)
 
-drill_request : (rows : List Row) → HasRow drill_shape.rules (codes "script") rows → HasRequest (Some (codes "drill", rows))
-unfolding command_request drill_in
-drill_request rows has = go (first_of (codes "script") rows) (names_in 0 rows) refl refl (given_first drill_shape.rules (codes "script") rows has)
+-- A match is named where its option is there, or the number of its rule files is not allowed.
+match_is : (option : Text) (rows : List Row) → IsThere option rows → (is_some (match_in option rows) ≡ true) ⊎ (names_in 0 rows ≡ None)
+unfolding match_in
+match_is option rows there = go (first_of option rows) (names_in 0 rows) refl refl there
   where
-    go : (script : Option Text) (names : Option (List Text)) → first_of (codes "script") rows ≡ script → names_in 0 rows ≡ names → is_some script ≡ true
-        → HasRequest (Some (codes "drill", rows))
+    go : (file : Option Text) (names : Option (List Text)) → first_of option rows ≡ file → names_in 0 rows ≡ names → is_some file ≡ true
+        → (is_some (match_in option rows) ≡ true) ⊎ (names_in 0 rows ≡ None)
     go None names a b there = cc
-    go (Some script) None a b there = inr (inl b)
-    go (Some script) (Some names) a b there = inl (rw (a, b) refl)
+    go (Some file) None a b there = inr b
+    go (Some file) (Some names) a b there = inl (rw (a, b) refl)
+
+-- What is made of a match that is named.
+made_is : (make : MatchPlain → RequestPlain) (query : Option MatchPlain) → is_some query ≡ true → is_some (option_map make query) ≡ true
+made_is make None there = cc
+made_is make (Some query) there = refl
+
+drill_request : (rows : List Row) → IsThere (codes "script") rows → HasRequest (Some (codes "drill", rows))
+unfolding command_request
+drill_request rows there = elim (match_is (codes "script") rows there) [
+  | inl named ↦ inl (made_is (λ query. Drill query (first_of (codes "record") rows)) (match_in (codes "script") rows) named)
+  | inr none ↦ inr (inl none)
+]
+
+replay_request : (rows : List Row) → IsThere (codes "file") rows → HasRequest (Some (codes "replay", rows))
+unfolding command_request
+replay_request rows there = elim (match_is (codes "file") rows there) [
+  | inl named ↦ inl (made_is Replay (match_in (codes "file") rows) named)
+  | inr none ↦ inr (inl none)
+]
+
+-- A migration is named where the file to be written is named and the match is.
+migration_is : (rows : List Row) (to : Option Text) → first_of (codes "to") rows ≡ to → is_some to ≡ true
+    → is_some (match_in (codes "file") rows) ≡ true → is_some (migrate_in rows) ≡ true
+unfolding migrate_in
+migration_is rows None is there named = cc
+migration_is rows (Some to) is there named = rw is (made_is (λ query. Migrate query to) (match_in (codes "file") rows) named)
+
+migrate_request : (rows : List Row) → MigrateIsThere rows → HasRequest (Some (codes "migrate", rows))
+unfolding command_request
+migrate_request rows there = elim (match_is (codes "file") rows there.file) [
+  | inl named ↦ inl (migration_is rows (first_of (codes "to") rows) refl there.to named)
+  | inr none ↦ inr (inl none)
+]
 
 yaml_request : (rows : List Row) → HasRequest (Some (codes "yaml", rows))
 unfolding command_request
@@ -203,15 +279,12 @@ make_request rows has = go (number_in (codes "number") rows) refl (number_there 
     go None is there = cc
     go (Some number) is there = inl (rw is refl)
 
-local_request : (rows : List Row) → HasRow local_shape.rules (codes "script") rows → HasRequest (Some (codes "local", rows))
-unfolding command_request drill_in
-local_request rows has = go (first_of (codes "script") rows) (names_in 0 rows) refl refl (given_first local_shape.rules (codes "script") rows has)
-  where
-    go : (script : Option Text) (names : Option (List Text)) → first_of (codes "script") rows ≡ script → names_in 0 rows ≡ names → is_some script ≡ true
-        → HasRequest (Some (codes "local", rows))
-    go None names a b there = cc
-    go (Some script) None a b there = inr (inl b)
-    go (Some script) (Some names) a b there = inl (rw (a, b) refl)
+local_request : (rows : List Row) → IsThere (codes "script") rows → HasRequest (Some (codes "local", rows))
+unfolding command_request
+local_request rows there = elim (match_is (codes "script") rows there) [
+  | inl named ↦ inl (made_is Local (match_in (codes "script") rows) named)
+  | inr none ↦ inr (inl none)
+]
 
 -- Each of the commands, where its words have no fault.
 abbrev GivesRequest : Shape → Type 0
@@ -221,9 +294,19 @@ abbrev AllGiveRequests : List Shape → Type 0
 AllGiveRequests [] = Unit {0}
 AllGiveRequests (s ∷ shapes) = GivesRequest s × AllGiveRequests shapes
 
+-- The option of a command's file is there.
+there_of : (s : Shape) (option : Text) (words : List Text) → FirstIsThere s option → level_fault s [] nothing_held words false [] ≡ [] → IsThere option (rows_after s.rules [] words)
+there_of s option words found quiet = given_first s.rules option (rows_after s.rules [] words) (found words quiet)
+
+replays_give_requests : AllGiveRequests (replay_shape ∷ migrate_shape ∷ [])
+replays_give_requests = (
+  λ words quiet. replay_request (rows_after replay_shape.rules [] words) (there_of replay_shape (codes "file") words replay_found quiet),
+  (λ words quiet. migrate_request (rows_after migrate_shape.rules [] words) (migrate_found words quiet), tt),
+)
+
 all_give_requests : AllGiveRequests command_shapes
 all_give_requests = (
-  λ words quiet. drill_request (rows_after drill_shape.rules [] words) (drill_found words quiet),
+  λ words quiet. drill_request (rows_after drill_shape.rules [] words) (there_of drill_shape (codes "script") words drill_found quiet),
   (
     λ words quiet. yaml_request (rows_after (names_rules false) [] words),
     (
@@ -232,7 +315,10 @@ all_give_requests = (
         λ words quiet. route_request (rows_after route_shape.rules [] words) (route_found words quiet),
         (
           λ words quiet. make_request (rows_after make_shape.rules [] words) (make_found words quiet),
-          (λ words quiet. local_request (rows_after local_shape.rules [] words) (local_found words quiet), tt),
+          (
+            λ words quiet. local_request (rows_after local_shape.rules [] words) (there_of local_shape (codes "script") words local_found quiet),
+            replays_give_requests,
+          ),
         ),
       ),
     ),

@@ -31,9 +31,13 @@ played_app command option =
     (with_rule (new_app command) (required_option option))
     (option_named (codes "map"))
 
--- `drill --script FILE --map FILE RULES`, where the map may be left out.
+-- `drill --script FILE --map FILE --record FILE RULES`, where the map and the record may be left
+-- out.
 unfoldable pub drill_app : App
-drill_app = with_rule (played_app (codes "drill") (codes "script")) file_names
+drill_app =
+    with_rule
+    (with_rule (played_app (codes "drill") (codes "script")) (option_named (codes "record")))
+    file_names
 
 -- `yaml FILES`.
 unfoldable pub yaml_app : App
@@ -70,6 +74,17 @@ make_app = with_rule (new_app (codes "make")) (required_number (codes "number"))
 unfoldable pub local_app : App
 local_app = with_rule (played_app (codes "local") (codes "script")) file_names
 
+-- `replay --file FILE --map FILE RULES`, where the map may be left out.
+unfoldable pub replay_app : App
+replay_app = with_rule (played_app (codes "replay") (codes "file")) file_names
+
+-- `migrate --file FILE --map FILE --to FILE RULES`, where the map may be left out.
+unfoldable pub migrate_app : App
+migrate_app =
+    with_rule
+    (with_rule (played_app (codes "migrate") (codes "file")) (required_option (codes "to")))
+    file_names
+
 -- A command that one of its subcommands must follow, without words for help or the version.
 unfoldable pub bare_app : App
 bare_app = on_top (λ shape. record shape {
@@ -88,6 +103,10 @@ first_app =
 unfoldable pub asking_app : App
 asking_app = with_subcommand (with_subcommand first_app check_app.top) route_app.top
 
+-- The same with those that play made matches and scripts.
+unfoldable pub playing_app : App
+playing_app = with_subcommand (with_subcommand asking_app make_app.top) local_app.top
+
 -- The whole command line.
 unfoldable pub lockstep_app : App
-lockstep_app = with_subcommand (with_subcommand asking_app make_app.top) local_app.top
+lockstep_app = with_subcommand (with_subcommand playing_app replay_app.top) migrate_app.top

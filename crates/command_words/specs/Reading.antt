@@ -13,8 +13,8 @@ use Rattle.command_words.specs.declared.TheConstants.{MAX_FILES}
 use Rattle.rule_values.specs.Cells.{cell_of}
 use Rattle.world_units.specs.declared.cell.CPos.{CPos}
 use Rattle.command_words.specs.RequestPlain.{RequestPlain, Drill, Yaml, Check, Route, Make}
-use Rattle.command_words.specs.RequestPlain.{Local}
-use Rattle.command_words.specs.RequestPlain.{DrillPlain, RoutePlain}
+use Rattle.command_words.specs.RequestPlain.{Local, Replay, Migrate}
+use Rattle.command_words.specs.RequestPlain.{MatchPlain, RoutePlain}
 use Rattle.command_words.specs.Commands.{lockstep_app}
 
 -- `clap` accepts the words as a command line of `lockstep`.
@@ -53,17 +53,23 @@ to_cell at = record { x = at.0; y = at.1 }
 unfoldable pub cell_in : Text → List Row → Option CPos
 cell_in name found = option_map to_cell (option_and_then cell_of (first_of name found))
 
--- The drill that is to be run.
-unfoldable pub drill_in : List Row → Option DrillPlain
-drill_in found =
-    option_and_then (λ script.
+-- The match by what the file of this option holds.
+unfoldable pub match_in : (option : Text) (found : List Row) → Option MatchPlain
+match_in option found =
+    option_and_then (λ file.
     option_map (λ rules. record {
-      script = script;
+      file = file;
       map_file = first_of (codes "map") found;
       rules = rules;
     })
     (names_in 0 found))
-    (first_of (codes "script") found)
+    (first_of option found)
+
+-- The request to migrate a replay: which, and what file the migrated one is written to.
+unfoldable pub migrate_in : List Row → Option RequestPlain
+migrate_in found =
+    option_and_then (λ to. option_map (λ query. Migrate query to) (match_in (codes "file") found))
+    (first_of (codes "to") found)
 
 -- The route that is asked for.
 unfoldable pub route_in : List Row → Option RoutePlain
@@ -88,14 +94,20 @@ route_in found =
 -- The request of a command, with what was found after it.
 unfoldable pub command_request : Text → List Row → Option RequestPlain
 command_request command found =
-    if bytes_eq command (codes "drill") then option_map Drill (drill_in found)
+    if bytes_eq command (codes "drill")
+    then option_map (λ query. Drill query (first_of (codes "record") found))
+    (match_in (codes "script") found)
     else if bytes_eq command (codes "yaml") then option_map Yaml (names_in 1 found)
     else if bytes_eq command (codes "check")
     then option_map (Check (first_of (codes "map") found)) (names_in 1 found)
     else if bytes_eq command (codes "route") then option_map Route (route_in found)
     else if bytes_eq command (codes "make")
     then option_map Make (number_in (codes "number") found)
-    else if bytes_eq command (codes "local") then option_map Local (drill_in found)
+    else if bytes_eq command (codes "local")
+    then option_map Local (match_in (codes "script") found)
+    else if bytes_eq command (codes "replay")
+    then option_map Replay (match_in (codes "file") found)
+    else if bytes_eq command (codes "migrate") then migrate_in found
     else None
 
 -- The request of the command that the words name, if they name one.
@@ -117,6 +129,8 @@ least_names command =
     else if bytes_eq command (codes "check") then Some 1
     else if bytes_eq command (codes "route") then Some 1
     else if bytes_eq command (codes "local") then Some 0
+    else if bytes_eq command (codes "replay") then Some 0
+    else if bytes_eq command (codes "migrate") then Some 0
     else None
 
 -- The command takes positional arguments, and their number is not allowed.

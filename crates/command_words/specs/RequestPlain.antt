@@ -3,20 +3,20 @@ use Rattle.std.specs.Prelude.{ℕ, ◌≤◌, List, [], length, Option, None, op
 use Rattle.std.specs.Borrow.{Bor}
 use Rattle.world_units.specs.declared.cell.CPos.{CPos}
 use Rattle.command_words.specs.declared.TheConstants.{MAX_FILES}
-use Rattle.command_words.specs.declared.drill_query.DrillQuery.{DrillQuery}
+use Rattle.command_words.specs.declared.match_query.MatchQuery.{MatchQuery}
 use Rattle.command_words.specs.declared.route_query.RouteQuery.{RouteQuery}
 use Rattle.command_words.specs.declared.request.Request.{Request}
 use Rattle.command_words.specs.declared.request.Request.TheVariants as request
 
--- A drill that is to be run.
-pub record DrillPlain : Type 0 where
-  pub script : List ℕ
+-- A match by what a file holds: a drill, a script or a replay.
+pub record MatchPlain : Type 0 where
+  pub file : List ℕ
   pub map_file : Option (List ℕ)
   pub rules : List (List ℕ)
 
--- A drill without a map and rules.
-abbrev pub drill_alone : List ℕ → DrillPlain
-drill_alone script = record { script = script; map_file = None; rules = [] }
+-- A match without a map and rules.
+abbrev pub match_alone : List ℕ → MatchPlain
+match_alone file = record { file = file; map_file = None; rules = [] }
 
 -- A route that is asked for.
 pub record RoutePlain : Type 0 where
@@ -27,20 +27,22 @@ pub record RoutePlain : Type 0 where
   pub rules : List (List ℕ)
 
 pub data RequestPlain : Type 0 where
-  Drill : DrillPlain → RequestPlain
+  Drill : MatchPlain → («record» : Option (List ℕ)) → RequestPlain
   Yaml : (files : List (List ℕ)) → RequestPlain
   Check : (map_file : Option (List ℕ)) → (rules : List (List ℕ)) → RequestPlain
   Route : RoutePlain → RequestPlain
   Make : (number : ℕ) → RequestPlain
-  Local : DrillPlain → RequestPlain
+  Local : MatchPlain → RequestPlain
+  Replay : MatchPlain → RequestPlain
+  Migrate : MatchPlain → (to : List ℕ) → RequestPlain
 
 abbrev pub plain_name : Option (Bor (List ℕ)) → Option (List ℕ)
 plain_name = option_map (λ name. name.now)
 
-abbrev pub plain_drill : DrillQuery → DrillPlain
-plain_drill query =
+abbrev pub plain_match : MatchQuery → MatchPlain
+plain_match query =
     record {
-      script = query.script.now;
+      file = query.file.now;
       map_file = plain_name query.map_file;
       rules = query.rules;
     }
@@ -57,18 +59,22 @@ plain_route query =
 
 -- The plain form of a request.
 abbrev pub plain_of : Request → RequestPlain
-plain_of (request.Drill query) = Drill (plain_drill query)
+plain_of (request.Drill query recorded) = Drill (plain_match query) (plain_name recorded)
 plain_of (request.Yaml files) = Yaml files
 plain_of (request.Check map_file rules) = Check (plain_name map_file) rules
 plain_of (request.Route query) = Route (plain_route query)
 plain_of (request.Make number) = Make number
-plain_of (request.Local query) = Local (plain_drill query)
+plain_of (request.Local query) = Local (plain_match query)
+plain_of (request.Replay query) = Replay (plain_match query)
+plain_of (request.Migrate query to) = Migrate (plain_match query) to.now
 
 -- A request has at most `MAX_FILES` positional arguments.
 abbrev pub HasFewFiles : Request → Type 0
-HasFewFiles (request.Drill query) = length query.rules ≤ MAX_FILES
+HasFewFiles (request.Drill query recorded) = length query.rules ≤ MAX_FILES
 HasFewFiles (request.Yaml files) = length files ≤ MAX_FILES
 HasFewFiles (request.Check map_file rules) = length rules ≤ MAX_FILES
 HasFewFiles (request.Route query) = length query.rules ≤ MAX_FILES
 HasFewFiles (request.Make number) = Unit {0}
 HasFewFiles (request.Local query) = length query.rules ≤ MAX_FILES
+HasFewFiles (request.Replay query) = length query.rules ≤ MAX_FILES
+HasFewFiles (request.Migrate query to) = length query.rules ≤ MAX_FILES

@@ -1,8 +1,8 @@
 ghost use Rattle.std.specs.Prelude.{◌≡◌, IfOk, false};
 ghost use Rattle.command_words.specs.Commands.{bare_app, played_app, drill_app, yaml_app};
-ghost use Rattle.command_words.specs.Commands.{check_app, routed_app, ends_app, route_app, make_app};
-ghost use Rattle.command_words.specs.Commands.{local_app};
-ghost use Rattle.command_words.specs.Commands.{first_app, asking_app, lockstep_app};
+ghost use Rattle.command_words.specs.Commands.{check_app, routed_app, ends_app, route_app};
+ghost use Rattle.command_words.specs.Commands.{make_app, local_app, replay_app, migrate_app};
+ghost use Rattle.command_words.specs.Commands.{first_app, asking_app, playing_app, lockstep_app};
 ghost use Rattle.command_words.specs.Commands.{option_named, required_option, required_number};
 ghost use Rattle.command_words.specs.Commands.{file_names};
 ghost use Rattle.command_words.specs.Follows.{Follows};
@@ -17,6 +17,18 @@ use std::alloc::Global;
 #[tactic(auto, unfolding(crate::specs::Commands::lockstep_app))]
 pub(crate) fn lockstep_command<'a>(alloc: Global) -> Result<Command<'a>, NoMemory>
     ensures { IfOk result (λ command. app_of command ≡ lockstep_app) }
+{
+    let replay = replay_command(alloc)?;
+    let migrate = migrate_command(alloc)?;
+    playing_commands(alloc)?
+        .subcommand(replay)?
+        .subcommand(migrate)
+}
+
+/// The command of the program with the subcommands that play made matches and scripts, too.
+#[tactic(auto, unfolding(crate::specs::Commands::playing_app))]
+fn playing_commands<'a>(alloc: Global) -> Result<Command<'a>, NoMemory>
+    ensures { IfOk result (Follows playing_app) }
 {
     let make = make_command(alloc)?;
     let local = local_command(alloc)?;
@@ -59,8 +71,11 @@ fn bare_command<'a>(alloc: Global) -> Command<'a>
 fn drill_command<'a>(alloc: Global) -> Result<Command<'a>, NoMemory>
     ensures { IfOk result (Follows drill_app) }
 {
+    let record = option_named(alloc, "record");
     let names = file_names(alloc);
-    played_command(alloc, "drill", "script")?.arg(names)
+    played_command(alloc, "drill", "script")?
+        .arg(record)?
+        .arg(names)
 }
 
 /// A command that plays a match over the file of this option, and a map, if one is named, so far.
@@ -128,6 +143,25 @@ fn local_command<'a>(alloc: Global) -> Result<Command<'a>, NoMemory>
 {
     let names = file_names(alloc);
     played_command(alloc, "local", "script")?.arg(names)
+}
+
+#[tactic(auto, unfolding(crate::specs::Commands::replay_app))]
+fn replay_command<'a>(alloc: Global) -> Result<Command<'a>, NoMemory>
+    ensures { IfOk result (Follows replay_app) }
+{
+    let names = file_names(alloc);
+    played_command(alloc, "replay", "file")?.arg(names)
+}
+
+#[tactic(auto, unfolding(crate::specs::Commands::migrate_app))]
+fn migrate_command<'a>(alloc: Global) -> Result<Command<'a>, NoMemory>
+    ensures { IfOk result (Follows migrate_app) }
+{
+    let target = required_option(alloc, "to");
+    let names = file_names(alloc);
+    played_command(alloc, "migrate", "file")?
+        .arg(target)?
+        .arg(names)
 }
 
 #[tactic(auto, unfolding(crate::specs::Commands::make_app))]

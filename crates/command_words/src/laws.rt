@@ -3,7 +3,8 @@ ghost use Rattle.std.specs.Prelude.{option_map, is_some, ◌⊎◌};
 ghost use Rattle.std.specs.List.{All};
 ghost use Rattle.clap.specs.Simple.{subcommand_of};
 ghost use Rattle.command_words.specs.Commands.{lockstep_app};
-ghost use Rattle.command_words.specs.RequestPlain.{Drill, Yaml, Check, drill_alone};
+ghost use Rattle.command_words.specs.RequestPlain.{Drill, Yaml, Check, Replay, Migrate};
+ghost use Rattle.command_words.specs.RequestPlain.{match_alone};
 ghost use Rattle.command_words.specs.Reading.{request_of, is_accepted, is_plain, allowed};
 ghost use Rattle.command_words.specs.Reading.{NamesRefused, CellRefused};
 
@@ -19,7 +20,35 @@ pub fn no_command()
 pub fn script_after_equals()
     ensures { (program script : List ℕ) →
         request_of (program ∷ codes "drill" ∷ (codes "--script=" ++ script) ∷ [])
-        ≡ Some (Drill (drill_alone script)) }
+        ≡ Some (Drill (match_alone script) None) }
+{}
+
+/// A law of the definition: after `drill --script=FILE` the word `--record=FILE` names the file
+/// that the replay is written to, whatever it is.
+#[tactic(auto, using(crate::proofs::LiteralLemmas::record_after_equals))]
+pub fn record_after_equals()
+    ensures { (program script written : List ℕ) →
+        request_of (program ∷ codes "drill" ∷ (codes "--script=" ++ script)
+        ∷ (codes "--record=" ++ written) ∷ [])
+        ≡ Some (Drill (match_alone script) (Some written)) }
+{}
+
+/// A law of the definition: `replay --file=FILE` names FILE, whatever it is.
+#[tactic(auto, using(crate::proofs::LiteralLemmas::replay_after_equals))]
+pub fn replay_after_equals()
+    ensures { (program file : List ℕ) →
+        request_of (program ∷ codes "replay" ∷ (codes "--file=" ++ file) ∷ [])
+        ≡ Some (Replay (match_alone file)) }
+{}
+
+/// A law of the definition: `migrate --file=FILE --to=FILE` names the replay and the file that the
+/// migrated one is written to, whatever they are.
+#[tactic(auto, using(crate::proofs::LiteralLemmas::migrated_files_after_equals))]
+pub fn migrated_files_after_equals()
+    ensures { (program file to : List ℕ) →
+        request_of (program ∷ codes "migrate" ∷ (codes "--file=" ++ file)
+        ∷ (codes "--to=" ++ to) ∷ [])
+        ≡ Some (Migrate (match_alone file) to) }
 {}
 
 /// A law of the definition: `--script FILE` names FILE, if that does not begin with `-` or is `-`
@@ -28,7 +57,7 @@ pub fn script_after_equals()
 pub fn script_in_a_word()
     ensures { (program script : List ℕ) → is_plain script ≡ true →
         request_of (program ∷ codes "drill" ∷ codes "--script" ∷ script ∷ [])
-        ≡ Some (Drill (drill_alone script)) }
+        ≡ Some (Drill (match_alone script) None) }
 {}
 
 /// A law of the definition: `yaml FILES` names exactly these words in their order, if none of them

@@ -7,20 +7,20 @@
 #![tactic(auto)]
 
 mod command;
-mod drill_query;
 mod file_names;
 mod laws;
+mod match_query;
 mod reading;
 mod request;
 mod route_query;
 mod words_fault;
 
-pub use drill_query::DrillQuery;
 pub use file_names::FileNames;
 pub use laws::{
-    accepted_words_name_a_request, check_names, no_command, script_after_equals, script_in_a_word,
-    yaml_names,
+    accepted_words_name_a_request, check_names, migrated_files_after_equals, no_command,
+    record_after_equals, replay_after_equals, script_after_equals, script_in_a_word, yaml_names,
 };
+pub use match_query::MatchQuery;
 pub use reading::read_words;
 pub use request::Request;
 pub use route_query::RouteQuery;

@@ -5,13 +5,13 @@ ghost use Rattle.clap.specs.Walk.{rows_of, first_of, all_of};
 ghost use Rattle.clap.specs.Matches.{found_of};
 ghost use Rattle.clap.specs.Simple.{subcommand_of, subcommand_rows_of};
 ghost use Rattle.command_words.specs.Commands.{lockstep_app};
-ghost use Rattle.command_words.specs.RequestPlain.{plain_of, plain_drill, plain_route, HasFewFiles};
+ghost use Rattle.command_words.specs.RequestPlain.{plain_of, plain_match, plain_route, HasFewFiles};
 ghost use Rattle.command_words.specs.Reading.{is_accepted, is_allowed, command_request};
 ghost use Rattle.command_words.specs.Reading.{found_request, request_of, names_in, number_in};
-ghost use Rattle.command_words.specs.Reading.{cell_in, drill_in, route_in};
+ghost use Rattle.command_words.specs.Reading.{cell_in, match_in, route_in, migrate_in};
 
 use crate::command::lockstep_command;
-use crate::{DrillQuery, FileNames, MAX_FILES, Request, RouteQuery, WordsFault};
+use crate::{FileNames, MAX_FILES, MatchQuery, Request, RouteQuery, WordsFault};
 use clap::ArgMatches;
 use clap::error::ErrorKind;
 use rule_values::read_cell;
@@ -88,7 +88,10 @@ fn request_for<'a>(
         command_request command.now (rows_of (found_of found.now)) ≡ None }
 {
     match command {
-        "drill" => Ok(Request::Drill(drill_in(alloc, found)?)),
+        "drill" => Ok(Request::Drill {
+            query: match_in(alloc, found, "script")?,
+            record: value_in(found, "record"),
+        }),
         "yaml" => Ok(Request::Yaml {
             files: names_in(alloc, found, 1)?,
         }),
@@ -97,7 +100,9 @@ fn request_for<'a>(
             rules: names_in(alloc, found, 1)?,
         }),
         "route" => Ok(Request::Route(route_in(alloc, found)?)),
-        "local" => Ok(Request::Local(drill_in(alloc, found)?)),
+        "local" => Ok(Request::Local(match_in(alloc, found, "script")?)),
+        "replay" => Ok(Request::Replay(match_in(alloc, found, "file")?)),
+        "migrate" => migrate_in(alloc, found),
         "make" => Ok(Request::Make {
             number: number_in(found, "number").ok_or(WordsFault::Refused)?,
         }),
@@ -105,23 +110,41 @@ fn request_for<'a>(
     }
 }
 
-/// The drill that is to be run.
-#[tactic(auto, unfolding(crate::specs::Reading::drill_in))]
-fn drill_in<'a>(alloc: Global, found: &ArgMatches<'a>) -> Result<DrillQuery<'a>, WordsFault>
-    ensures query { IfOk result
-        (λ query. drill_in (rows_of (found_of found.now)) ≡ Some (plain_drill query)) }
+/// The match by what the file of this option holds.
+#[tactic(auto, unfolding(crate::specs::Reading::match_in))]
+fn match_in<'a>(
+    alloc: Global,
+    found: &ArgMatches<'a>,
+    option: &str,
+) -> Result<MatchQuery<'a>, WordsFault>
+    ensures query { IfOk result (λ query.
+        match_in option.now (rows_of (found_of found.now)) ≡ Some (plain_match query)) }
     ensures few { IfOk result (λ query. length query.rules ≤ MAX_FILES) }
     ensures refused { result ≡ Err WordsFault.Refused →
-        drill_in (rows_of (found_of found.now)) ≡ None }
+        match_in option.now (rows_of (found_of found.now)) ≡ None }
 {
-    let script = value_in(found, "script").ok_or(WordsFault::Refused)?;
+    let file = value_in(found, option).ok_or(WordsFault::Refused)?;
     let map_file = value_in(found, "map");
     let rules = names_in(alloc, found, 0)?;
-    Ok(DrillQuery {
-        script,
+    Ok(MatchQuery {
+        file,
         map_file,
         rules,
     })
+}
+
+/// The request to migrate a replay.
+#[tactic(auto, unfolding(crate::specs::Reading::migrate_in))]
+fn migrate_in<'a>(alloc: Global, found: &ArgMatches<'a>) -> Result<Request<'a>, WordsFault>
+    ensures request { IfOk result
+        (λ request. migrate_in (rows_of (found_of found.now)) ≡ Some (plain_of request)) }
+    ensures few { IfOk result HasFewFiles }
+    ensures refused { result ≡ Err WordsFault.Refused →
+        migrate_in (rows_of (found_of found.now)) ≡ None }
+{
+    let to = value_in(found, "to").ok_or(WordsFault::Refused)?;
+    let query = match_in(alloc, found, "file")?;
+    Ok(Request::Migrate { query, to })
 }
 
 /// The route that is asked for.

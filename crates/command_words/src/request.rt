@@ -1,14 +1,19 @@
-use crate::drill_query::DrillQuery;
 use crate::file_names::FileNames;
+use crate::match_query::MatchQuery;
 use crate::route_query::RouteQuery;
 
 /// The request of an accepted command line. Each name is a word, or the part of one after `=`, as
 /// it was given.
 #[derive(Debug, Drop)]
 pub enum Request<'a> {
-    /// `drill --script FILE --map FILE RULES`: run the drill that the file holds, over the map and
-    /// the rules.
-    Drill(DrillQuery<'a>),
+    /// `drill --script FILE --map FILE --record FILE RULES`: run the drill that the file holds,
+    /// over the map and the rules, and write its replay, if a file is named for it.
+    Drill {
+        /// The drill.
+        query: MatchQuery<'a>,
+        /// The name of the file that the replay is written to, if one is given.
+        record: Option<&'a str>,
+    },
 
     /// `yaml FILES`: print the resolved forest of the files, taken together in this order.
     Yaml {
@@ -36,5 +41,18 @@ pub enum Request<'a> {
 
     /// `local --script FILE --map FILE RULES`: play the script that the file holds on threads of
     /// this machine, over the map and the rules.
-    Local(DrillQuery<'a>),
+    Local(MatchQuery<'a>),
+
+    /// `replay --file FILE --map FILE RULES`: run the replay that the file holds, over the map and
+    /// the rules.
+    Replay(MatchQuery<'a>),
+
+    /// `migrate --file FILE --to FILE --map FILE RULES`: run the replay that the file holds, over
+    /// the map and the rules, and write it migrated.
+    Migrate {
+        /// The replay.
+        query: MatchQuery<'a>,
+        /// The name of the file that the migrated replay is written to.
+        to: &'a str,
+    },
 }

@@ -1,6 +1,6 @@
 //! Command lines with the request that they name, or that are refused.
 
-use crate::{DrillQuery, MAX_FILES, Request, RouteQuery, WordsFault, read_words};
+use crate::{MAX_FILES, MatchQuery, Request, RouteQuery, WordsFault, read_words};
 use base::NoMemory;
 use std::alloc::{AllocError, Global};
 use std::fmt::Write;
@@ -40,10 +40,25 @@ fn played_text(
     }
 }
 
-/// The command of a drill or of a local match.
-fn match_text(alloc: Global, command: &str, query: &DrillQuery<'_>) -> Result<String, NoMemory> {
-    let command = played_text(alloc, command, query.script, query.map_file)?;
+/// The command of a match.
+fn match_text(alloc: Global, command: &str, query: &MatchQuery<'_>) -> Result<String, NoMemory> {
+    let command = played_text(alloc, command, query.file, query.map_file)?;
     written(alloc, &command, query.rules.as_slice())
+}
+
+/// The command of a drill, and the file that its replay is written to, if one is named.
+fn drill_text(
+    alloc: Global,
+    query: &MatchQuery<'_>,
+    record: Option<&str>,
+) -> Result<String, NoMemory> {
+    match record {
+        Some(record) => {
+            let command = format!(in alloc; "drill record <{record}>")?;
+            match_text(alloc, &command, query)
+        }
+        None => match_text(alloc, "drill", query),
+    }
 }
 
 /// The command of a route and its options.
@@ -59,8 +74,13 @@ fn route_text(alloc: Global, query: &RouteQuery<'_>) -> Result<String, NoMemory>
 /// The request that a list of words names, of which the first is the program's name.
 fn request_text(alloc: Global, words: &[String]) -> Result<String, NoMemory> {
     match read_words(alloc, words) {
-        Ok(Request::Drill(query)) => match_text(alloc, "drill", &query),
+        Ok(Request::Drill { query, record }) => drill_text(alloc, &query, record),
         Ok(Request::Local(query)) => match_text(alloc, "local", &query),
+        Ok(Request::Replay(query)) => match_text(alloc, "replay", &query),
+        Ok(Request::Migrate { query, to }) => {
+            let command = format!(in alloc; "migrate to <{to}>")?;
+            match_text(alloc, &command, &query)
+        }
         Ok(Request::Make { number }) => format!(in alloc; "make {number}"),
         Ok(Request::Yaml { files }) => written(alloc, "yaml", files.as_slice()),
         Ok(
@@ -147,7 +167,7 @@ const REFUSED_AFTER: [&str; 36] = [
     "drill|",
     "drill|-",
     "drill|--|--script|d",
-    "drill|--script|d|--record=r",
+    "drill|--script|d|--recor=r",
     "drill|--scrip|d",
     "drill|--SCRIPT|d",
     "drill|-script|d",
@@ -339,6 +359,99 @@ const ACCEPTED_QUERIES: [(&str, &str); 11] = [
     ),
 ];
 
+/// Words that would read or write a replay, and that are refused.
+const REFUSED_REPLAYS: [&str; 34] = [
+    // `drill`: a record at most once, with a value.
+    "drill|--record|r",
+    "drill|--record|r|d",
+    "drill|--record|--script=d",
+    "drill|--script|d|--record",
+    "drill|--script|d|--record|r|--record|r",
+    "drill|--script|d|--record=r|--record=s",
+    "drill|--script|d|--record|-r",
+    "drill|--script|d|--file|f",
+    "drill|--script|d|--to|t",
+    "local|--script|s|--record|r",
+    // `replay`: a file once, and no option of another command.
+    "replay",
+    "replay|f",
+    "replay|--file",
+    "replay|--script|s",
+    "replay|--file|f|--script|s",
+    "replay|--file|f|--file|f",
+    "replay|--file|-f",
+    "replay|--file|f|--to|t",
+    "replay|--file|f|--record|r",
+    "replay|--file|f|--map|m|--map|m",
+    "replay|--map|m|r",
+    "replay|--|--file|f",
+    "replays|--file|f",
+    // `migrate`: a file and another one to write, each once.
+    "migrate",
+    "migrate|--file|f",
+    "migrate|--to|t",
+    "migrate|--file|f|t",
+    "migrate|--file|f|--to",
+    "migrate|--file|f|--to|-t",
+    "migrate|--file|f|--to|t|--to|t",
+    "migrate|--file|f|--file|f|--to|t",
+    "migrate|--file|f|--|--to|t",
+    "migrate|--script|f|--to|t",
+    "migrate|--file|f|--to|t|--record|r",
+];
+
+/// Words that read or write a replay, with the request that they name.
+const ACCEPTED_REPLAYS: [(&str, &str); 17] = [
+    ("drill|--script|d|--record|r", "drill record <r> <d>"),
+    ("drill|--record|r|--script|d", "drill record <r> <d>"),
+    (
+        "drill|a|--record=--map|--map=m|b|--script=d",
+        "drill record <--map> <d> map <m> <a> <b>",
+    ),
+    ("drill|--script|d|--record=", "drill record <> <d>"),
+    ("drill|--script|d|--record|-", "drill record <-> <d>"),
+    ("drill|--script|d|--|--record|r", "drill <d> <--record> <r>"),
+    ("replay|--file|f", "replay <f>"),
+    ("replay|--file=|r", "replay <> <r>"),
+    ("replay|--file|f|--map|m", "replay <f> map <m>"),
+    ("replay|--file|replay|migrate", "replay <replay> <migrate>"),
+    (
+        "replay|b|--map=--|a|--file=f|b|--|--file",
+        "replay <f> map <--> <b> <a> <b> <--file>",
+    ),
+    ("migrate|--file|f|--to|t", "migrate to <t> <f>"),
+    ("migrate|--to|t|--file|f", "migrate to <t> <f>"),
+    ("migrate|--file|f|--to=", "migrate to <> <f>"),
+    ("migrate|--to=|--file=|", "migrate to <> <> <>"),
+    ("migrate|--file|f|--to|f", "migrate to <f> <f>"),
+    (
+        "migrate|a|--to=--file|b|--map|m|--file|f|--|--to|c",
+        "migrate to <--file> <f> map <m> <a> <b> <--to> <c>",
+    ),
+];
+
+#[test]
+fn refused_replays(rt: HostRuntime) -> Result<(), Fail> {
+    let alloc = rt.alloc();
+    for words in REFUSED_REPLAYS {
+        let line = command_line(alloc, words)?;
+        let got = request_text(alloc, &line)?;
+        assert_eq!(rt; got.as_str(), REFUSED, "of {words}");
+    }
+    Ok(())
+}
+
+#[test]
+fn accepted_replays(rt: HostRuntime) -> Result<(), Fail> {
+    let alloc = rt.alloc();
+    for (words, want) in ACCEPTED_REPLAYS {
+        let line = command_line(alloc, words)?;
+        let got = request_text(alloc, &line)?;
+        assert_eq!(rt; got.as_str(), want, "of {words}");
+    }
+    Ok(())
+}
+
 #[test]
 fn refused_queries(rt: HostRuntime) -> Result<(), Fail> {
     let alloc = rt.alloc();
@@ -440,10 +553,18 @@ fn request_of_many(alloc: Global, command: &str, count: usize) -> Result<String,
 }
 
 /// Commands with what they print before their names, and whether they want a name.
-const COMMANDS_OF_NAMES: [(&str, &str, bool); 3] = [
+const COMMANDS_OF_NAMES: [(&str, &str, bool); 7] = [
     ("yaml", "yaml", true),
     ("check", "check", true),
-    ("drill|--script|s", "drill <s>", false),
+    (
+        "route|--map|m|--kind|k|--from|0,0|--to|1,1",
+        "route <m> <k> 0,0 1,1",
+        true,
+    ),
+    ("drill|--script|s|--record|r", "drill record <r> <s>", false),
+    ("local|--script|s", "local <s>", false),
+    ("replay|--file|f", "replay <f>", false),
+    ("migrate|--file|f|--to|t", "migrate to <t> <f>", false),
 ];
 
 #[test]

@@ -24,14 +24,13 @@ no_contents = record { rules = []; map_file = None; script = None; replay = None
 -- The files were read, and the answer to their contents was printed.
 pub all_given :
     (request : RequestPlain) (all : WantedFiles) (contents : Contents) (status : ℕ) (d d' : DiskState) (s s' : SinkState) →
-    wanted request ≡ all → written_by request ≡ None →
-    d'.files ≡ d.files → d.faults ≤ d'.faults → s.faults ≤ s'.faults →
+    wanted request ≡ all → d.faults ≤ d'.faults → s.faults ≤ s'.faults →
     IfSome d.files (λ files. contents_of all files ≡ Ok contents) →
     IfNone d.files (AreContents all contents) →
-    Printed (given_reply request contents) status d d' s s' →
-    RunsRequest request status (causes_of (outside d s) (outside d' s')) (outside d s) (outside d' s')
-all_given request all contents status d d' s s' wants none same later later' told untold printed =
-    request_given request contents status d d' s s' none same later later'
+    Printed (written_by request) (given_reply request contents) status d d' s s' →
+    RunsRequest request status (causes_of (written_by request) (outside d s) (outside d' s')) (outside d s) (outside d' s')
+all_given request all contents status d d' s s' wants later later' told untold printed =
+    request_given request contents status d d' s s' later later'
     (subst (λ wanted. IfSome d.files (λ files. contents_of wanted files ≡ Ok contents)) (sym wants) told)
     (subst (λ wanted. IfNone d.files (AreContents wanted contents)) (sym wants) untold)
     printed
@@ -39,27 +38,27 @@ all_given request all contents status d d' s s' wants none same later later' tol
 -- The same for a command that prints a text.
 pub files_given :
     (request : RequestPlain) (all : WantedFiles) (contents : Contents) (text : Result (Vec ℕ) Stop) (step : Step (List ℕ)) (status : ℕ) (d d' : DiskState) (s s' : SinkState) →
-    wanted request ≡ all → written_by request ≡ None →
+    wanted request ≡ all →
     d'.files ≡ d.files → d.faults ≤ d'.faults → s.faults ≤ s'.faults →
     IfSome d.files (λ files. contents_of all files ≡ Ok contents) →
     IfNone d.files (AreContents all contents) →
     ReturnsStep text (λ text. text.items) step → answer_of request contents ≡ text_reply step →
     PrintsText text status s s' →
-    RunsRequest request status (causes_of (outside d s) (outside d' s')) (outside d s) (outside d' s')
-files_given request all contents text step status d d' s s' wants none same later later' told untold returns answers prints =
-    all_given request all contents status d d' s s' wants none same later later' told untold
-    (subst (λ answer. Printed (replied answer) status d d' s s') (sym answers)
-    (text_printed text step status d d' s s' same returns prints))
+    RunsRequest request status (causes_of (written_by request) (outside d s) (outside d' s')) (outside d s) (outside d' s')
+files_given request all contents text step status d d' s s' wants same later later' told untold returns answers prints =
+    all_given request all contents status d d' s s' wants later later' told untold
+    (subst (λ answer. Printed (written_by request) (replied answer) status d d' s s') (sym answers)
+    (text_printed (written_by request) text step status d d' s s' same returns prints))
 
 -- A command that reads no files and prints a text.
 pub nothing_read :
     (request : RequestPlain) (text : Result (Vec ℕ) Stop) (step : Step (List ℕ)) (status : ℕ) (d : DiskState) (s s' : SinkState) →
-    wanted request ≡ no_files → written_by request ≡ None → s.faults ≤ s'.faults →
+    wanted request ≡ no_files → s.faults ≤ s'.faults →
     ReturnsStep text (λ text. text.items) step → answer_of request no_contents ≡ text_reply step →
     PrintsText text status s s' →
-    RunsRequest request status (causes_of (outside d s) (outside d s')) (outside d s) (outside d s')
-nothing_read request text step status d s s' wants none later' returns answers prints =
-    files_given request no_files no_contents text step status d d s s' wants none refl (omega arith) later'
+    RunsRequest request status (causes_of (written_by request) (outside d s) (outside d s')) (outside d s) (outside d s')
+nothing_read request text step status d s s' wants later' returns answers prints =
+    files_given request no_files no_contents text step status d d s s' wants refl (omega arith) later'
     (told d.files) (untold d.files) returns answers prints where
       told : (o : Option Files) → IfSome o (λ files. contents_of no_files files ≡ Ok no_contents)
       told None = tt
@@ -72,15 +71,15 @@ nothing_read request text step status d s s' wants none later' returns answers p
 -- One of them was not.
 pub files_stopped :
     (request : RequestPlain) (all : WantedFiles) (stop : Stop) (status : ℕ) (d d' : DiskState) (s s' : SinkState) →
-    wanted request ≡ all → written_by request ≡ None →
+    wanted request ≡ all →
     d'.files ≡ d.files → d.faults ≤ d'.faults → s.faults ≤ s'.faults →
     IfSome d.files (λ files. IsReadStop stop (contents_of all files)
     (IsFirstThere (in_order all) files × Rose d.faults d'.faults)) →
     IfNone d.files (IsUntoldStop stop (in_order all) (Rose d.faults d'.faults)) →
     PrintsStop stop status s s' →
-    RunsRequest request status (causes_of (outside d s) (outside d' s')) (outside d s) (outside d' s')
-files_stopped request all stop status d d' s s' wants none same later later' told untold prints =
-    request_stopped request stop status d d' s s' none same later later'
+    RunsRequest request status (causes_of (written_by request) (outside d s) (outside d' s')) (outside d s) (outside d' s')
+files_stopped request all stop status d d' s s' wants same later later' told untold prints =
+    request_stopped request stop status d d' s s' same later later'
     (subst (λ wanted. IfSome d.files (λ files. IsReadStop stop (contents_of wanted files) (IsFirstThere (in_order wanted) files × Rose d.faults d'.faults))) (sym wants) told)
     (subst (λ wanted. IfNone d.files (IsUntoldStop stop (in_order wanted) (Rose d.faults d'.faults))) (sym wants) untold)
     prints

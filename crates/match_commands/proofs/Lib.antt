@@ -1,4 +1,5 @@
 pub mod RequestLemmas
 pub mod FilesLemmas
+pub mod AnswerLemmas
 pub mod DrillLemmas
 pub mod RunLemmas

@@ -7,7 +7,7 @@ use Rattle.command_words.specs.RequestPlain.{RequestPlain}
 use Rattle.game_io.specs.Files.{Files}
 use Rattle.game_io.specs.DiskState.{DiskState}
 use Rattle.game_io.specs.SinkState.{SinkState}
-use Rattle.command_answers.specs.declared.statuses.TheConstants.{DONE, REFUSED_FILE, OUT_OF_MEMORY}
+use Rattle.command_answers.specs.declared.statuses.TheConstants.{OUT_OF_MEMORY}
 use Rattle.command_answers.specs.declared.stop.Stop.{Stop}
 use Rattle.command_answers.specs.declared.stop.Stop.TheVariants.{Refused, ReadFault, NoMemory}
 use Rattle.command_answers.specs.FileWrite.{OnlyChanges}
@@ -21,90 +21,85 @@ use Rattle.command_answers.specs.WantedFiles.{WantedFiles, no_files, in_order, r
 use Rattle.command_answers.specs.Contents.{Contents, contents_of, read_after, content_of, IsFirstThere, AreWithinLimits, AreContents}
 use Rattle.match_commands.specs.Request.{wanted, written_by, answer_of, text_reply, given_reply, reply_to}
 use Rattle.match_commands.specs.Run.{RunsRequest}
-use Rattle.command_answers.specs.Stop.{IsReadStop, IsUntoldStop, ReturnsStep, PrintsStop, PrintsText}
+use Rattle.command_answers.specs.Stop.{IsReadStop, IsStepStop, IsUntoldStop, ReturnsStep, PrintsStop, PrintsText}
 use Rattle.command_answers.specs.OptionLemmas.{map_some, map_none}
-use Rattle.command_answers.specs.CausesLemmas.{HasCauses, at_done, at_file, at_memory, at_write, at_read}
+use Rattle.command_answers.specs.CausesLemmas.{HasCauses, IsSettled, done_settled, file_settled, at_memory, at_write, at_read, answered_causes, none_changes}
 use Rattle.command_answers.specs.OutcomeLemmas.{printed_outcome, answered_outcome, memory_outcome}
 
--- What was printed for a command's text: the reply, and the causes of the status.
-pub record Printed (reply : Reply) (status : ℕ) (d d' : DiskState) (s s' : SinkState) : Type 0 where
-  pub answered : IsAnswered reply status (causes_of (outside d s) (outside d' s')) (outside d s) (outside d' s')
-  pub causes : HasCauses status (Rose d.faults d'.faults) (Rose s.faults s'.faults)
+-- What was printed and written for a command: the reply, the causes of the status, and the files that changed. `written` is
+-- the file that its request names to be written.
+pub record Printed (written : Option (List ℕ)) (reply : Reply) (status : ℕ) (d d' : DiskState) (s s' : SinkState) : Type 0 where
+  pub answered : IsAnswered reply status (causes_of written (outside d s) (outside d' s')) (outside d s) (outside d' s')
+  pub causes : HasCauses status (Rose d.faults d'.faults) (Rose s.faults s'.faults ⊎ (IsSome written × Rose d.faults d'.faults))
+  pub files : OnlyChanges written d.files d'.files
 
--- A reply without a file, of a command that is done or refuses a file.
-pub done_printed :
-    (text : List ℕ) (status : ℕ) (d d' : DiskState) (s s' : SinkState) →
-    d'.files ≡ d.files → MayPrintReply (done text) status s s' → Printed (done text) status d d' s s'
-done_printed text status d d' s s' same prints = record {
-  answered = answered_outcome (done text) status d d' s s' refl same prints;
-  causes = cause prints;
-} where
-  cause : MayPrintReply (done text) status s s' → HasCauses status (Rose d.faults d'.faults) (Rose s.faults s'.faults)
-  cause (inl (inl wrote)) = at_done status _ _ wrote.0
-  cause (inl (inr cut)) = at_write status _ _ cut.1 cut.0
-  cause (inr memory) = at_memory status _ _ memory.0
-
-pub refusal_printed :
-    (name : List ℕ) (place : ℕ) (cause : List ℕ) (status : ℕ) (d d' : DiskState) (s s' : SinkState) →
-    d'.files ≡ d.files → MayPrintReply (refusal name place cause) status s s' →
-    Printed (refusal name place cause) status d d' s s'
-refusal_printed name place cause status d d' s s' same prints = record {
-  answered = answered_outcome (refusal name place cause) status d d' s s' refl same prints;
-  causes = why prints;
-} where
-  why : MayPrintReply (refusal name place cause) status s s' → HasCauses status (Rose d.faults d'.faults) (Rose s.faults s'.faults)
-  why (inl (inl wrote)) = at_file status _ _ wrote.0
-  why (inl (inr cut)) = at_write status _ _ cut.1 cut.0
-  why (inr memory) = at_memory status _ _ memory.0
+-- A reply without a file.
+pub alone_printed :
+    (written : Option (List ℕ)) (reply : Reply) (status : ℕ) (d d' : DiskState) (s s' : SinkState) →
+    IsSettled reply.status → reply.write ≡ None → d'.files ≡ d.files → MayPrintReply reply status s s' →
+    Printed written reply status d d' s s'
+alone_printed written reply status d d' s s' settled none same prints =
+    let answered = answered_outcome reply status written d d' s s' none same prints in
+    record {
+      answered = answered;
+      causes = answered_causes reply status (causes_of written (outside d s) (outside d' s')) (outside d s) (outside d' s') settled answered;
+      files = none_changes written d.files d'.files same;
+    }
 
 pub memory_printed :
-    (reply : Reply) (status : ℕ) (d d' : DiskState) (s s' : SinkState) →
-    d'.files ≡ d.files → (status ≡ OUT_OF_MEMORY) × (s'.written ≡ s.written) → Printed reply status d d' s s'
-memory_printed reply status d d' s s' same memory = record {
+    (written : Option (List ℕ)) (reply : Reply) (status : ℕ) (d d' : DiskState) (s s' : SinkState) →
+    d'.files ≡ d.files → (status ≡ OUT_OF_MEMORY) × (s'.written ≡ s.written) → Printed written reply status d d' s s'
+memory_printed written reply status d d' s s' same memory = record {
   answered = inr (memory_outcome reply status d d' s s' memory.0 same memory.1);
   causes = at_memory status _ _ memory.0;
+  files = none_changes written d.files d'.files same;
 }
+
+-- A stop before the reply, at a step that has this reply or refuses for it.
+pub stop_printed :
+    {T : Type 0} (written : Option (List ℕ)) (stop : Stop) (step : Step T) (next : T → Step Reply) (status : ℕ) (d d' : DiskState) (s s' : SinkState) →
+    d'.files ≡ d.files → IsStepStop stop step → PrintsStop stop status s s' →
+    Printed written (replied (step >>= next)) status d d' s s'
+stop_printed written (Refused name place cause) step next status d d' s s' same stops prints =
+    subst (λ step. Printed written (replied (step >>= next)) status d d' s s') (sym stops)
+    (alone_printed written (refusal name.now place cause.now) status d d' s s' file_settled refl same prints)
+stop_printed written ReadFault step next status d d' s s' same stops prints = absurd stops
+stop_printed written NoMemory step next status d d' s s' same stops prints =
+    memory_printed written (replied (step >>= next)) status d d' s s' same prints
 
 -- The text of a command, which is a step's, or the step's refusal.
 pub text_printed :
-    (text : Result (Vec ℕ) Stop) (step : Step (List ℕ)) (status : ℕ) (d d' : DiskState) (s s' : SinkState) →
+    (written : Option (List ℕ)) (text : Result (Vec ℕ) Stop) (step : Step (List ℕ)) (status : ℕ) (d d' : DiskState) (s s' : SinkState) →
     d'.files ≡ d.files → ReturnsStep text (λ text. text.items) step → PrintsText text status s s' →
-    Printed (replied (text_reply step)) status d d' s s'
-text_printed (Ok text) step status d d' s s' same returns prints =
-    subst (λ step. Printed (replied (text_reply step)) status d d' s s') (sym returns)
-    (done_printed text.items status d d' s s' same (inl prints))
-text_printed (Err (Refused name place cause)) step status d d' s s' same returns prints =
-    subst (λ step. Printed (replied (text_reply step)) status d d' s s') (sym returns)
-    (refusal_printed name.now place cause.now status d d' s s' same prints)
-text_printed (Err ReadFault) step status d d' s s' same returns prints = absurd returns
-text_printed (Err NoMemory) step status d d' s s' same returns prints =
-    memory_printed (replied (text_reply step)) status d d' s s' same prints
+    Printed written (replied (text_reply step)) status d d' s s'
+text_printed written (Ok text) step status d d' s s' same returns prints =
+    subst (λ step. Printed written (replied (text_reply step)) status d d' s s') (sym returns)
+    (alone_printed written (done text.items) status d d' s s' done_settled refl same (inl prints))
+text_printed written (Err stop) step status d d' s s' same returns prints =
+    stop_printed written stop step (λ text. Ok (done text)) status d d' s s' same returns prints
 
 -- All files were read, and the answer to their contents was printed.
 pub request_given :
     (request : RequestPlain) (contents : Contents) (status : ℕ) (d d' : DiskState) (s s' : SinkState) →
-    written_by request ≡ None → d'.files ≡ d.files → d.faults ≤ d'.faults → s.faults ≤ s'.faults →
+    d.faults ≤ d'.faults → s.faults ≤ s'.faults →
     IfSome d.files (λ files. contents_of (wanted request) files ≡ Ok contents) →
     IfNone d.files (AreContents (wanted request) contents) →
-    Printed (given_reply request contents) status d d' s s' →
-    RunsRequest request status (causes_of (outside d s) (outside d' s')) (outside d s) (outside d' s')
-request_given request contents status d d' s s' none same later later' told untold printed = record {
+    Printed (written_by request) (given_reply request contents) status d d' s s' →
+    RunsRequest request status (causes_of (written_by request) (outside d s) (outside d' s')) (outside d s) (outside d' s')
+request_given request contents status d d' s s' later later' told untold printed = record {
   told = map_some d.files _ _ (λ files read. inl (answer files read)) told;
   untold = map_none d.files (λ given. inl (contents, (given, printed.answered))) untold;
   accepted = printed.causes.accepted;
   read = λ e. inl (printed.causes.read e);
-  write = λ e. inl (printed.causes.write e);
-  files = only none;
+  write = printed.causes.write;
+  files = printed.files;
   later = (later, later');
 } where
   answer : (files : Files) → contents_of (wanted request) files ≡ Ok contents →
-      IsAnswered (reply_to request files) status (causes_of (outside d s) (outside d' s')) (outside d s) (outside d' s')
+      IsAnswered (reply_to request files) status (causes_of (written_by request) (outside d s) (outside d' s')) (outside d s) (outside d' s')
   answer files read =
-      subst (λ step. IsAnswered (replied (step >>= answer_of request)) status (causes_of (outside d s) (outside d' s')) (outside d s) (outside d' s'))
+      subst (λ step. IsAnswered (replied (step >>= answer_of request)) status (causes_of (written_by request) (outside d s) (outside d' s')) (outside d s) (outside d' s'))
       (sym read) printed.answered
-
-  only : written_by request ≡ None → OnlyChanges (written_by request) d.files d'.files
-  only none = subst (λ name. OnlyChanges name d.files d'.files) (sym none) same
 
 -- The count of faults rose, whether the disk tells its files or not.
 rose_of : {R : Type 0} (o : Option Files) (There : Files → Type 0) → IfSome o (λ files. There files × R) → IfNone o R → R
@@ -114,60 +109,60 @@ rose_of (Some files) There told untold = told.1
 -- Some file was not read, and the stop was printed.
 pub request_stopped :
     (request : RequestPlain) (stop : Stop) (status : ℕ) (d d' : DiskState) (s s' : SinkState) →
-    written_by request ≡ None → d'.files ≡ d.files → d.faults ≤ d'.faults → s.faults ≤ s'.faults →
+    d'.files ≡ d.files → d.faults ≤ d'.faults → s.faults ≤ s'.faults →
     IfSome d.files (λ files. IsReadStop stop (contents_of (wanted request) files)
     (IsFirstThere (in_order (wanted request)) files × Rose d.faults d'.faults)) →
     IfNone d.files (IsUntoldStop stop (in_order (wanted request)) (Rose d.faults d'.faults)) →
     PrintsStop stop status s s' →
-    RunsRequest request status (causes_of (outside d s) (outside d' s')) (outside d s) (outside d' s')
-request_stopped request (Refused name place cause) status d d' s s' none same later later' told untold prints = record {
+    RunsRequest request status (causes_of (written_by request) (outside d s) (outside d' s')) (outside d s) (outside d' s')
+request_stopped request (Refused name place cause) status d d' s s' same later later' told untold prints = record {
   told = map_some d.files _ _ (λ files read. inl (answer files read)) told;
   untold = map_none d.files (λ unread. inr (inl (unread.0, inl (reply, (unread.1, printed.answered))))) untold;
   accepted = printed.causes.accepted;
   read = λ e. inl (printed.causes.read e);
-  write = λ e. inl (printed.causes.write e);
-  files = subst (λ name. OnlyChanges name d.files d'.files) (sym none) same;
+  write = printed.causes.write;
+  files = printed.files;
   later = (later, later');
 } where
   reply : Reply
   reply = refusal name.now place cause.now
 
-  printed : Printed reply status d d' s s'
-  printed = refusal_printed name.now place cause.now status d d' s s' same prints
+  printed : Printed (written_by request) reply status d d' s s'
+  printed = alone_printed (written_by request) reply status d d' s s' file_settled refl same prints
 
   answer : (files : Files) → contents_of (wanted request) files ≡ Err reply →
-      IsAnswered (reply_to request files) status (causes_of (outside d s) (outside d' s')) (outside d s) (outside d' s')
+      IsAnswered (reply_to request files) status (causes_of (written_by request) (outside d s) (outside d' s')) (outside d s) (outside d' s')
   answer files read =
-      subst (λ step. IsAnswered (replied (step >>= answer_of request)) status (causes_of (outside d s) (outside d' s')) (outside d s) (outside d' s'))
+      subst (λ step. IsAnswered (replied (step >>= answer_of request)) status (causes_of (written_by request) (outside d s) (outside d' s')) (outside d s) (outside d' s'))
       (sym read) printed.answered
-request_stopped request ReadFault status d d' s s' none same later later' told untold prints = record {
+request_stopped request ReadFault status d d' s s' same later later' told untold prints = record {
   told = map_some d.files _ _ (λ files read. inr (read.0, read.1, outcome)) told;
   untold = map_none d.files (λ rose. inr (inl (rose, inr outcome))) untold;
   accepted = (causes prints).accepted;
   read = λ e. inl ((causes prints).read e);
-  write = λ e. inl ((causes prints).write e);
-  files = subst (λ name. OnlyChanges name d.files d'.files) (sym none) same;
+  write = (causes prints).write;
+  files = none_changes (written_by request) d.files d'.files same;
   later = (later, later');
 } where
-  outcome : IsPrinted read_fault status (causes_of (outside d s) (outside d' s')) (outside d s) (outside d' s')
-  outcome = printed_outcome read_fault status d d' s s' refl same prints
+  outcome : IsPrinted read_fault status (causes_of (written_by request) (outside d s) (outside d' s')) (outside d s) (outside d' s')
+  outcome = printed_outcome read_fault status (written_by request) d d' s s' refl same prints
 
   rose : Rose d.faults d'.faults
   rose = rose_of d.files (IsFirstThere (in_order (wanted request))) told untold
 
-  causes : PrintsReply read_fault status s s' → HasCauses status (Rose d.faults d'.faults) (Rose s.faults s'.faults)
+  causes : PrintsReply read_fault status s s' → HasCauses status (Rose d.faults d'.faults) (Rose s.faults s'.faults ⊎ (IsSome (written_by request) × Rose d.faults d'.faults))
   causes (inl wrote) = at_read status _ _ rose wrote.0
-  causes (inr cut) = at_write status _ _ cut.1 cut.0
-request_stopped request NoMemory status d d' s s' none same later later' told untold prints = record {
-  told = map_some d.files _ _ (λ files read. inl (memory_printed (reply_to request files) status d d' s s' same prints).answered) told;
+  causes (inr cut) = at_write status _ _ (inl cut.1) cut.0
+request_stopped request NoMemory status d d' s s' same later later' told untold prints = record {
+  told = map_some d.files _ _ (λ files read. inl (memory_printed (written_by request) (reply_to request files) status d d' s s' same prints).answered) told;
   untold = map_none d.files (λ unread. inr (inr (prints.0, (same, prints.1)))) untold;
   accepted = causes.accepted;
   read = λ e. inl (causes.read e);
-  write = λ e. inl (causes.write e);
-  files = subst (λ name. OnlyChanges name d.files d'.files) (sym none) same;
+  write = causes.write;
+  files = none_changes (written_by request) d.files d'.files same;
   later = (later, later');
 } where
-  causes : HasCauses status (Rose d.faults d'.faults) (Rose s.faults s'.faults)
+  causes : HasCauses status (Rose d.faults d'.faults) (Rose s.faults s'.faults ⊎ (IsSome (written_by request) × Rose d.faults d'.faults))
   causes = at_memory status _ _ prints.0
 
 -- ---- rule files
@@ -220,34 +215,34 @@ rules_stop_untold names stop R o = map_none o (λ stops. subst (λ all. IsUntold
 -- Rule files were read, and the command's text was printed.
 pub rules_given :
     (request : RequestPlain) (names contents : List (List ℕ)) (text : Result (Vec ℕ) Stop) (step : Step (List ℕ)) (status : ℕ) (d d' : DiskState) (s s' : SinkState) →
-    wanted request ≡ rules_alone names → written_by request ≡ None →
+    wanted request ≡ rules_alone names →
     d'.files ≡ d.files → d.faults ≤ d'.faults → s.faults ≤ s'.faults →
     IfSome d.files (λ files. read_after [] (map rule_file names) files ≡ Ok contents) →
     IfNone d.files (AreWithinLimits (map rule_file names) contents) →
     ReturnsStep text (λ text. text.items) step → answer_of request (rule_contents contents) ≡ text_reply step →
     PrintsText text status s s' →
-    RunsRequest request status (causes_of (outside d s) (outside d' s')) (outside d s) (outside d' s')
-rules_given request names contents text step status d d' s s' wants none same later later' told untold returns answers prints =
-    request_given request (rule_contents contents) status d d' s s' none same later later'
+    RunsRequest request status (causes_of (written_by request) (outside d s) (outside d' s')) (outside d s) (outside d' s')
+rules_given request names contents text step status d d' s s' wants same later later' told untold returns answers prints =
+    request_given request (rule_contents contents) status d d' s s' later later'
     (subst (λ wanted. IfSome d.files (λ files. contents_of wanted files ≡ Ok (rule_contents contents))) (sym wants)
     (rules_told names contents d.files told))
     (subst (λ wanted. IfNone d.files (AreContents wanted (rule_contents contents))) (sym wants)
     (rules_untold names contents d.files untold))
-    (subst (λ answer. Printed (replied answer) status d d' s s') (sym answers)
-    (text_printed text step status d d' s s' same returns prints))
+    (subst (λ answer. Printed (written_by request) (replied answer) status d d' s s') (sym answers)
+    (text_printed (written_by request) text step status d d' s s' same returns prints))
 
 -- A rule file was not read.
 pub rules_stopped :
     (request : RequestPlain) (names : List (List ℕ)) (stop : Stop) (status : ℕ) (d d' : DiskState) (s s' : SinkState) →
-    wanted request ≡ rules_alone names → written_by request ≡ None →
+    wanted request ≡ rules_alone names →
     d'.files ≡ d.files → d.faults ≤ d'.faults → s.faults ≤ s'.faults →
     IfSome d.files (λ files. IsReadStop stop (read_after [] (map rule_file names) files)
     (IsFirstThere (map rule_file names) files × Rose d.faults d'.faults)) →
     IfNone d.files (IsUntoldStop stop (map rule_file names) (Rose d.faults d'.faults)) →
     PrintsStop stop status s s' →
-    RunsRequest request status (causes_of (outside d s) (outside d' s')) (outside d s) (outside d' s')
-rules_stopped request names stop status d d' s s' wants none same later later' told untold prints =
-    request_stopped request stop status d d' s s' none same later later'
+    RunsRequest request status (causes_of (written_by request) (outside d s) (outside d' s')) (outside d s) (outside d' s')
+rules_stopped request names stop status d d' s s' wants same later later' told untold prints =
+    request_stopped request stop status d d' s s' same later later'
     (subst (λ wanted. IfSome d.files (λ files. IsReadStop stop (contents_of wanted files) (IsFirstThere (in_order wanted) files × Rose d.faults d'.faults)))
     (sym wants) (rules_stop_told names stop (Rose d.faults d'.faults) d.files told))
     (subst (λ wanted. IfNone d.files (IsUntoldStop stop (in_order wanted) (Rose d.faults d'.faults)))

@@ -1,22 +1,31 @@
 -- A whole run: from the request that the words name, or that they name none.
-use Rattle.std.specs.Prelude.{option_and_then}
-use Rattle.std.proofs.Common.{◌≡◌, ◌⊎◌, ℕ, List, Option, Some, Ok, Err, IsOk, refl, sym, subst, ◌∙◌, inl, inr}
-use Rattle.command_words.specs.RequestPlain.{RequestPlain, Drill, Yaml, Check, Route, Make, Local}
+use Rattle.std.specs.Prelude.{option_and_then, unwrap_or}
+use Rattle.std.proofs.Common.{◌≡◌, ◌⊎◌, ℕ, List, [], Option, None, Some, Ok, Err, IsOk, refl, sym, subst, ◌∙◌, inl, inr}
+use Rattle.command_words.specs.RequestPlain.{RequestPlain, MatchPlain, Drill, Yaml, Check, Route, Make, Local, Replay, Migrate}
 use Rattle.game_io.specs.Files.{Files}
-use Rattle.command_answers.specs.declared.statuses.TheConstants.{DONE, OUT_OF_MEMORY}
+use Rattle.command_answers.specs.declared.statuses.TheConstants.{DONE, OUT_OF_MEMORY, MARK_DIFFERS}
 use Rattle.base.specs.Steps.{◌>>=◌}
 use Rattle.command_answers.specs.Step.{Step, replied}
 use Rattle.command_answers.specs.Contents.{Contents, contents_of}
 use Rattle.rule_commands.specs.RuleFiles.{yaml_step}
 use Rattle.rule_commands.specs.Checks.{check_step}
 use Rattle.rule_commands.specs.Routes.{route_step}
-use Rattle.match_commands.specs.Drills.{drill_step}
+use Rattle.match_commands.specs.Drills.{drill_step, prepared_step, numbered_step}
 use Rattle.match_commands.specs.Locals.{local_match_step}
 use Rattle.match_commands.specs.Made.{make_step}
-use Rattle.command_answers.specs.Causes.{Causes, IsQuiet}
+use Rattle.match_commands.specs.Replayed.{standing_step}
+use Rattle.game_model.specs.Setup.{Setup}
+use Rattle.replay_file.specs.declared.replay.Replay as file
+use Rattle.replay_file.specs.Reading.{read_of}
+use Rattle.replay_run.specs.declared.difference.Difference.{Difference}
+use Rattle.replay_run.specs.Rerun.{difference_of}
+use Rattle.replay_commands.specs.Refusals.{read_step}
+use Rattle.replay_commands.specs.Replays.{game_rerun, mark_status, migrated_reply}
+use Rattle.command_answers.specs.Reply.{Reply}
+use Rattle.command_answers.specs.Causes.{Causes, causes_of, IsQuiet}
 use Rattle.command_answers.specs.Outside.{Outside}
-use Rattle.match_commands.specs.Request.{IsFaultless, wanted, answer_of, given_reply, text_reply}
-use Rattle.match_commands.specs.Run.{Runs, RunsRequest, IsToldAnswer}
+use Rattle.match_commands.specs.Request.{IsFaultless, written_by, wanted, answer_of, given_reply, text_reply}
+use Rattle.match_commands.specs.Run.{Runs, RunsRequest, IsDone, IsToldAnswer}
 use Rattle.command_answers.specs.OptionLemmas.{map_some}
 
 -- A command that prints a text and has it is done.
@@ -24,17 +33,51 @@ text_done : (step : Step (List ℕ)) → IsOk (text_reply step) → (replied (te
 text_done (Ok text) ok = refl
 text_done (Err reply) ok = absurd cc
 
+-- The status of a command on a replay.
+replayed_done : {T : Type 0} (step : Step T) (next : T → Step Reply) (Done : ℕ → Type 0) →
+    ((value : T) → IsOk (next value) → Done (replied (next value)).status) →
+    IsOk (step >>= next) → Done (replied (step >>= next)).status
+replayed_done (Ok value) next Done then ok = then value ok
+replayed_done (Err reply) next Done then ok = absurd cc
+
+abbrev IsReplayDone : ℕ → Type 0
+IsReplayDone status = (status ≡ DONE) ⊎ (status ≡ MARK_DIFFERS)
+
+mark_done : (difference : Option Difference) → IsReplayDone (mark_status difference)
+mark_done None = inl refl
+mark_done (Some d) = inr refl
+
+migrate_done : (setup : Setup) (to : List ℕ) (r : file.Replay) (difference : Option Difference) → IsReplayDone (migrated_reply setup to r difference).status
+migrate_done setup to r None = inl refl
+migrate_done setup to r (Some d) = inr refl
+
+drill_done :
+    (query : MatchPlain) (record_file : Option (List ℕ)) (contents : Contents) →
+    IsOk (drill_step query record_file contents) → (replied (drill_step query record_file contents)).status ≡ DONE
+drill_done query None contents =
+    replayed_done (prepared_step query contents) _ (λ status. status ≡ DONE) (λ made ok. refl)
+drill_done query (Some name) contents =
+    replayed_done (numbered_step query contents) _ (λ status. status ≡ DONE) (λ made ok. refl)
+
 given_done :
-    (request : RequestPlain) (contents : Contents) → IsOk (answer_of request contents) → (given_reply request contents).status ≡ DONE
-given_done (Drill query) contents ok = text_done (drill_step query contents) ok
+    (request : RequestPlain) (contents : Contents) → IsOk (answer_of request contents) → IsDone request (given_reply request contents).status
+given_done (Drill query record_file) contents ok = drill_done query record_file contents ok
 given_done (Yaml names) contents ok = text_done (yaml_step names contents.rules) ok
 given_done (Check map_file names) contents ok = text_done (check_step names map_file contents) ok
 given_done (Route query) contents ok = text_done (route_step query contents) ok
 given_done (Make number) contents ok = text_done (make_step number) ok
 given_done (Local query) contents ok = text_done (local_match_step query contents) ok
+given_done (Replay query) contents ok =
+    replayed_done (standing_step query contents) _ IsReplayDone
+    (λ made. replayed_done (read_step query.file (read_of made.1 (unwrap_or contents.replay []))) _ IsReplayDone
+    (λ r ok. mark_done (difference_of (game_rerun made.0 r) r))) ok
+given_done (Migrate query to) contents ok =
+    replayed_done (standing_step query contents) _ IsReplayDone
+    (λ made. replayed_done (read_step query.file (read_of made.1 (unwrap_or contents.replay []))) _ IsReplayDone
+    (λ r ok. migrate_done made.0 to r (difference_of (game_rerun made.0 r) r))) ok
 
 read_done :
-    (request : RequestPlain) (step : Step Contents) → IsOk (step >>= answer_of request) → (replied (step >>= answer_of request)).status ≡ DONE
+    (request : RequestPlain) (step : Step Contents) → IsOk (step >>= answer_of request) → IsDone request (replied (step >>= answer_of request)).status
 read_done request (Ok contents) ok = given_done request contents ok
 read_done request (Err reply) ok = absurd cc
 
@@ -42,9 +85,9 @@ read_done request (Err reply) ok = absurd cc
 complete_of :
     (request : RequestPlain) (files : Files) (status : ℕ) (causes : Causes) (old new : Outside) →
     IsQuiet causes → IsToldAnswer request files status causes old new → IsFaultless request files →
-    (status ≡ DONE) ⊎ (status ≡ OUT_OF_MEMORY)
+    IsDone request status ⊎ (status ≡ OUT_OF_MEMORY)
 complete_of request files status causes old new quiet (inl (inl (inl complete))) faultless =
-    inl (complete.0 ∙ read_done request (contents_of (wanted request) files) faultless)
+    inl (subst (IsDone request) (sym complete.0) (read_done request (contents_of (wanted request) files) faultless))
 complete_of request files status causes old new quiet (inl (inl (inr (inl cut)))) faultless = absurd (quiet.sink cut.1)
 complete_of request files status causes old new quiet (inl (inl (inr (inr cut)))) faultless = absurd (quiet.write cut.1)
 complete_of request files status causes old new quiet (inl (inr memory)) faultless = inr memory.0
@@ -67,9 +110,14 @@ request_runs request status causes old new runs = record {
   later = runs.later;
 }
 
+-- The causes of a run of this request, if the words name one.
+abbrev run_causes : Option RequestPlain → (old new : Outside) → Causes
+run_causes request = causes_of (option_and_then written_by request)
+
 -- The words name a request, which was run or refused by the call whose own requests are these.
 pub named_runs :
-    (own : RequestPlain → Option RequestPlain) (named : Option RequestPlain) (request : RequestPlain) (status : ℕ) (causes : Causes) (old new : Outside) →
-    named ≡ Some request → Runs (own request) status causes old new → Runs (option_and_then own named) status causes old new
-named_runs own named request status causes old new is runs =
-    subst (λ named. Runs (option_and_then own named) status causes old new) (sym is) runs
+    (own : RequestPlain → Option RequestPlain) (named : Option RequestPlain) (request : RequestPlain) (status : ℕ) (old new : Outside) →
+    named ≡ Some request → Runs (own request) status (run_causes (own request) old new) old new →
+    Runs (option_and_then own named) status (run_causes (option_and_then own named) old new) old new
+named_runs own named request status old new is runs =
+    subst (λ named. Runs (option_and_then own named) status (run_causes (option_and_then own named) old new) old new) (sym is) runs

@@ -1,7 +1,7 @@
 -- The answer to the command `local`.
 use Rattle.std.specs.Prelude.{ℕ, List, [], unwrap_or}
 use Rattle.base.specs.Steps.{◌>>=◌}
-use Rattle.command_words.specs.RequestPlain.{DrillPlain}
+use Rattle.command_words.specs.RequestPlain.{MatchPlain}
 use Rattle.tick_core.specs.Game.{game_start, game_after, game_hash, game_summary}
 use Rattle.command_answers.specs.Step.{Step}
 use Rattle.command_answers.specs.Contents.{Contents}
@@ -11,8 +11,8 @@ use Rattle.local_command.specs.LocalText.{local_step}
 -- The lines of a local match over rules and a map, or the first fault: those of the rules come
 -- before those of the map, and these before those of the script. The world begins as the opening
 -- game of the script's seed and clients.
-abbrev pub local_match_step : DrillPlain → Contents → Step (List ℕ)
+abbrev pub local_match_step : MatchPlain → Contents → Step (List ℕ)
 local_match_step query contents = do
   setup ← setup_step query.rules contents.rules query.map_file contents.map_file
-  local_step game_after game_hash game_summary (game_start setup) query.script
+  local_step game_after game_hash game_summary (game_start setup) query.file
       (unwrap_or contents.script [])

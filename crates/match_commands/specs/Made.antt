@@ -14,7 +14,7 @@ use Rattle.drill.specs.Report.{closing}
 use Rattle.drill.specs.Shown.{shown_server, shown_peers}
 use Rattle.command_answers.specs.Step.{Step}
 use Rattle.rule_commands.specs.Setups.{setup_step}
-use Rattle.match_commands.specs.Drills.{game_match}
+use Rattle.replay_commands.specs.Matches.{game_match}
 
 -- The sample rules and the sample map that are built into the program, read as files are.
 abbrev pub sample_step : Step Setup

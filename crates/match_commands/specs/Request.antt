@@ -3,11 +3,11 @@ use Rattle.std.specs.Prelude.{ℕ, List, map, Option, None, Some, Ok, IsOk}
 use Rattle.base.specs.Steps.{◌>>=◌}
 use Rattle.game_io.specs.Files.{Files}
 use Rattle.command_words.specs.RequestPlain.{RequestPlain, Drill, Yaml, Check, Route, Make}
-use Rattle.command_words.specs.RequestPlain.{Local}
+use Rattle.command_words.specs.RequestPlain.{Local, Replay, Migrate}
 use Rattle.command_answers.specs.Reply.{Reply, done}
 use Rattle.command_answers.specs.Step.{Step, replied}
 use Rattle.command_answers.specs.WantedFiles.{WantedFiles, no_files, rule_file}
-use Rattle.command_answers.specs.WantedFiles.{rules_and_map, with_script}
+use Rattle.command_answers.specs.WantedFiles.{rules_and_map, with_script, with_replay}
 use Rattle.command_answers.specs.Contents.{Contents, contents_of}
 use Rattle.rule_commands.specs.RuleFiles.{yaml_step}
 use Rattle.rule_commands.specs.Checks.{check_step}
@@ -15,38 +15,46 @@ use Rattle.rule_commands.specs.Routes.{route_step}
 use Rattle.match_commands.specs.Drills.{drill_step}
 use Rattle.match_commands.specs.Locals.{local_match_step}
 use Rattle.match_commands.specs.Made.{make_step}
+use Rattle.match_commands.specs.Replayed.{replayed_step, migrated_step}
 
 -- The files that a request wants to be read.
 abbrev pub wanted : RequestPlain → WantedFiles
-wanted (Drill query) = with_script query.script (rules_and_map query.rules query.map_file)
+wanted (Drill query record_file) =
+    with_script query.file (rules_and_map query.rules query.map_file)
 wanted (Yaml names) = record no_files { rules = map rule_file names }
 wanted (Check map_file names) = rules_and_map names map_file
 wanted (Route query) = rules_and_map query.rules (Some query.map_file)
 wanted (Make number) = no_files
-wanted (Local query) = with_script query.script (rules_and_map query.rules query.map_file)
+wanted (Local query) = with_script query.file (rules_and_map query.rules query.map_file)
+wanted (Replay query) = with_replay query.file (rules_and_map query.rules query.map_file)
+wanted (Migrate query to) = with_replay query.file (rules_and_map query.rules query.map_file)
 
 -- The file that a request names to be written, if it names one.
 abbrev pub written_by : RequestPlain → Option (List ℕ)
-written_by (Drill query) = None
+written_by (Drill query record_file) = record_file
 written_by (Yaml names) = None
 written_by (Check map_file names) = None
 written_by (Route query) = None
 written_by (Make number) = None
 written_by (Local query) = None
+written_by (Replay query) = None
+written_by (Migrate query to) = Some to
 
 -- The reply of a command that prints a text alone, or its refusal.
 abbrev pub text_reply : Step (List ℕ) → Step Reply
 text_reply step = step >>= λ text. Ok (done text)
 
--- The reply of a command whose files have these contents, or its refusal. A script and a map are
--- there wherever one is wanted.
+-- The reply of a command whose files have these contents, or its refusal. A map, a script and a
+-- replay are there wherever one is wanted.
 abbrev pub answer_of : RequestPlain → Contents → Step Reply
-answer_of (Drill query) contents = text_reply (drill_step query contents)
+answer_of (Drill query record_file) contents = drill_step query record_file contents
 answer_of (Yaml names) contents = text_reply (yaml_step names contents.rules)
 answer_of (Check map_file names) contents = text_reply (check_step names map_file contents)
 answer_of (Route query) contents = text_reply (route_step query contents)
 answer_of (Make number) contents = text_reply (make_step number)
 answer_of (Local query) contents = text_reply (local_match_step query contents)
+answer_of (Replay query) contents = replayed_step query contents
+answer_of (Migrate query to) contents = migrated_step query to contents
 
 -- The answer to a request whose files have these contents.
 abbrev pub given_reply : RequestPlain → Contents → Reply

@@ -1,9 +1,10 @@
 -- A run of the program: what it answers, prints and leaves, by its causes.
 use Rattle.std.specs.Prelude.{◌≡◌, ◌≢◌, ℕ, ◌⊎◌, Option, None, IfSome, IfNone, option_and_then}
-use Rattle.command_words.specs.RequestPlain.{RequestPlain}
+use Rattle.command_words.specs.RequestPlain.{RequestPlain, Replay, Migrate}
 use Rattle.game_io.specs.Files.{Files}
 use Rattle.command_answers.specs.declared.statuses.TheConstants.{DONE, REFUSED_WORDS, FAULT_READ}
 use Rattle.command_answers.specs.declared.statuses.TheConstants.{FAULT_WRITE, OUT_OF_MEMORY}
+use Rattle.command_answers.specs.declared.statuses.TheConstants.{MARK_DIFFERS}
 use Rattle.command_answers.specs.Reply.{Reply, words_reply, read_fault}
 use Rattle.command_answers.specs.FileWrite.{OnlyChanges}
 use Rattle.command_answers.specs.Causes.{Causes, IsQuiet}
@@ -42,6 +43,13 @@ IsUntoldAnswer request status causes old new =
     ⊎ IsPrinted read_fault status causes old new))
     ⊎ ((status ≡ OUT_OF_MEMORY) × IsUnchanged old new))
 
+-- The status where nothing fails and the files are without a fault. Which of the two a command on
+-- a replay answers, the reply tells: 7 exactly where a mark differs.
+abbrev pub IsDone : RequestPlain → ℕ → Type 0
+IsDone (Replay query) status = (status ≡ DONE) ⊎ (status ≡ MARK_DIFFERS)
+IsDone (Migrate query to) status = (status ≡ DONE) ⊎ (status ≡ MARK_DIFFERS)
+IsDone request status = status ≡ DONE
+
 -- A run of a request.
 pub record RunsRequest
     (request : RequestPlain) (status : ℕ) (causes : Causes) (old new : Outside) : Type 0 where
@@ -68,12 +76,13 @@ pub record Runs
   pub untold :
       IfSome request (λ request.
       IfNone old.disk.files (IsUntoldAnswer request status causes old new))
-  -- Status 0, or 6: where the files are there and without a fault, and nothing failed in the run.
+  -- Status 0, 7 of a command on a replay, or 6: where the files are there and without a fault, and
+  -- nothing failed in the run.
   pub complete :
       IsQuiet causes →
       IfSome request (λ request.
       IfSome old.disk.files
-      (λ files. IsFaultless request files → (status ≡ DONE) ⊎ (status ≡ OUT_OF_MEMORY)))
+      (λ files. IsFaultless request files → IsDone request status ⊎ (status ≡ OUT_OF_MEMORY)))
   -- Status 4 and 5: only where a count of faults rose.
   pub read : status ≡ FAULT_READ → causes.read ⊎ causes.net
   pub write : status ≡ FAULT_WRITE → causes.sink ⊎ causes.write

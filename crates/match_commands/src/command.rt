@@ -1,20 +1,25 @@
-ghost use Rattle.std.specs.Prelude.{◌≡◌, ◌≤◌, length, map, option_map, string_bytes};
+ghost use Rattle.std.specs.Prelude.{◌≡◌, ◌≤◌, None, Some, length, map, option_map, string_bytes};
+ghost use Rattle.std.specs.Prelude.{option_and_then};
 ghost use Rattle.command_words.specs.RequestPlain.{Drill, Yaml, Check, Route, plain_of};
-ghost use Rattle.command_words.specs.RequestPlain.{plain_drill, plain_route, HasFewFiles};
+ghost use Rattle.command_words.specs.RequestPlain.{plain_match, plain_route, HasFewFiles};
 ghost use Rattle.command_words.specs.Reading.{request_of};
 ghost use Rattle.command_answers.specs.Causes.{causes_of};
 ghost use Rattle.command_answers.specs.Outside.{outside};
+ghost use Rattle.match_commands.specs.Request.{written_by};
 ghost use Rattle.match_commands.specs.Run.{Runs, RunsRequest};
 ghost use Rattle.match_commands.specs.TopCalls.{returning, returning_request};
 
 use crate::making::make_text;
-use crate::preparing::prepare_drill;
+use crate::preparing::{prepare_drill, prepare_recorded};
+use crate::recording::record_drill;
+use crate::replaying::{run_migrate, run_replay};
 use crate::worlds::print_report;
 use command_answers::{
-    OUT_OF_MEMORY, print_stop, print_text, read_files, read_rules, read_script_files, refuse_words,
+    OUT_OF_MEMORY, PlayedFile, print_stop, print_text, read_files, read_played_files, read_rules,
+    refuse_words,
 };
 use command_words::{
-    DrillQuery, FileNames, MAX_FILES, Request, RouteQuery, WordsFault, read_words,
+    FileNames, MAX_FILES, MatchQuery, Request, RouteQuery, WordsFault, read_words,
 };
 use game_io::{Disk, Sink};
 use rule_commands::{check_text, route_text, yaml_text};
@@ -28,13 +33,18 @@ use std::alloc::Global;
 /// - 2, the words are refused;
 /// - 3, a file that they name is missing, too long, or has a fault, or there is a `RouteFault`;
 /// - 4, a read failed: the disk's count of faults rose;
-/// - 5, a write failed: the sink's count of faults rose, and a prefix of the text was written;
-/// - 6, out of memory, and a prefix of the text was written.
+/// - 5, a write failed: a count of faults rose, and a prefix of the text was written;
+/// - 6, out of memory, and a prefix of the text was written;
+/// - 7, of the commands on replays: a mark differs from the hash of the world after its frames, and
+///   exactly the text was written.
+///
+/// The file that `drill --record` or `migrate` names is written after the text. At 5 it holds what
+/// it held, nothing, or a prefix of its bytes; at every other status but 0 it is as it was.
 pub fn run<D: Disk, K: Sink>(alloc: Global, words: &[String], disk: &mut D, out: &mut K) -> u8
     ensures { let old = outside (D.state disk.old) (K.state out.old) in
         let new = outside (D.state disk.new) (K.state out.new) in
-        Runs (returning_request (request_of (map string_bytes words.now))) result
-        (causes_of old new) old new }
+        let request = returning_request (request_of (map string_bytes words.now)) in
+        Runs request result (causes_of (option_and_then written_by request) old new) old new }
 {
     match read_words(alloc, words) {
         Ok(request) => run_request(alloc, &request, disk, out),
@@ -53,14 +63,24 @@ fn run_request<D: Disk, K: Sink>(
     requires { HasFewFiles request.now }
     ensures { let old = outside (D.state disk.old) (K.state out.old) in
         let new = outside (D.state disk.new) (K.state out.new) in
-        Runs (returning (plain_of request.now)) result (causes_of old new) old new }
+        let named = returning (plain_of request.now) in
+        Runs named result (causes_of (option_and_then written_by named) old new) old new }
 {
     match request {
-        Request::Drill(query) => run_script(alloc, query, disk, out),
+        Request::Drill {
+            query,
+            record: None,
+        } => run_script(alloc, query, disk, out),
+        Request::Drill {
+            query,
+            record: Some(name),
+        } => run_recorded_script(alloc, query, name, disk, out),
         Request::Yaml { files } => run_yaml(alloc, files, disk, out),
         Request::Check { map_file, rules } => run_check(alloc, *map_file, rules, disk, out),
         Request::Route(query) => run_route(alloc, query, disk, out),
         Request::Make { number } => print_text(alloc, make_text(alloc, *number), out),
+        Request::Replay(query) => run_replay(alloc, query, disk, out),
+        Request::Migrate { query, to } => run_migrate(alloc, query, to, disk, out),
         Request::Local(_) => refuse_words(out),
     }
 }
@@ -68,18 +88,55 @@ fn run_request<D: Disk, K: Sink>(
 /// The command `drill`: reads rule files, a map for them and the script, and runs it.
 fn run_script<D: Disk, K: Sink>(
     alloc: Global,
-    query: &DrillQuery<'_>,
+    query: &MatchQuery<'_>,
     disk: &mut D,
     out: &mut K,
 ) -> u8
     requires { length query.now.rules ≤ MAX_FILES }
     ensures { let old = outside (D.state disk.old) (K.state out.old) in
         let new = outside (D.state disk.new) (K.state out.new) in
-        RunsRequest (Drill (plain_drill query.now)) result (causes_of old new) old new }
+        RunsRequest (Drill (plain_match query.now) None) result (causes_of None old new) old new }
 {
     let names = query.rules.as_slice();
-    match read_script_files(alloc, disk, names, query.map_file, query.script) {
+    match read_played_files(
+        alloc,
+        disk,
+        names,
+        query.map_file,
+        PlayedFile::Script(query.file),
+    ) {
         Ok(given) => print_report(alloc, prepare_drill(alloc, query, &given), out),
+        Err(stop) => print_stop(alloc, stop, out),
+    }
+}
+
+/// The command `drill` with `--record`: the same, and the replay of the frames that the server
+/// ticked is written to the file `name`, after the report.
+fn run_recorded_script<D: Disk, K: Sink>(
+    alloc: Global,
+    query: &MatchQuery<'_>,
+    name: &str,
+    disk: &mut D,
+    out: &mut K,
+) -> u8
+    requires { length query.now.rules ≤ MAX_FILES }
+    ensures { let old = outside (D.state disk.old) (K.state out.old) in
+        let new = outside (D.state disk.new) (K.state out.new) in
+        RunsRequest (Drill (plain_match query.now) (Some name.now)) result
+        (causes_of (Some name.now) old new) old new }
+{
+    let names = query.rules.as_slice();
+    match read_played_files(
+        alloc,
+        disk,
+        names,
+        query.map_file,
+        PlayedFile::Script(query.file),
+    ) {
+        Ok(given) => {
+            let made = prepare_recorded(alloc, query, &given);
+            record_drill(alloc, disk, name, made, out)
+        }
         Err(stop) => print_stop(alloc, stop, out),
     }
 }
@@ -89,7 +146,7 @@ fn run_yaml<D: Disk, K: Sink>(alloc: Global, names: &FileNames<'_>, disk: &mut D
     requires { length names.now ≤ MAX_FILES }
     ensures { let old = outside (D.state disk.old) (K.state out.old) in
         let new = outside (D.state disk.new) (K.state out.new) in
-        RunsRequest (Yaml names.now) result (causes_of old new) old new }
+        RunsRequest (Yaml names.now) result (causes_of None old new) old new }
 {
     let names = names.as_slice();
     match read_rules(alloc, disk, names) {
@@ -111,7 +168,7 @@ fn run_check<D: Disk, K: Sink>(
     ensures { let old = outside (D.state disk.old) (K.state out.old) in
         let new = outside (D.state disk.new) (K.state out.new) in
         RunsRequest (Check (option_map (λ name. name.now) map_file.entry) names.now) result
-        (causes_of old new) old new }
+        (causes_of None old new) old new }
 {
     let names = names.as_slice();
     match read_files(alloc, disk, names, map_file) {
@@ -130,7 +187,7 @@ fn run_route<D: Disk, K: Sink>(
     requires { length query.now.rules ≤ MAX_FILES }
     ensures { let old = outside (D.state disk.old) (K.state out.old) in
         let new = outside (D.state disk.new) (K.state out.new) in
-        RunsRequest (Route (plain_route query.now)) result (causes_of old new) old new }
+        RunsRequest (Route (plain_route query.now)) result (causes_of None old new) old new }
 {
     match read_files(alloc, disk, query.rules.as_slice(), Some(query.map_file)) {
         Ok(given) => print_text(alloc, route_text(alloc, query, &given), out),

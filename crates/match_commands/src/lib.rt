@@ -10,7 +10,10 @@
 
 mod command;
 mod making;
+mod numbers;
 mod preparing;
+mod recording;
+mod replaying;
 #[cfg(test)]
 mod tests;
 mod waiting;

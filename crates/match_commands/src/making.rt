@@ -1,7 +1,8 @@
-ghost use Rattle.std.specs.Prelude.{◌≡◌, ◌∷◌, [], IfOk};
+ghost use Rattle.std.specs.Prelude.{◌≡◌, ◌∷◌, [], string_bytes, IfOk};
+ghost use Rattle.drill.specs.MadeDrill.{made_drill_of};
 ghost use Rattle.command_answers.specs.Given.{given_contents};
 ghost use Rattle.command_answers.specs.Stop.{ReturnsStep};
-ghost use Rattle.match_commands.specs.Made.{make_step, sample_step};
+ghost use Rattle.match_commands.specs.Made.{made_text, make_step, sample_step};
 
 use base::NoMemory;
 use command_answers::{GivenFiles, Stop};
@@ -35,17 +36,25 @@ fn sample_maker(alloc: Global) -> Result<GameMaker, Stop<'static>>
     read_maker(alloc, &["sample rules"], Some("sample map"), &given)
 }
 
+/// The text of the command `make` over the maker's rules and map.
+#[tactic(auto, unfolding(crate::specs::Made::made_text))]
+fn made_text(alloc: Global, maker: &GameMaker, number: u32) -> Result<String, NoMemory>
+    ensures { IfOk result
+        (λ text. string_bytes text ≡ made_text maker.now (made_drill_of number)) }
+{
+    let drill = made_drill(alloc, number)?;
+    let left = run_without_report(alloc, &drill, maker)?;
+    let events = drill.events.len();
+    let closing = closing_lines(alloc, &left)?;
+    format!(in alloc; "made {events} events\n{closing}")
+}
+
 /// The text of the command `make`: how many events the made drill of this number has, and the end
 /// of its report.
-#[tactic(auto, unfolding(crate::specs::Made::made_text))]
 pub(crate) fn make_text(alloc: Global, number: u32) -> Result<Vec<u8>, Stop<'static>>
     ensures { ReturnsStep result (λ text. text.items) (make_step number) }
 {
     let maker = sample_maker(alloc)?;
-    let drill = made_drill(alloc, number)?;
-    let left = run_without_report(alloc, &drill, &maker)?;
-    let events = drill.events.len();
-    let closing = closing_lines(alloc, &left)?;
-    let text = format!(in alloc; "made {events} events\n{closing}")?;
+    let text = made_text(alloc, &maker, number)?;
     Ok(text.into_bytes())
 }

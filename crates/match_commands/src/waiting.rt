@@ -1,19 +1,22 @@
 //! The commands that may wait for threads or links.
-ghost use Rattle.std.specs.Prelude.{◌≡◌, ◌≤◌, length, map, option_map, slice_get, string_bytes};
-ghost use Rattle.command_words.specs.RequestPlain.{Local, HasFewFiles, plain_drill, plain_of};
+ghost use Rattle.std.specs.Prelude.{◌≡◌, ◌≤◌, None, length, map, option_map, slice_get, string_bytes};
+ghost use Rattle.std.specs.Prelude.{option_and_then};
+ghost use Rattle.command_words.specs.RequestPlain.{Local, HasFewFiles, plain_match, plain_of};
 ghost use Rattle.command_words.specs.Reading.{request_of};
 ghost use Rattle.command_answers.specs.Causes.{causes_of};
 ghost use Rattle.command_answers.specs.Given.{script_contents};
 ghost use Rattle.command_answers.specs.Outside.{outside};
 ghost use Rattle.command_answers.specs.Stop.{ReturnsStep};
 ghost use Rattle.match_commands.specs.Locals.{local_match_step};
+ghost use Rattle.match_commands.specs.Request.{written_by};
 ghost use Rattle.match_commands.specs.Run.{Runs, RunsRequest};
 ghost use Rattle.match_commands.specs.TopCalls.{names_waiting, waiting, waiting_request};
 
 use command_answers::{
-    GivenFiles, OUT_OF_MEMORY, Stop, print_stop, print_text, read_script_files, refuse_words,
+    GivenFiles, OUT_OF_MEMORY, PlayedFile, Stop, print_stop, print_text, read_played_files,
+    refuse_words,
 };
-use command_words::{DrillQuery, MAX_FILES, Request, WordsFault, read_words};
+use command_words::{MAX_FILES, MatchQuery, Request, WordsFault, read_words};
 use drill_words::MAX_DRILL_BYTES;
 use game_io::{Disk, Gate, Net, Sink, Source};
 use local_command::local_text;
@@ -66,8 +69,8 @@ pub fn run_waiting<
 ) -> u8
     ensures runs { let old = outside (D.state disk.old) (K.state out.old) in
         let new = outside (D.state disk.new) (K.state out.new) in
-        Runs (waiting_request (request_of (map string_bytes words.now))) result
-        (causes_of old new) old new }
+        let request = waiting_request (request_of (map string_bytes words.now)) in
+        Runs request result (causes_of (option_and_then written_by request) old new) old new }
     ensures net { N.state net.new ≡ N.state net.old }
     ensures console { C.state console.new ≡ C.state console.old }
 {
@@ -92,15 +95,18 @@ fn run_request<D: Disk, K: Sink, G: Gate + Sync, R: Threads + Wait + Sync>(
     requires { HasFewFiles request.now }
     ensures { let old = outside (D.state disk.old) (K.state out.old) in
         let new = outside (D.state disk.new) (K.state out.new) in
-        Runs (waiting (plain_of request.now)) result (causes_of old new) old new }
+        let named = waiting (plain_of request.now) in
+        Runs named result (causes_of (option_and_then written_by named) old new) old new }
 {
     match request {
         Request::Local(query) => run_local_match(rt, alloc, query, disk, out, gate),
-        Request::Drill(_)
+        Request::Drill { .. }
         | Request::Yaml { .. }
         | Request::Check { .. }
         | Request::Route(_)
-        | Request::Make { .. } => refuse_words(out),
+        | Request::Make { .. }
+        | Request::Replay(_)
+        | Request::Migrate { .. } => refuse_words(out),
     }
 }
 
@@ -109,7 +115,7 @@ fn run_request<D: Disk, K: Sink, G: Gate + Sync, R: Threads + Wait + Sync>(
 fn run_local_match<D: Disk, K: Sink, G: Gate + Sync, R: Threads + Wait + Sync>(
     rt: &R,
     alloc: Global,
-    query: &DrillQuery<'_>,
+    query: &MatchQuery<'_>,
     disk: &mut D,
     out: &mut K,
     gate: &G,
@@ -117,10 +123,16 @@ fn run_local_match<D: Disk, K: Sink, G: Gate + Sync, R: Threads + Wait + Sync>(
     requires { length query.now.rules ≤ MAX_FILES }
     ensures { let old = outside (D.state disk.old) (K.state out.old) in
         let new = outside (D.state disk.new) (K.state out.new) in
-        RunsRequest (Local (plain_drill query.now)) result (causes_of old new) old new }
+        RunsRequest (Local (plain_match query.now)) result (causes_of None old new) old new }
 {
     let names = query.rules.as_slice();
-    match read_script_files(alloc, disk, names, query.map_file, query.script) {
+    match read_played_files(
+        alloc,
+        disk,
+        names,
+        query.map_file,
+        PlayedFile::Script(query.file),
+    ) {
         Ok(given) => print_text(alloc, match_text(rt, alloc, query, &given, gate), out),
         Err(stop) => print_stop(alloc, stop, out),
     }
@@ -130,16 +142,16 @@ fn run_local_match<D: Disk, K: Sink, G: Gate + Sync, R: Threads + Wait + Sync>(
 fn match_text<'a, G: Gate + Sync, R: Threads + Wait + Sync>(
     rt: &R,
     alloc: Global,
-    query: &DrillQuery<'a>,
+    query: &MatchQuery<'a>,
     given: &(GivenFiles, Vec<u8>),
     gate: &G,
 ) -> Result<Vec<u8>, Stop<'a>>
     requires rules { length given.now.0.rules.items ≤ MAX_FILES }
     requires script { length given.now.1.items ≤ MAX_DRILL_BYTES }
     ensures { ReturnsStep result (λ text. text.items)
-        (local_match_step (plain_drill query.now) (script_contents given.now)) }
+        (local_match_step (plain_match query.now) (script_contents given.now)) }
 {
     let (files, script) = given;
     let maker = read_maker(alloc, query.rules.as_slice(), query.map_file, files)?;
-    local_text(rt, alloc, &maker, query.script, script, gate)
+    local_text(rt, alloc, &maker, query.file, script, gate)
 }

@@ -2,6 +2,7 @@ ghost use Rattle.std.specs.Prelude.{◌≡◌, ◌+◌, ◌≤◌, ◌<◌, leng
 ghost use Rattle.game_model.specs.ValidMap.{IsSetup};
 ghost use Rattle.game_model.specs.World.{HasClients};
 ghost use Rattle.sync_hash.specs.Kept.{IsKeptOf};
+ghost use Rattle.sync_hash.specs.WorldHash.{hash_of_1};
 ghost use Rattle.frame_core.specs.declared.sim.TheConstants.{MAX_STEPS};
 ghost use Rattle.game_tick.specs.Keeps.{TickKeeps};
 ghost use Rattle.tick_core.specs.Game.{game_start, game_after, game_clients, game_steps};
@@ -79,6 +80,15 @@ impl Game {
     {
         let _steps = self.steps;
         self.live.kept()
+    }
+
+    /// The world's hash in the first version, without the pace: that of the marks in replays of
+    /// version 1.
+    pub fn hash_1(&self) -> u64
+        ensures { result ≡ hash_of_1 self.now.world }
+    {
+        let _steps = self.steps;
+        self.live.hash_1()
     }
 }
 

@@ -31,7 +31,7 @@ impl LiveWorld {
     ghost use Rattle.game_model.specs.ValidMap.{IsSetup};
     ghost use Rattle.game_model.specs.ValidWorld.{IsValidWorld};
     ghost use Rattle.sync_hash.specs.Kept.{IsKeptOf};
-    ghost use Rattle.sync_hash.specs.WorldHash.{hash_of};
+    ghost use Rattle.sync_hash.specs.WorldHash.{hash_of, hash_of_1};
 
     /// An opening world, with the memory for all that ticks want. Out of memory is the only error.
     pub(crate) fn of(
@@ -69,5 +69,12 @@ impl LiveWorld {
         ensures { result ≡ hash_of self.now.world }
     {
         self.scene.hash(&self.hasher)
+    }
+
+    /// The hash of the first version, without the pace. It costs the head alone.
+    pub(crate) fn hash_1(&self) -> u64
+        ensures { result ≡ hash_of_1 self.now.world }
+    {
+        self.scene.hash_1(&self.hasher)
     }
 }

@@ -48,7 +48,7 @@ impl Scene {
     ghost use Rattle.game_tick.specs.Turn.{buried};
     ghost use Rattle.game_model.specs.ValidMap.{IsSetup};
     ghost use Rattle.sync_hash.specs.Kept.{IsKeptOf};
-    ghost use Rattle.sync_hash.specs.WorldHash.{hash_of};
+    ghost use Rattle.sync_hash.specs.WorldHash.{hash_of, hash_of_1};
     ghost use Rattle.tick_core.specs.Scene.{IsActing};
     ghost use Rattle.game_model.specs.ValidWorld.{IsValidWorld};
     ghost use Rattle.game_tick.specs.Departures.{with_departures};
@@ -95,6 +95,14 @@ impl Scene {
         ensures { result ≡ hash_of self.now.world }
     {
         hasher.hash(&self.head)
+    }
+
+    /// The hash of the first version of the world, of which this is kept.
+    pub(crate) fn hash_1(&self, hasher: &Hasher) -> u64
+        requires { IsKeptOf hasher.now self.now.world.actors self.now.world.ore }
+        ensures { result ≡ hash_of_1 self.now.world }
+    {
+        hasher.hash_1(&self.head)
     }
 
     /// How many random words were drawn so far.

@@ -71,16 +71,19 @@ fn made<M: Maker>(maker: &M, alloc: Global, seed: u32, clients: u8) -> Result<M:
     maker.make(alloc, seed, clients)
 }
 
-/// The opening world of one client and the world after a frame without orders.
+/// The opening world of one client and the world after a frame without orders, with their hashes
+/// of both versions.
 #[test]
 fn a_frame_without_orders(rt: HostRuntime) -> Result<(), Fail> {
     let maker = GameMaker::bare(rt.alloc())?;
     let mut game = made(&maker, rt.alloc(), 5489, 1)?;
     assert_told(&rt, &game, &[1000], 0xf459_8944_3355_69d3);
+    assert_eq!(rt; game.hash_1(), 0xe284_473b_a232_41b0);
     let mut frame = Frame::empty();
     frame.push(play(&[]));
     game.step(&frame);
     assert_told(&rt, &game, &[1000], 0x4c4d_c97d_3878_4958);
+    assert_eq!(rt; game.hash_1(), 0x2844_b966_ff57_8f05);
     assert_eq!(rt; (game.clients(), game.kept().mixed()), (1, 0));
     Ok(())
 }

@@ -4,4 +4,4 @@ use Rattle.match_commands.proofs.command.run.Goals as goal
 
 -- The words name a request.
 pub returns-in-Ok : goal.returns-in-Ok
-returns-in-Ok g c = named_runs returning _ _ _ _ _ _ c.in-Ok.ensures.request c.run_request.ensures
+returns-in-Ok g c = named_runs returning _ _ _ _ _ c.in-Ok.ensures.request c.run_request.ensures

@@ -5,8 +5,17 @@ use Rattle.match_commands.proofs.FilesLemmas.{nothing_read}
 use Rattle.match_commands.proofs.RunLemmas.{request_runs}
 use Rattle.match_commands.proofs.command.run_request.Goals as goal
 
-pub returns-in-Drill : goal.returns-in-Drill
-returns-in-Drill g c = request_runs _ _ _ _ _ c.run_script.ensures
+pub returns-in-Drill-None : goal.returns-in-Drill-None
+returns-in-Drill-None g c = request_runs _ _ _ _ _ c.run_script.ensures
+
+pub returns-in-Drill-Some : goal.returns-in-Drill-Some
+returns-in-Drill-Some g c = request_runs _ _ _ _ _ c.run_recorded_script.ensures
+
+pub returns-in-Replay : goal.returns-in-Replay
+returns-in-Replay g c = request_runs _ _ _ _ _ c.run_replay.ensures
+
+pub returns-in-Migrate : goal.returns-in-Migrate
+returns-in-Migrate g c = request_runs _ _ _ _ _ c.run_migrate.ensures
 
 pub returns-in-Yaml : goal.returns-in-Yaml
 returns-in-Yaml g c = request_runs _ _ _ _ _ c.run_yaml.ensures
@@ -23,4 +32,4 @@ returns-in-Make g c =
     request_runs _ _ _ _ _
     (nothing_read (Make c.in-Make.number.now) c.make_text.result (make_step c.in-Make.number.now) c.print_text.result
     (g.D.Disk.state c.args.disk.now) (g.K.Sink.state c.args.out.now) (g.K.Sink.state c.print_text.new.out)
-    refl refl c.print_text.ensures.later c.make_text.ensures refl c.print_text.ensures.prints)
+    refl c.print_text.ensures.later c.make_text.ensures refl c.print_text.ensures.prints)

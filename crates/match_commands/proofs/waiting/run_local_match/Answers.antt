@@ -1,5 +1,5 @@
 use Rattle.std.proofs.Common.{refl, sym, ap, map}
-use Rattle.command_words.specs.RequestPlain.{Local, plain_drill}
+use Rattle.command_words.specs.RequestPlain.{Local, plain_match}
 use Rattle.command_answers.specs.Given.{script_contents}
 use Rattle.command_answers.specs.WantedFiles.{rules_and_map, with_script}
 use Rattle.match_commands.specs.Locals.{local_match_step}
@@ -9,20 +9,20 @@ use Rattle.match_commands.proofs.waiting.run_local_match.Goals as goal
 -- The files were read.
 pub returns-in-Ok : goal.returns-in-Ok
 returns-in-Ok g c =
-    let query = plain_drill c.args.query.now in
+    let query = plain_match c.args.query.now in
     let contents = script_contents c.in-Ok.given in
-    files_given (Local query) (with_script query.script (rules_and_map (map (λ name. name.now) c.as_slice-names.result.now) query.map_file)) contents c.match_text.result (local_match_step query contents) c.print_text.result
-    (g.D.Disk.state c.args.disk.now) (g.D.Disk.state c.read_script_files.new.disk) (g.K.Sink.state c.args.out.now) (g.K.Sink.state c.print_text.new.out)
-    (ap (λ names. with_script query.script (rules_and_map names query.map_file)) (sym c.as_slice-names.ensures)) refl
+    files_given (Local query) (with_script query.file (rules_and_map (map (λ name. name.now) c.as_slice-names.result.now) query.map_file)) contents c.match_text.result (local_match_step query contents) c.print_text.result
+    (g.D.Disk.state c.args.disk.now) (g.D.Disk.state c.read_played_files.new.disk) (g.K.Sink.state c.args.out.now) (g.K.Sink.state c.print_text.new.out)
+    (ap (λ names. with_script query.file (rules_and_map names query.map_file)) (sym c.as_slice-names.ensures))
     c.in-Ok.ensures.files c.in-Ok.ensures.later c.print_text.ensures.later c.in-Ok.ensures.told c.in-Ok.ensures.untold
     c.match_text.ensures refl c.print_text.ensures.prints
 
 -- One of them was not.
 pub returns-in-Err : goal.returns-in-Err
 returns-in-Err g c =
-    let query = plain_drill c.args.query.now in
-    files_stopped (Local query) (with_script query.script (rules_and_map (map (λ name. name.now) c.as_slice-names.result.now) query.map_file)) c.in-Err.stop c.print_stop.result
-    (g.D.Disk.state c.args.disk.now) (g.D.Disk.state c.read_script_files.new.disk) (g.K.Sink.state c.args.out.now) (g.K.Sink.state c.print_stop.new.out)
-    (ap (λ names. with_script query.script (rules_and_map names query.map_file)) (sym c.as_slice-names.ensures)) refl
+    let query = plain_match c.args.query.now in
+    files_stopped (Local query) (with_script query.file (rules_and_map (map (λ name. name.now) c.as_slice-names.result.now) query.map_file)) c.in-Err.stop c.print_stop.result
+    (g.D.Disk.state c.args.disk.now) (g.D.Disk.state c.read_played_files.new.disk) (g.K.Sink.state c.args.out.now) (g.K.Sink.state c.print_stop.new.out)
+    (ap (λ names. with_script query.file (rules_and_map names query.map_file)) (sym c.as_slice-names.ensures))
     c.in-Err.ensures.files c.in-Err.ensures.later c.print_stop.ensures.later c.in-Err.ensures.told c.in-Err.ensures.untold
     c.print_stop.ensures.prints

@@ -1,10 +1,11 @@
 use crate::file_names::FileNames;
 
-/// What `drill` and `local` ask for: a match by what a file holds, a drill or a script.
+/// A match by what a file holds, a drill, a script or a replay, with the rules and the map that it
+/// is played over.
 #[derive(Debug, Drop)]
-pub struct DrillQuery<'a> {
+pub struct MatchQuery<'a> {
     /// The name of that file.
-    pub script: &'a str,
+    pub file: &'a str,
 
     /// The name of the map's file, if one is given.
     pub map_file: Option<&'a str>,

@@ -1,0 +1,2 @@
+mod MigrateLemmas
+mod RecordLemmas

@@ -1,0 +1,5 @@
+pub mod Matches
+pub mod Records
+pub mod Refusals
+pub mod Replays
+pub mod RulesNumber
