@@ -108,7 +108,7 @@ fn find_route(
     if from == goal {
         return Ok(None);
     }
-    let mut router = Router::create(alloc, map.width, map.height)?;
+    let mut router = Router::with_fields(alloc, map.width, map.height, 1)?;
     router.walk(alloc, map, blocks, costs, from, goal)
 }
 
