@@ -181,6 +181,39 @@ fn failures_are_printed(rt: HostRuntime) -> Result<(), Fail> {
     Ok(())
 }
 
+/// What a failed write leaves of a file that held `old`: what remains of the call, and what the file
+/// then holds, if it is there.
+const UNWRITTEN: [(Remains, Option<&[u8]>); 3] = [
+    (Remains::Old, Some(b"old")),
+    (Remains::Nothing, None),
+    (Remains::Prefix(4), Some(b"LSRP")),
+];
+
+/// A disk with a drill and an old record, in which the second call fails.
+fn disk_that_fails_late(alloc: Global, remains: Remains) -> Result<MemDisk, AllocError> {
+    let mut failing = Vec::new(alloc);
+    failing.push(FailingCall { call: 1, remains })?;
+    let mut disk = MemDisk::new(alloc, failing);
+    disk.add(alloc, "d", SEALED.as_bytes())?;
+    disk.add(alloc, "r", b"old")?;
+    Ok(disk)
+}
+
+#[test]
+fn records_that_are_not_written(rt: HostRuntime) -> Result<(), Fail> {
+    let alloc = rt.alloc();
+    let line = command_line(alloc, &["drill", "--script", "d", "--record", "r"])?;
+    for (remains, held) in UNWRITTEN {
+        let mut disk = disk_that_fails_late(alloc, remains)?;
+        let mut out = MemSink::new(alloc, Vec::new(alloc));
+        let status = run(alloc, line.as_slice(), &mut disk, &mut out);
+        assert_eq!(rt; status, 5);
+        assert!(rt; out.bytes().ends_with(b"\nend\n"));
+        assert!(rt; disk.file("r") == held);
+    }
+    Ok(())
+}
+
 /// A disk with the file `a` of so many empty lines.
 fn disk_of_lines(alloc: Global, lines: u32) -> Result<MemDisk, AllocError> {
     let mut text = Vec::new(alloc);

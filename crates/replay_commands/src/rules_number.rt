@@ -8,6 +8,7 @@ use sync_hash::fnv;
 /// The number of the rules and the map of a match: the FNV-1a of the printed resolved rules, a zero
 /// byte, and the printed resolved map. Without rules, or without a map, its part is empty. Out of
 /// memory is the only error.
+#[tactic(auto, unfolding(crate::specs::RulesNumber::rules_number))]
 pub fn rules_number(alloc: Global, rules: &[u8], map: &[u8]) -> Result<u64, NoMemory>
     ensures { IfOk result (λ number. number ≡ rules_number rules.now map.now) }
 {

@@ -1,34 +1,17 @@
-ghost use Rattle.std.specs.Prelude.{◌≡◌, ◌≤◌, length, map, option_map, IfOk};
-ghost use Rattle.game_model.specs.Setup.{bare_map};
+ghost use Rattle.std.specs.Prelude.{◌≤◌, length, map, option_map, IfOk};
 ghost use Rattle.game_model.specs.ValidMap.{IsMapFor, IsSetup};
 ghost use Rattle.command_answers.specs.Given.{given_contents};
 ghost use Rattle.command_answers.specs.Stop.{ReturnsStep};
 ghost use Rattle.rule_commands.specs.Setups.{map_or_bare, setup_step};
 
 use crate::rules::{read_map_bytes, read_typed};
-use base::{List, NoMemory};
 use command_answers::{GivenFiles, Stop};
 use command_words::MAX_FILES;
-use game_model::{BARE_CASH, Map, Ore, Tiles};
+use game_model::Map;
 use rule_traits::Rules;
 use std::alloc::Global;
 use std::rc::Rc;
-use tick_core::GameMaker;
-
-/// The map of a match without one: one clear cell, no ore, no actors, and [`BARE_CASH`] for each
-/// client. It fits any rules. Out of memory is the only error.
-fn bare_map(alloc: Global) -> Result<Map, NoMemory>
-    ensures { IfOk result (λ map. map ≡ bare_map) }
-{
-    Ok(Map {
-        width: 1,
-        height: 1,
-        terrain: Tiles::create(alloc, 1, 1)?,
-        ore: Ore::create(alloc, 1, 1)?,
-        starts: List::new(alloc),
-        cash: BARE_CASH,
-    })
-}
+use tick_core::{GameMaker, bare_map};
 
 /// The map of a file for these rules, or the bare map, where no file is named.
 fn read_map_or_bare<'a>(

@@ -7,7 +7,7 @@ use std::alloc::Global;
 
 /// The map of a match without one: one clear cell, no ore, no actors, and [`BARE_CASH`] for each
 /// client. Out of memory is the only error.
-pub(crate) fn bare_map(alloc: Global) -> Result<Map, NoMemory>
+pub fn bare_map(alloc: Global) -> Result<Map, NoMemory>
     ensures { IfOk result (λ map. map ≡ bare_map) }
 {
     Ok(Map {

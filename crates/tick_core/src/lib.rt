@@ -26,5 +26,6 @@ mod tests;
 mod tick;
 mod turn;
 
+pub use bare::bare_map;
 pub use game::Game;
 pub use maker::GameMaker;
