@@ -43,5 +43,5 @@ migrated_again setup to r bytes new law none spells read name =
 pub step_read :
     (name : List ℕ) (read : Result Replay ReplayFault) (r : Replay) → read_step name read ≡ Ok r →
     read ≡ Ok r
-step_read name (Ok q) r is = is
+step_read name (Ok q) r is = let same : q ≡ r = cc in ap Ok same
 step_read name (Err fault) r is = absurd cc

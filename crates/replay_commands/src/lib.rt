@@ -8,13 +8,13 @@
 #![tactic(auto)]
 
 mod marked_game;
+mod number;
 mod records;
 mod refusal;
 mod replays;
-mod rules_number;
 #[cfg(test)]
 mod tests;
 
+pub use number::rules_number;
 pub use records::record_bytes;
 pub use replays::{migrate_answer, replay_answer};
-pub use rules_number::rules_number;
