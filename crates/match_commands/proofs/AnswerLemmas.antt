@@ -36,6 +36,10 @@ pub record Fits (written : Option (List ℕ)) (reply : Reply) : Type 0 where
 
 -- ---- a reply that was answered
 
+never : {P : Type 0} (name : Option (List ℕ)) → name ≡ None → IsSome name → P
+never None none named = absurd cc
+never (Some name) none named = absurd cc
+
 -- The causes of a reply are those of its request.
 answered_as :
     (written : Option (List ℕ)) (reply : Reply) (status : ℕ) (old new : Outside) →
@@ -47,8 +51,7 @@ answered_as written reply status old new (inr is) answered =
 answered_as written reply status old new (inl none) (inl (inl complete)) = inl (inl complete)
 answered_as written reply status old new (inl none) (inl (inr (inl cut))) = inl (inr (inl cut))
 answered_as written reply status old new (inl none) (inl (inr (inr cut))) =
-    let never : IsSome {T = List ℕ} None = subst (λ name. IsSome name) none cut.1.0 in
-    absurd never
+    never (name_of reply.write) none cut.1.0
 answered_as written reply status old new (inl none) (inr memory) = inr memory
 
 changes_as :
@@ -92,7 +95,7 @@ bind_fits written (Ok value) next fits = fits value
 bind_fits written (Err refused) next fits = λ reply is. absurd cc
 
 pub ok_fits : (written : Option (List ℕ)) (reply : Reply) → Fits written reply → AllFit written (Ok reply)
-ok_fits written reply fits = λ other is. subst (λ reply. Fits written reply) cc fits
+ok_fits written reply fits = λ other is. let same : reply ≡ other = cc in subst (λ reply. Fits written reply) same fits
 
 pub answer_printed :
     (written : Option (List ℕ)) (answer : Result Answer Stop) (step : Step Reply) (status : ℕ) (d d1 d' : DiskState) (s s' : SinkState) →

@@ -57,7 +57,7 @@ prepared_step query contents = do
 abbrev pub numbered_step : MatchPlain → Contents → Step (Setup × DrillPlain × ℕ)
 numbered_step query contents = do
   made ← prepared_step query contents
-  number ← number_step query contents
+  number ← number_step query.rules contents.rules query.map_file contents.map_file
   Ok (made.0, made.1, number)
 
 -- The reply to `drill`, which is recorded where a file is named for that, or the first fault.

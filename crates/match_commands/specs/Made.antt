@@ -28,11 +28,14 @@ closing_of m events =
     closing m.hash m.summary (shown_server m (record_of m events))
     (shown_peers m (record_of m events))
 
+-- The first line: the number of events.
+unfoldable pub made_line : ℕ → List ℕ
+made_line events = codes "made " ++ decimal events ++ codes " events\n"
+
 -- The number of the drill's events, and the end of its report.
 unfoldable pub made_text : Setup → DrillPlain → List ℕ
 made_text setup drill =
-    codes "made " ++ decimal (length drill.events) ++ codes " events\n"
-    ++ closing_of (game_match setup drill) drill.events
+    made_line (length drill.events) ++ closing_of (game_match setup drill) drill.events
 
 abbrev pub make_step : ℕ → Step (List ℕ)
 make_step number = do

@@ -15,7 +15,7 @@ use Rattle.match_commands.specs.Numbers.{number_step}
 abbrev pub standing_step : MatchPlain → Contents → Step (Setup × ℕ)
 standing_step query contents = do
   setup ← setup_step query.rules contents.rules query.map_file contents.map_file
-  number ← number_step query contents
+  number ← number_step query.rules contents.rules query.map_file contents.map_file
   Ok (setup, number)
 
 -- The reply to `replay`, or the first fault: those of the rules and the map come before those of

@@ -67,14 +67,7 @@ fn run_request<D: Disk, K: Sink>(
         Runs named result (causes_of (option_and_then written_by named) old new) old new }
 {
     match request {
-        Request::Drill {
-            query,
-            record: None,
-        } => run_script(alloc, query, disk, out),
-        Request::Drill {
-            query,
-            record: Some(name),
-        } => run_recorded_script(alloc, query, name, disk, out),
+        Request::Drill { query, record } => run_drill_query(alloc, query, *record, disk, out),
         Request::Yaml { files } => run_yaml(alloc, files, disk, out),
         Request::Check { map_file, rules } => run_check(alloc, *map_file, rules, disk, out),
         Request::Route(query) => run_route(alloc, query, disk, out),
@@ -85,7 +78,28 @@ fn run_request<D: Disk, K: Sink>(
     }
 }
 
-/// The command `drill`: reads rule files, a map for them and the script, and runs it.
+/// The command `drill`, which records the drill, if a file is named for that.
+fn run_drill_query<D: Disk, K: Sink>(
+    alloc: Global,
+    query: &MatchQuery<'_>,
+    record: Option<&str>,
+    disk: &mut D,
+    out: &mut K,
+) -> u8
+    requires { length query.now.rules ≤ MAX_FILES }
+    ensures { let name = option_map (λ name. name.now) record.entry in
+        let old = outside (D.state disk.old) (K.state out.old) in
+        let new = outside (D.state disk.new) (K.state out.new) in
+        RunsRequest (Drill (plain_match query.now) name) result (causes_of name old new) old new }
+{
+    match record {
+        Some(name) => run_recorded_script(alloc, query, name, disk, out),
+        None => run_script(alloc, query, disk, out),
+    }
+}
+
+/// The command `drill` without `--record`: reads rule files, a map for them and the script, and
+/// runs it.
 fn run_script<D: Disk, K: Sink>(
     alloc: Global,
     query: &MatchQuery<'_>,

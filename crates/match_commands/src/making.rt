@@ -1,16 +1,21 @@
-ghost use Rattle.std.specs.Prelude.{◌≡◌, ◌∷◌, [], string_bytes, IfOk};
+ghost use Rattle.std.specs.Prelude.{◌≡◌, ◌++◌, ◌∷◌, [], string_bytes, IfOk};
 ghost use Rattle.drill.specs.MadeDrill.{made_drill_of};
+ghost use Rattle.drill_words.specs.Drill.{plain_of};
 ghost use Rattle.command_answers.specs.Given.{given_contents};
 ghost use Rattle.command_answers.specs.Stop.{ReturnsStep};
-ghost use Rattle.match_commands.specs.Made.{made_text, make_step, sample_step};
+ghost use Rattle.replay_commands.specs.Matches.{game_match};
+ghost use Rattle.match_commands.specs.Made.{closing_of, made_line, made_text, make_step};
+ghost use Rattle.match_commands.specs.Made.{sample_step};
 
 use base::NoMemory;
 use command_answers::{GivenFiles, Stop};
 use drill::{closing_lines, made_drill, run_without_report};
+use drill_words::Drill;
 use map_grid::SAMPLE_MAP;
 use rule_commands::read_maker;
 use rule_traits::SAMPLE_RULES;
 use std::alloc::Global;
+use std::fmt::Write;
 use tick_core::GameMaker;
 
 /// The texts of the sample, as if they had been read from files.
@@ -36,17 +41,34 @@ fn sample_maker(alloc: Global) -> Result<GameMaker, Stop<'static>>
     read_maker(alloc, &["sample rules"], Some("sample map"), &given)
 }
 
+/// The end of the report of a drill over the maker's rules and map.
+fn closing_text(alloc: Global, maker: &GameMaker, drill: &Drill) -> Result<String, NoMemory>
+    ensures { IfOk result (λ text. string_bytes text
+        ≡ closing_of (game_match maker.now (plain_of drill.now)) drill.now.events) }
+{
+    let left = run_without_report(alloc, drill, maker)?;
+    closing_lines(alloc, &left)
+}
+
+/// The line with this number of events, and the end of a report after it.
+#[tactic(auto, unfolding(crate::specs::Made::made_line))]
+fn counted_text(alloc: Global, events: usize, closing: &str) -> Result<String, NoMemory>
+    ensures { IfOk result (λ text. string_bytes text ≡ made_line events ++ closing.now) }
+{
+    let mut text = String::new(alloc);
+    writeln!(text, "made {events} events")?;
+    text.push_str(closing)?;
+    Ok(text)
+}
+
 /// The text of the command `make` over the maker's rules and map.
-#[tactic(auto, unfolding(crate::specs::Made::made_text))]
 fn made_text(alloc: Global, maker: &GameMaker, number: u32) -> Result<String, NoMemory>
     ensures { IfOk result
         (λ text. string_bytes text ≡ made_text maker.now (made_drill_of number)) }
 {
     let drill = made_drill(alloc, number)?;
-    let left = run_without_report(alloc, &drill, maker)?;
-    let events = drill.events.len();
-    let closing = closing_lines(alloc, &left)?;
-    format!(in alloc; "made {events} events\n{closing}")
+    let closing = closing_text(alloc, maker, &drill)?;
+    counted_text(alloc, drill.events.len(), closing.as_str())
 }
 
 /// The text of the command `make`: how many events the made drill of this number has, and the end

@@ -46,7 +46,8 @@ pub(crate) fn read_number<'a>(
 ) -> Result<u64, Stop<'a>>
     requires { length files.now.rules.items ≤ MAX_FILES }
     ensures { ReturnsStep result (λ number. number)
-        (number_step (plain_match query.now) (given_contents files.now)) }
+        (number_step query.now.rules (given_contents files.now).rules
+        (plain_match query.now).map_file (given_contents files.now).map_file) }
 {
     let rules = yaml_text(alloc, query.rules.as_slice(), &files.rules)?;
     let map = printed_map(alloc, query.map_file, files)?;

@@ -75,6 +75,23 @@ pub fn run_waiting<
     ensures console { C.state console.new ≡ C.state console.old }
 {
     let (_net, _console) = (net, console);
+    run_words(rt, alloc, words, disk, out, gate)
+}
+
+/// Runs the command that the words name, where it is one that may wait, and refuses all other words.
+fn run_words<D: Disk, K: Sink, G: Gate + Sync, R: Threads + Wait + Sync>(
+    rt: &R,
+    alloc: Global,
+    words: &[String],
+    disk: &mut D,
+    out: &mut K,
+    gate: &G,
+) -> u8
+    ensures { let old = outside (D.state disk.old) (K.state out.old) in
+        let new = outside (D.state disk.new) (K.state out.new) in
+        let request = waiting_request (request_of (map string_bytes words.now)) in
+        Runs request result (causes_of (option_and_then written_by request) old new) old new }
+{
     match read_words(alloc, words) {
         Ok(request) => run_request(rt, alloc, &request, disk, out, gate),
         Err(WordsFault::Refused) => refuse_words(out),

@@ -114,7 +114,7 @@ fn an_old_replay_is_migrated(rt: HostRuntime) -> Result<(), Fail> {
                 *answer.text,
                 *b"migrated frames 1 marks 1\nend\n".as_slice()
             );
-            match answer.write {
+            match &answer.write {
                 Some(file) => {
                     assert_eq!(rt; file.name, "n");
                     assert_eq!(rt; *file.bytes, *SECOND.as_slice());

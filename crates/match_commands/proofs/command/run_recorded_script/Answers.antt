@@ -20,8 +20,8 @@ returns-in-Ok g c =
     all_given (Drill query (Some c.args.name.now)) (with_script query.file (rules_and_map (map (λ name. name.now) c.as_slice-names.result.now) query.map_file)) contents c.record_drill.result d d' s s'
     (ap (λ names. with_script query.file (rules_and_map names query.map_file)) (sym c.as_slice-names.ensures))
     (omega (arith, c.in-Ok.ensures.later, c.record_drill.ensures.disk)) c.record_drill.ensures.later c.in-Ok.ensures.told c.in-Ok.ensures.untold
-    (record_printed c.args.name.now c.prepare_recorded.result (numbered_step query contents) c.record_drill.result d d1 d' s s' c.in-Ok.ensures.files c.in-Ok.ensures.later
-    c.prepare_recorded.ensures c.record_drill.ensures.records)
+    (record_printed c.args.name.now c.prepare_recorded-made.result (numbered_step query contents) c.record_drill.result d d1 d' s s' c.in-Ok.ensures.files c.in-Ok.ensures.later
+    c.prepare_recorded-made.ensures c.record_drill.ensures.records)
 
 -- One of them was not.
 pub returns-in-Err : goal.returns-in-Err

@@ -2,4 +2,4 @@ use Rattle.match_commands.proofs.RunLemmas.{request_runs}
 use Rattle.match_commands.proofs.waiting.run_request.Goals as goal
 
 pub returns-in-Local : goal.returns-in-Local
-returns-in-Local g c = request_runs _ _ _ _ _ c.run_local_match.ensures
+returns-in-Local g c = rw (c.in-Local.is) (request_runs _ _ _ _ _ c.run_local_match.ensures)
