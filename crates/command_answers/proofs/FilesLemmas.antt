@@ -1,5 +1,5 @@
 -- Rule files that are read, and a map after them.
-use Rattle.std.proofs.Common.{◌≡◌, ◌≤◌, ℕ, List, [], ◌∷◌, ◌++◌, length, map, Option, None, Some, Ok, IfSome, IfNone, IsSome, refl, sym, ap, subst, inl, inr, arith}
+use Rattle.std.proofs.Common.{◌≡◌, ◌≤◌, ℕ, List, [], ◌∷◌, ◌++◌, map, Option, None, Some, Ok, IfSome, IfNone, IsSome, refl, subst, inl, inr, arith}
 use Rattle.std.specs.Prelude.{option_map}
 use Rattle.base.specs.Cause.{Rose}
 use Rattle.base.specs.Steps.{◌>>=◌}

@@ -1,12 +1,12 @@
 -- Which status has which cause, and which files change.
-use Rattle.std.proofs.Common.{◌≡◌, ◌≢◌, ◌⊎◌, ℕ, List, Option, None, Some, refl, sym, ap, subst, ◌∙◌, inl, inr, arith}
+use Rattle.std.proofs.Common.{◌≡◌, ◌≢◌, ◌⊎◌, ℕ, List, Option, None, Some, sym, ◌∙◌, inl, inr, arith}
 use Rattle.game_io.specs.Files.{Files}
 use Rattle.command_answers.specs.declared.statuses.TheConstants.{DONE, REFUSED_WORDS, REFUSED_FILE, FAULT_READ, FAULT_WRITE, OUT_OF_MEMORY, MARK_DIFFERS}
 use Rattle.command_answers.specs.FileWrite.{FileWrite, name_of, files_after, IsLeftPartly, OnlyChanges}
 use Rattle.command_answers.specs.Reply.{Reply}
 use Rattle.command_answers.specs.Causes.{Causes}
 use Rattle.command_answers.specs.Outside.{Outside}
-use Rattle.command_answers.specs.Outcome.{IsComplete, IsPrinted, IsAnswered}
+use Rattle.command_answers.specs.Outcome.{IsAnswered}
 
 -- The status of a request. `read_failed` and `write_failed` say that a count of faults rose.
 pub record HasCauses (status : ℕ) (read_failed write_failed : Type 0) : Type 0 where

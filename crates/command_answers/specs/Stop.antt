@@ -1,5 +1,5 @@
 -- Steps of a command in code, and the steps of its definition.
-use Rattle.std.specs.Prelude.{◌≡◌, ℕ, List, Option, None, Some, Result, Ok, Err}
+use Rattle.std.specs.Prelude.{◌≡◌, ℕ, List, Result, Ok, Err}
 use Rattle.std.specs.Global.{Vec}
 use Rattle.game_io.specs.SinkState.{SinkState}
 use Rattle.command_answers.specs.declared.statuses.TheConstants.{OUT_OF_MEMORY}

@@ -1,5 +1,5 @@
 -- From the file that was written after a text to the outcome of the reply.
-use Rattle.std.proofs.Common.{◌≡◌, ◌≤◌, ℕ, List, Option, None, Some, IsSome, refl, sym, subst, inl, inr, arith}
+use Rattle.std.proofs.Common.{◌≡◌, ◌≤◌, ℕ, List, Option, None, Some, IsSome, refl, subst, inl, inr, arith}
 use Rattle.base.specs.Cause.{Rose}
 use Rattle.base.specs.Written.{Wrote, whole_prefix}
 use Rattle.game_io.specs.Files.{Files}

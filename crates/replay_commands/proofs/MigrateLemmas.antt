@@ -1,8 +1,7 @@
 -- The replay of a migrated file.
 use Rattle.std.specs.Prelude.{◌≡◌, ℕ, List, Some, None, Result, Ok, Err}
-use Rattle.std.proofs.Common.{sym, ap, subst, ◌∙◌}
+use Rattle.std.proofs.Common.{sym, ap, ◌∙◌}
 use Rattle.base.specs.Steps.{◌>>=◌}
-use Rattle.command_answers.specs.FileWrite.{FileWrite}
 use Rattle.command_answers.specs.Reply.{Reply}
 use Rattle.command_answers.specs.Step.{Step}
 use Rattle.game_model.specs.Setup.{Setup}
@@ -15,7 +14,7 @@ use Rattle.replay_run.specs.declared.replayed.Replayed.{Replayed}
 use Rattle.replay_run.specs.Rerun.{Rerun, difference_of, migrated_over, replayed}
 use Rattle.tick_core.specs.Game.{GameState}
 use Rattle.replay_commands.specs.Refusals.{read_step}
-use Rattle.replay_commands.specs.Replays.{game_rerun, replay_reply, replay_step, replayed_reply}
+use Rattle.replay_commands.specs.Replays.{game_rerun, replay_reply, replayed_reply}
 use Rattle.replay_commands.specs.Replays.{written, ReplaysAgain}
 
 -- The reply by what was read, and by what it gave.

@@ -1,5 +1,5 @@
 -- The replies to the commands on replays.
-use Rattle.std.specs.Prelude.{◌≡◌, ℕ, List, Option, Some, None, Result, Ok, Err}
+use Rattle.std.specs.Prelude.{◌≡◌, ℕ, List, Option, Some, None, Ok}
 use Rattle.base.specs.Steps.{◌>>=◌}
 use Rattle.command_answers.specs.declared.statuses.TheConstants.{DONE, MARK_DIFFERS}
 use Rattle.command_answers.specs.FileWrite.{FileWrite}

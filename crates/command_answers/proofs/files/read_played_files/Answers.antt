@@ -3,7 +3,7 @@ use Rattle.std.proofs.Common.{map, option_map}
 use Rattle.base.specs.Cause.{Rose}
 use Rattle.command_answers.specs.Given.{given_contents}
 use Rattle.command_answers.proofs.FilesLemmas.{rose_later}
-use Rattle.command_answers.proofs.PlayedLemmas.{played_told, played_untold, first_stop_told, first_stop_untold, last_stop_told, last_stop_untold}
+use Rattle.command_answers.proofs.PlayedLemmas.{first_stop_told, first_stop_untold, last_stop_told, last_stop_untold}
 use Rattle.command_answers.proofs.files.read_played_files.Goals as goal
 
 pub returns-in-Err-clause-told : goal.returns-in-Err-clause-told
