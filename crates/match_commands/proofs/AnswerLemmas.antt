@@ -1,5 +1,5 @@
 -- The answer of a command that may write a file.
-use Rattle.std.proofs.Common.{◌≡◌, ◌≤◌, ◌⊎◌, ℕ, List, Option, None, Some, Result, Ok, Err, IsSome, [], refl, sym, ap, subst, inl, inr, ◌∙◌}
+use Rattle.std.proofs.Common.{◌≡◌, ◌≤◌, ◌⊎◌, ℕ, List, Option, None, Some, Result, Ok, Err, IsSome, [], refl, sym, subst, inl, inr, ◌∙◌}
 use Rattle.std.specs.Prelude.{unwrap_or}
 use Rattle.base.specs.Steps.{◌>>=◌}
 use Rattle.command_words.specs.RequestPlain.{MatchPlain}
@@ -9,7 +9,7 @@ use Rattle.game_model.specs.Setup.{Setup}
 use Rattle.replay_file.specs.declared.replay.Replay.{Replay}
 use Rattle.replay_file.specs.Reading.{read_of}
 use Rattle.replay_run.specs.declared.difference.Difference.{Difference}
-use Rattle.replay_run.specs.Rerun.{difference_of, replayed}
+use Rattle.replay_run.specs.Rerun.{difference_of}
 use Rattle.command_answers.specs.declared.answer.Answer.{Answer}
 use Rattle.command_answers.specs.declared.stop.Stop.{Stop}
 use Rattle.command_answers.specs.Answer.{reply_of}

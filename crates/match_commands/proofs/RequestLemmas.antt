@@ -1,5 +1,5 @@
 -- A whole request, over plain values.
-use Rattle.std.proofs.Common.{◌≡◌, ◌≤◌, ◌⊎◌, ℕ, List, [], ◌∷◌, length, map, Option, None, Some, Result, Ok, Err, IfSome, IfNone, IsSome, refl, sym, ap, subst, ◌∙◌, inl, inr, append-nil}
+use Rattle.std.proofs.Common.{◌≡◌, ◌≤◌, ◌⊎◌, ℕ, List, [], map, Option, None, Some, Result, Ok, Err, IfSome, IfNone, IsSome, refl, sym, ap, subst, inl, inr, append-nil}
 use Rattle.std.specs.Global.{Vec}
 use Rattle.base.specs.Cause.{Rose}
 use Rattle.base.specs.Steps.{◌>>=◌}
@@ -12,13 +12,13 @@ use Rattle.command_answers.specs.declared.stop.Stop.{Stop}
 use Rattle.command_answers.specs.declared.stop.Stop.TheVariants.{Refused, ReadFault, NoMemory}
 use Rattle.command_answers.specs.FileWrite.{OnlyChanges}
 use Rattle.command_answers.specs.Reply.{Reply, done, refusal, read_fault}
-use Rattle.command_answers.specs.Step.{Step, ended, replied}
+use Rattle.command_answers.specs.Step.{Step, replied}
 use Rattle.command_answers.specs.Causes.{causes_of}
 use Rattle.command_answers.specs.Outside.{outside}
 use Rattle.command_answers.specs.Outcome.{IsPrinted, IsAnswered}
 use Rattle.command_answers.specs.Printing.{PrintsReply, MayPrintReply}
 use Rattle.command_answers.specs.WantedFiles.{WantedFiles, no_files, in_order, rule_file}
-use Rattle.command_answers.specs.Contents.{Contents, contents_of, read_after, content_of, IsFirstThere, AreWithinLimits, AreContents}
+use Rattle.command_answers.specs.Contents.{Contents, contents_of, read_after, IsFirstThere, AreWithinLimits, AreContents}
 use Rattle.match_commands.specs.Request.{wanted, written_by, answer_of, text_reply, given_reply, reply_to}
 use Rattle.match_commands.specs.Run.{RunsRequest}
 use Rattle.command_answers.specs.Stop.{IsReadStop, IsStepStop, IsUntoldStop, ReturnsStep, PrintsStop, PrintsText}

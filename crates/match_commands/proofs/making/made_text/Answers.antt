@@ -1,5 +1,4 @@
 use Rattle.std.proofs.Common.{string_bytes, ◌∙◌}
-use Rattle.drill_words.specs.Drill.{plain_of}
 use Rattle.drill.specs.MadeDrill.{made_drill_of}
 use Rattle.match_commands.proofs.MadeLemmas.{made_is, on_ok}
 use Rattle.match_commands.proofs.making.made_text.Goals as goal

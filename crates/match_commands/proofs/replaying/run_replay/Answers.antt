@@ -2,8 +2,7 @@ use Rattle.std.proofs.Common.{None, sym, ap, map, arith}
 use Rattle.command_words.specs.RequestPlain.{Replay, plain_match}
 use Rattle.command_answers.specs.Given.{replay_contents}
 use Rattle.command_answers.specs.WantedFiles.{rules_and_map, with_replay}
-use Rattle.match_commands.specs.Replayed.{replayed_step, standing_step}
-use Rattle.replay_commands.specs.Replays.{replay_step}
+use Rattle.match_commands.specs.Replayed.{replayed_step}
 use Rattle.match_commands.proofs.AnswerLemmas.{answer_printed, replayed_fits}
 use Rattle.match_commands.proofs.FilesLemmas.{all_given, files_stopped}
 use Rattle.match_commands.proofs.replaying.run_replay.Goals as goal
