@@ -1,0 +1,2 @@
+//! Sessions over links in memory.
+mod greetings;
