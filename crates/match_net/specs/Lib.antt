@@ -1,2 +1,4 @@
 pub mod Taking
 pub mod Greeting
+pub mod Reports
+pub mod Session

@@ -5,17 +5,32 @@
 //! packets and on `game_io` for the links.
 #![tactic(auto)]
 
+mod ending;
 mod first_packet;
 mod greeting;
+mod heard;
 mod invite;
 mod limits;
+mod line;
 mod piece;
+mod queue_rule;
+mod read_cause;
+mod reader_end;
+mod report_ends;
+mod reporting;
+mod reports;
 mod taking;
 
 pub use first_packet::greet;
 pub use greeting::Greeting;
+pub use heard::Heard;
 pub use invite::Invite;
 pub use limits::{MAX_LINK_BYTES, NO_HELLO, OTHER_RULES, OTHER_VERSION, VERSION};
+pub use read_cause::ReadCause;
+pub use reader_end::ReaderEnd;
+pub use report_ends::ReportEnds;
+pub use reporting::report_queue;
+pub use reports::Reports;
 
 #[cfg(test)]
 mod tests;
