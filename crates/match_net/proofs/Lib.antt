@@ -1,3 +1,6 @@
 pub mod TakingLemmas
 pub mod GreetingLemmas
 pub mod ReportLemmas
+pub mod PutLemmas
+pub mod ReadingLemmas
+pub mod TurnLemmas

@@ -16,10 +16,12 @@ mod piece;
 mod queue_rule;
 mod read_cause;
 mod reader_end;
+mod reading;
 mod report_ends;
 mod reporting;
 mod reports;
 mod taking;
+mod turns;
 
 pub use first_packet::greet;
 pub use greeting::Greeting;
