@@ -64,7 +64,7 @@ is_welcome greeting.Lost = false
 no_welcome : (answer : Greeting) → is_welcome answer ≡ false → answer ≡ greeting.Welcome → ⊥
 no_welcome answer other is = true≢false (sym (ap is_welcome is) ∙ other)
 
-hello_length : (version rules : ℕ) → length (up_bytes (Hello version rules)) ≡ 13
+pub hello_length : (version rules : ℕ) → length (up_bytes (Hello version rules)) ≡ 13
 unfolding up_payload framed
 hello_length version rules =
     let fields = field_bytes 2 version ++ field_bytes 8 rules in

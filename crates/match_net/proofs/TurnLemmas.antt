@@ -14,7 +14,7 @@ use Rattle.order_packets.specs.declared.up.Up.TheVariants.{Hello, Orders, Sync, 
 use Rattle.order_packets.specs.PacketBytes.{framed, up_payload, up_bytes}
 use Rattle.order_packets.specs.PacketReading.{FirstPacket, packet_at, up_at}
 use Rattle.order_packets.specs.PacketLemmas.{up_again}
-use Rattle.order_packets.specs.Feed.{Fed, more_fed, Answer, answer_of, next_answer, ReadsAll, HasGiven}
+use Rattle.order_packets.specs.Feed.{Fed, more_fed, Answer, answer_of, next_answer, ReadsAll, HasGiven, given_by}
 use Rattle.order_packets.specs.FeedLemmas.{given_fed_if}
 use Rattle.order_packets.specs.StreamLemmas.{all_stay}
 use Rattle.frame_table.specs.declared.view.View.{View}
@@ -56,7 +56,7 @@ next_open fed after (Ok (Some first)) is = let answer : Ok None ≡ Ok (Some fir
 next_failed : (fed after : Fed) (fault : FeedFault) (first : FirstPacket Up) → (Err fault, after) ≡ answer_of fed first →
     first ≡ Err fault
 next_failed fed after fault (Ok None) is = let answer : Err fault ≡ Ok None = ap (λ (a : Answer Up). a.0) is in absurd cc
-next_failed fed after fault (Err other) is = let answer : Err fault ≡ Err other = ap (λ (a : Answer Up). a.0) is in sym answer
+next_failed fed after fault (Err other) is = let answer : Err fault ≡ Err other = ap (λ (a : Answer Up). a.0) is in let same : fault ≡ other = cc in ap (λ (f : FeedFault). Err f) (sym same)
 next_failed fed after fault (Ok (Some first)) is = let answer : Err fault ≡ Ok (Some first.0) = ap (λ (a : Answer Up). a.0) is in absurd cc
 
 asked : (fed : Fed) → fed.fault ≡ None → next_answer up_at fed.fault fed ≡ answer_of fed (packet_at up_at fed.rest)
@@ -77,22 +77,22 @@ size_so_far all given fed has none =
     ap length whole ∙ length-append before fed.rest ∙ ap (λ n. n + length fed.rest) (sym has.place)
 
 -- One packet more.
-one_after : (c here : ℕ) (session mid next : Session) (packet : Up) → Ok session ≡ Ok mid → after_packet c here mid packet ≡ Ok next →
+one_after : (c here : ℕ) (session mid next : Session) (packet : Up) → session ≡ mid → after_packet c here mid packet ≡ Ok next →
     (after_packet c here session packet >>= λ last. Ok last) ≡ Ok next
-one_after c here session mid next packet same is =
-    let at : session ≡ mid = cc in
+one_after c here session mid next packet at is =
     ap (λ (s : Session). after_packet c here s packet >>= λ last. Ok last) at ∙ ap (λ (a : After). a >>= λ last. Ok last) is
 
 after_more_packets : (c here : ℕ) (packets : List Up) (session mid next : Session) (packet : Up) → after_all c here session packets ≡ Ok mid →
     after_packet c here mid packet ≡ Ok next → after_all c here session (packets ++ packet ∷ []) ≡ Ok next
-after_more_packets c here [] session mid next packet so_far is = one_after c here session mid next packet so_far is
+after_more_packets c here [] session mid next packet so_far is = let at : session ≡ mid = cc in one_after c here session mid next packet at is
 after_more_packets c here (first ∷ packets) session mid next packet so_far is =
-    by_first (after_packet c here session first) so_far
+    by_first (after_packet c here session first) so_far (λ after goes. after_more_packets c here packets after mid next packet goes is)
   where
     by_first : (a : After) → (a >>= λ after. after_all c here after packets) ≡ Ok mid →
+        ((after : Session) → after_all c here after packets ≡ Ok mid → after_all c here after (packets ++ packet ∷ []) ≡ Ok next) →
         (a >>= λ after. after_all c here after (packets ++ packet ∷ [])) ≡ Ok next
-    by_first (Ok after) goes = after_more_packets c here packets after mid next packet goes is
-    by_first (Err end) goes = let no_end : Err end ≡ Ok mid = goes in absurd cc
+    by_first (Ok after) goes rest = rest after goes
+    by_first (Err end) goes rest = absurd cc
 
 others_stay : (c : ℕ) (old mid new : View) → OthersStay c old mid → OthersStay c mid new → OthersStay c old new
 others_stay c old mid new first second = (second.0 ∙ first.0, second.1 ∙ first.1, λ d other. second.2 d other ∙ first.2 d other)
@@ -161,44 +161,49 @@ ends_with c here given old now before view after start pushed more fed session a
 pub after_heed :
     (c here : ℕ) (given : List ℕ) (old now : SourceState) (before view after : View) (start pushed more : List Heard) (fed next : Fed) (packet : Up) (answer : Option ReaderEnd) →
     (so_far : ReadSoFar c here given old now before view start pushed fed) →
-    (Ok (Some packet), next) ≡ next_answer up_at fed.fault fed →
-    HasGiven up_at up_payload (given ++ so_far.taken) (so_far.packets ++ packet ∷ []) next →
+    (found : Option Up) → found ≡ Some packet → (Ok found, next) ≡ next_answer up_at fed.fault fed →
+    HasGiven up_at up_payload (given ++ so_far.taken) (so_far.packets ++ given_by (Ok found)) next →
     Heeds c view after pushed more packet answer →
     AfterTurn c here given old now before after start more next answer
-after_heed c here given old now before view after start pushed more fed next packet answer so_far is stream heeds =
-    let gave = next_gave fed next packet (packet_at up_at fed.rest) (is ∙ asked fed so_far.whole) in
+after_heed c here given old now before view after start pushed more fed next packet answer so_far found found_is is gives heeds =
+    let so : (Ok (Some packet), next) ≡ next_answer up_at fed.fault fed = subst (λ (x : Option Up). (Ok x, next) ≡ next_answer up_at fed.fault fed) found_is is in
+    let stream : HasGiven up_at up_payload (given ++ so_far.taken) (so_far.packets ++ packet ∷ []) next =
+    subst (λ (x : Option Up). HasGiven up_at up_payload (given ++ so_far.taken) (so_far.packets ++ given_by (Ok x)) next) found_is gives in
+    let gave = next_gave fed next packet (packet_at up_at fed.rest) (so ∙ asked fed so_far.whole) in
     let met = heeds.means so_far.session start so_far.standing in
-    by_answer answer heeds.others heeds.learns gave.0 gave.1 met.0 met.1 met.2
+    by_answer answer heeds.others heeds.learns gave.0 gave.1 stream met.0 met.1 met.2
   where
     by_answer : (answer : Option ReaderEnd) → OthersStay c view after → OnlyLearns (part_of c view) (part_of c after) →
         packet_at up_at fed.rest ≡ Ok (Some (packet, next.rest)) → next.fault ≡ None →
+        HasGiven up_at up_payload (given ++ so_far.taken) (so_far.packets ++ packet ∷ []) next →
         (session : Session) → IsStanding c session start after more → HeedMeans c so_far.session packet session answer →
         AfterTurn c here given old now before after start more next answer
-    by_answer None others learns at whole session standing means =
+    by_answer None others learns at whole stream session standing means =
         goes_on c here given old now before view after start pushed more fed next packet so_far whole stream others learns session standing means
-    by_answer (Some end.Ended) others learns at whole session standing means =
+    by_answer (Some end.Ended) others learns at whole stream session standing means =
         ends_with c here given old now before view after start pushed more fed session end.Ended so_far others learns standing means.0
         (inl (end_of_packet c here so_far.session packet fed.rest next.rest ending.Bye so_far.standing.welcomed at means.1))
-    by_answer (Some (end.Refused why)) others learns at whole session standing means =
+    by_answer (Some (end.Refused why)) others learns at whole stream session standing means =
         ends_with c here given old now before view after start pushed more fed session (end.Refused why) so_far others learns standing means.0
         (ap (option_map (limited (length (given ++ so_far.taken))))
         (end_of_packet c here so_far.session packet fed.rest next.rest (ending.Refused why) so_far.standing.welcomed at means.1))
-    by_answer (Some (end.LeftAt n)) others learns at whole session standing means =
+    by_answer (Some (end.LeftAt n)) others learns at whole stream session standing means =
         ends_with c here given old now before view after start pushed more fed session (end.LeftAt n) so_far others learns standing means.0
         (packet, next.rest, at, means.1)
-    by_answer (Some end.Lost) others learns at whole session standing means = absurd means
-    by_answer (Some end.NoMemory) others learns at whole session standing means =
+    by_answer (Some end.Lost) others learns at whole stream session standing means = absurd means
+    by_answer (Some end.NoMemory) others learns at whole stream session standing means =
         ends_with c here given old now before view after start pushed more fed session end.NoMemory so_far others learns standing means tt
 
 -- After more bytes were taken.
 pub after_more :
     (c here : ℕ) (given : List ℕ) (old now new : SourceState) (before view : View) (start pushed : List Heard) (fed next after : Fed) (answer : Option ReaderEnd) →
     ReadSoFar c here given old now before view start pushed fed →
-    (Ok None, next) ≡ next_answer up_at fed.fault fed →
+    (found : Option Up) → found ≡ None → (Ok found, next) ≡ next_answer up_at fed.fault fed →
     TakesMore now new next after answer →
     AfterTurn c here given old new before view start pushed after answer
-after_more c here given old now new before view start pushed fed next after answer so_far is takes =
-    let undecided = next_open fed next (packet_at up_at fed.rest) (is ∙ asked fed so_far.whole) in
+after_more c here given old now new before view start pushed fed next after answer so_far found found_is is takes =
+    let so : (Ok None, next) ≡ next_answer up_at fed.fault fed = subst (λ (x : Option Up). (Ok x, next) ≡ next_answer up_at fed.fault fed) found_is is in
+    let undecided = next_open fed next (packet_at up_at fed.rest) (so ∙ asked fed so_far.whole) in
     by_answer answer undecided.0 (subst (λ (f : Fed). TakesMore now new f after answer) undecided.1 takes)
   where
     lost : (answer : ReaderEnd) → TakesMore now new fed after (Some answer) →
@@ -332,6 +337,6 @@ begun c here state view pushed fed range at none few unplayed =
       learns = refl;
     }
   where
-    by_fault : (f : Option FeedFault) → f ≡ None → IfNone f ([] ≡ [])
+    by_fault : (f : Option FeedFault) → f ≡ None → IfNone f (◌≡◌ {A = List ℕ} [] [])
     by_fault None is = refl
     by_fault (Some fault) is = absurd cc
