@@ -4,3 +4,4 @@ pub mod ReportLemmas
 pub mod PutLemmas
 pub mod ReadingLemmas
 pub mod TurnLemmas
+pub mod SessionLemmas

@@ -14,7 +14,7 @@ use Rattle.frame_core.specs.declared.put.Put.{Put}
 use Rattle.frame_core.specs.declared.put.Put.TheVariants.{Fixed, Repeat, Conflict, Left, Ahead, Full}
 use Rattle.order_packets.specs.declared.up.Up.TheVariants.{Orders}
 use Rattle.match_net.specs.Session.{Session, own_column, after_put, after_up}
-use Rattle.match_net.specs.Heeding.{end_by_put, IsLate, HeedMeans}
+use Rattle.match_net.specs.Heeding.{end_by_put, IsLate, IsLeftIf, HeedMeans}
 
 -- A column of these plays.
 abbrev pub with_plays : List (List Order) → Bool → Column
@@ -25,6 +25,7 @@ pub record PutSays (client : ℕ) (session : Session) (left : Bool) (n : ℕ) (o
   pub means : HeedMeans client session (Orders n orders)
       (record session { plays = (put_column (with_plays session.plays left) n (Play orders)).plays })
       (end_by_put (put_answer (with_plays session.plays left) n (Play orders)) n)
+  pub knows : IsLeftIf left (end_by_put (put_answer (with_plays session.plays left) n (Play orders)) n)
   pub stays : (put_column (with_plays session.plays left) n (Play orders)).left ≡ left
 
 -- An answer that the client's own column gives as well.
@@ -42,13 +43,13 @@ says_own :
     put_answer (own_column session) n (Play orders) ≡ answer →
     put_answer (with_plays session.plays left) n (Play orders) ≡ answer →
     PutSays client session left n orders
-says_own client session left n orders Fixed own is also = record { means = rw also (rw is refl); stays = rw also refl }
-says_own client session left n orders Repeat own is also = record { means = rw also (rw is refl); stays = rw also refl }
-says_own client session left n orders (Conflict (Play kept)) own is also = record { means = rw also (refl, rw is refl); stays = rw also refl }
+says_own client session left n orders Fixed own is also = record { means = rw also (rw is refl); knows = rw also tt; stays = rw also refl }
+says_own client session left n orders Repeat own is also = record { means = rw also (rw is refl); knows = rw also tt; stays = rw also refl }
+says_own client session left n orders (Conflict (Play kept)) own is also = record { means = rw also (refl, rw is refl); knows = rw also tt; stays = rw also refl }
 says_own client session left n orders (Conflict Leave) own is also = absurd own
 says_own client session left n orders (Left at) own is also = absurd own
-says_own client session left n orders (Ahead plays) own is also = record { means = rw also (refl, rw is refl); stays = rw also refl }
-says_own client session left n orders Full own is also = record { means = rw also (refl, rw is refl); stays = rw also refl }
+says_own client session left n orders (Ahead plays) own is also = record { means = rw also (refl, rw is refl); knows = rw also tt; stays = rw also refl }
+says_own client session left n orders Full own is also = record { means = rw also (refl, rw is refl); knows = rw also tt; stays = rw also refl }
 
 kept_is_own : (e : Entry) (kept : List Order) (same : Bool) → IsOwn (if same then Repeat else Conflict (Play kept))
 kept_is_own e kept true = tt
@@ -81,6 +82,7 @@ says_late client session n orders past true is =
     let none : slice_get session.plays n ≡ None = get_past session.plays n past in
     record {
       means = rw (none, is) (refl, record { frame = n; orders = orders; is = refl; after_all = eqb-true n (length session.plays) is; late = omega arith });
+      knows = rw (none, is) refl;
       stays = rw (none, is) refl;
     }
 says_late client session n orders past false is =
@@ -89,6 +91,7 @@ says_late client session n orders past false is =
     let beyond : nat_lt (length session.plays) n ≡ true = lt-ltb (length session.plays) n below in
     record {
       means = rw (none, is, beyond) (refl, record { frame = n; orders = orders; is = refl; after_all = refl; late = omega arith });
+      knows = rw (none, is, beyond) refl;
       stays = rw (none, is, beyond) refl;
     }
   where

@@ -18,7 +18,7 @@ use Rattle.match_net.specs.declared.read_cause.ReadCause.TheVariants as cause
 use Rattle.match_net.specs.declared.reader_end.ReaderEnd.{ReaderEnd}
 use Rattle.match_net.specs.declared.reader_end.ReaderEnd.TheVariants as end
 use Rattle.match_net.specs.Session.{Session, after_up}
-use Rattle.match_net.specs.Heeding.{end_by_put, HeedMeans}
+use Rattle.match_net.specs.Heeding.{end_by_put, IsLeftIf, HeedMeans}
 use Rattle.match_net.specs.Reading.{MayPlay, OnlyLearns, IsStanding, PutsOrders, Heeds, PushMeans}
 use Rattle.match_net.proofs.PutLemmas.{with_plays, PutSays, put_says}
 
@@ -46,7 +46,10 @@ puts_orders c n orders old new answer may free puts =
     let after : (part_of c new).known ≡ put_column K n (Play orders) = ap (λ (p : Part). p.known) acted.part in
     record {
       others = acted.others;
-      learns = learned (part_of c old) (part_of c new) K (put_column K n (Play orders)) free (stays_of K refl) acted.part;
+      learns = learned (part_of c old) (part_of c new) K (put_column K n (Play orders)) free (stays_of K) acted.part;
+      knows =
+          subst (λ (b : Bool). IsLeftIf b (end_by_put answer n)) (sym (ap (λ (k : Column). k.left) after ∙ stays_of K))
+          (subst (λ (a : Put). IsLeftIf K.left (end_by_put a n)) (sym puts.2) (says_of K).knows);
       means = λ session same.
           subst (λ (xs : List (List Order)). HeedMeans c session (Orders n orders) (record session { plays = xs }) (end_by_put answer n)) (sym (ap (λ (k : Column). k.plays) after))
           (subst (λ (a : Put). HeedMeans c session (Orders n orders) (record session { plays = (put_column K n (Play orders)).plays }) (end_by_put a n)) (sym puts.2)
@@ -60,8 +63,11 @@ puts_orders c n orders old new answer may free puts =
         (ap (λ (xs : List (List Order)). with_plays xs K.left) same)
         (put_says c session K.left n orders).means
 
-    stays_of : (K : Column) → K ≡ K → (put_column K n (Play orders)).left ≡ K.left
-    stays_of K is = (put_says c (record { welcomed = true; plays = K.plays; reports = [] }) K.left n orders).stays
+    says_of : (K : Column) → PutSays c (record { welcomed = true; plays = K.plays; reports = [] }) K.left n orders
+    says_of K = put_says c (record { welcomed = true; plays = K.plays; reports = [] }) K.left n orders
+
+    stays_of : (K : Column) → (put_column K n (Play orders)).left ≡ K.left
+    stays_of K = (put_says c (record { welcomed = true; plays = K.plays; reports = [] }) K.left n orders).stays
 
 pub puts_nothing :
     (c n : ℕ) (orders : List Order) (old new : View) → length new.marks ≡ length old.marks →
@@ -70,6 +76,7 @@ puts_nothing c n orders old new long same =
     record {
       others = (same.share, long, λ d other. same.parts d);
       learns = subst (λ (p : Part). p ≡ record (part_of c old) { reach = p.reach; known = p.known }) (sym (same.parts c)) refl;
+      knows = tt;
       means = λ session plays.
           ap (λ (xs : List (List Order)). record session { plays = xs }) (ap (λ (p : Part). p.known.plays) (same.parts c) ∙ sym plays);
     }
@@ -82,6 +89,7 @@ heeds_orders c n orders old new pushed answer puts =
     record {
       others = puts.others;
       learns = puts.learns;
+      knows = puts.knows;
       means = λ session first at. (
         record session { plays = (part_of c new).known.plays },
         record { welcomed = at.welcomed; plays = refl; reports = at.reports },
@@ -92,28 +100,28 @@ heeds_orders c n orders old new pushed answer puts =
 -- A packet that does nothing to the column.
 pub heeds_alone :
     (c : ℕ) (view : View) (before after : List Heard) (packet : Up) (answer : Option ReaderEnd) →
-    ((session : Session) (first : List Heard) → IsStanding c session first view before →
+    IsLeftIf (part_of c view).known.left answer → ((session : Session) (first : List Heard) → IsStanding c session first view before →
     (next : Session) × IsStanding c next first view after × HeedMeans c session packet next answer) →
     Heeds c view view before after packet answer
-heeds_alone c view before after packet answer means =
-    record { others = (refl, refl, λ d other. refl); learns = refl; means = means }
+heeds_alone c view before after packet answer knows means =
+    record { others = (refl, refl, λ d other. refl); learns = refl; knows = knows; means = means }
 
 pub heeds_hello :
     (c : ℕ) (view : View) (pushed : List Heard) (version rules : ℕ) →
     Heeds c view view pushed pushed (Hello version rules) (Some (end.Refused cause.SecondHello))
 heeds_hello c view pushed version rules =
-    heeds_alone c view pushed pushed (Hello version rules) (Some (end.Refused cause.SecondHello)) (λ session first at. (session, at, (refl, refl)))
+    heeds_alone c view pushed pushed (Hello version rules) (Some (end.Refused cause.SecondHello)) tt (λ session first at. (session, at, (refl, refl)))
 
 pub heeds_bye :
     (c : ℕ) (view : View) (pushed : List Heard) → Heeds c view view pushed pushed Bye (Some end.Ended)
-heeds_bye c view pushed = heeds_alone c view pushed pushed Bye (Some end.Ended) (λ session first at. (session, at, (refl, refl)))
+heeds_bye c view pushed = heeds_alone c view pushed pushed Bye (Some end.Ended) tt (λ session first at. (session, at, (refl, refl)))
 
 pub heeds_sync :
     (c frame hash : ℕ) (view : View) (before after : List Heard) (answer : Option ReaderEnd) →
     PushMeans before after (record { client = c; frame = frame; hash = hash } ∷ []) answer →
     Heeds c view view before after (Sync frame hash) answer
 heeds_sync c frame hash view before after None pushes =
-    heeds_alone c view before after (Sync frame hash) None (λ session first at. (
+    heeds_alone c view before after (Sync frame hash) None tt (λ session first at. (
       record session { reports = session.reports ++ record { client = c; frame = frame; hash = hash } ∷ [] },
       record {
         welcomed = at.welcomed;
@@ -124,7 +132,7 @@ heeds_sync c frame hash view before after None pushes =
       refl,
     ))
 heeds_sync c frame hash view before after (Some end.NoMemory) pushes =
-    heeds_alone c view before after (Sync frame hash) (Some end.NoMemory) (λ session first at. (
+    heeds_alone c view before after (Sync frame hash) (Some end.NoMemory) tt (λ session first at. (
       session,
       record { welcomed = at.welcomed; plays = at.plays; reports = pushes ∙ at.reports },
       refl,

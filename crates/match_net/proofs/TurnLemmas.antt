@@ -30,7 +30,7 @@ use Rattle.match_net.specs.declared.reader_end.ReaderEnd.TheVariants as end
 use Rattle.match_net.specs.Taking.{Took, NoneLeft}
 use Rattle.match_net.specs.Greeting.{hello_bytes}
 use Rattle.match_net.specs.Session.{Session, no_session, After, after_up, after_packet, after_packet_if, after_all, Makes, end_by, end_at, limited}
-use Rattle.match_net.specs.Heeding.{HeedMeans, IsLate}
+use Rattle.match_net.specs.Heeding.{HeedMeans, IsLate, IsLeftIf}
 use Rattle.match_net.specs.Reading.{OnlyLearns, IsStanding, Heeds, EndMeans, ReadsTo}
 use Rattle.match_net.specs.ReadSoFar.{ReadSoFar, AfterTurn, MoreMeans, TakesMore}
 use Rattle.match_net.proofs.TakingLemmas.{took_nothing, took_more}
@@ -94,7 +94,7 @@ after_more_packets c here (first ∷ packets) session mid next packet so_far is 
     by_first (Ok after) goes rest = rest after goes
     by_first (Err end) goes rest = absurd cc
 
-others_stay : (c : ℕ) (old mid new : View) → OthersStay c old mid → OthersStay c mid new → OthersStay c old new
+pub others_stay : (c : ℕ) (old mid new : View) → OthersStay c old mid → OthersStay c mid new → OthersStay c old new
 others_stay c old mid new first second = (second.0 ∙ first.0, second.1 ∙ first.1, λ d other. second.2 d other ∙ first.2 d other)
 
 learns_more : (old mid new : Part) → OnlyLearns old mid → OnlyLearns mid new → OnlyLearns old new
@@ -140,10 +140,11 @@ ends_with :
     (c here : ℕ) (given : List ℕ) (old now : SourceState) (before view after : View) (start pushed more : List Heard) (fed : Fed) (session : Session) (answer : ReaderEnd) →
     (so_far : ReadSoFar c here given old now before view start pushed fed) →
     OthersStay c view after → OnlyLearns (part_of c view) (part_of c after) →
+    IsLeftIf (part_of c after).known.left (Some answer) →
     IsStanding c session start after more → session ≡ so_far.session →
     EndMeans c here (given ++ so_far.taken) so_far.session fed.rest old now answer →
     ReadsTo c here given old now before after start more answer
-ends_with c here given old now before view after start pushed more fed session answer so_far others learns standing same ends =
+ends_with c here given old now before view after start pushed more fed session answer so_far others learns knows standing same ends =
     record {
       session = so_far.session;
       taken = so_far.taken;
@@ -155,6 +156,7 @@ ends_with c here given old now before view after start pushed more fed session a
       standing = subst (λ (s : Session). IsStanding c s start after more) same standing;
       others = others_stay c before view after so_far.others others;
       learns = learns_more (part_of c before) (part_of c view) (part_of c after) so_far.learns learns;
+      knows = knows;
       ends = ends;
     }
 
@@ -171,28 +173,28 @@ after_heed c here given old now before view after start pushed more fed next pac
     subst (λ (x : Option Up). HasGiven up_at up_payload (given ++ so_far.taken) (so_far.packets ++ given_by (Ok x)) next) found_is gives in
     let gave = next_gave fed next packet (packet_at up_at fed.rest) (so ∙ asked fed so_far.whole) in
     let met = heeds.means so_far.session start so_far.standing in
-    by_answer answer heeds.others heeds.learns gave.0 gave.1 stream met.0 met.1 met.2
+    by_answer answer heeds.others heeds.learns heeds.knows gave.0 gave.1 stream met.0 met.1 met.2
   where
     by_answer : (answer : Option ReaderEnd) → OthersStay c view after → OnlyLearns (part_of c view) (part_of c after) →
-        packet_at up_at fed.rest ≡ Ok (Some (packet, next.rest)) → next.fault ≡ None →
+        IsLeftIf (part_of c after).known.left answer → packet_at up_at fed.rest ≡ Ok (Some (packet, next.rest)) → next.fault ≡ None →
         HasGiven up_at up_payload (given ++ so_far.taken) (so_far.packets ++ packet ∷ []) next →
         (session : Session) → IsStanding c session start after more → HeedMeans c so_far.session packet session answer →
         AfterTurn c here given old now before after start more next answer
-    by_answer None others learns at whole stream session standing means =
+    by_answer None others learns knows at whole stream session standing means =
         goes_on c here given old now before view after start pushed more fed next packet so_far whole stream others learns session standing means
-    by_answer (Some end.Ended) others learns at whole stream session standing means =
-        ends_with c here given old now before view after start pushed more fed session end.Ended so_far others learns standing means.0
+    by_answer (Some end.Ended) others learns knows at whole stream session standing means =
+        ends_with c here given old now before view after start pushed more fed session end.Ended so_far others learns knows standing means.0
         (inl (end_of_packet c here so_far.session packet fed.rest next.rest ending.Bye so_far.standing.welcomed at means.1))
-    by_answer (Some (end.Refused why)) others learns at whole stream session standing means =
-        ends_with c here given old now before view after start pushed more fed session (end.Refused why) so_far others learns standing means.0
+    by_answer (Some (end.Refused why)) others learns knows at whole stream session standing means =
+        ends_with c here given old now before view after start pushed more fed session (end.Refused why) so_far others learns knows standing means.0
         (ap (option_map (limited (length (given ++ so_far.taken))))
         (end_of_packet c here so_far.session packet fed.rest next.rest (ending.Refused why) so_far.standing.welcomed at means.1))
-    by_answer (Some (end.LeftAt n)) others learns at whole stream session standing means =
-        ends_with c here given old now before view after start pushed more fed session (end.LeftAt n) so_far others learns standing means.0
+    by_answer (Some (end.LeftAt n)) others learns knows at whole stream session standing means =
+        ends_with c here given old now before view after start pushed more fed session (end.LeftAt n) so_far others learns knows standing means.0
         (packet, next.rest, at, means.1)
-    by_answer (Some end.Lost) others learns at whole stream session standing means = absurd means
-    by_answer (Some end.NoMemory) others learns at whole stream session standing means =
-        ends_with c here given old now before view after start pushed more fed session end.NoMemory so_far others learns standing means tt
+    by_answer (Some end.Lost) others learns knows at whole stream session standing means = absurd means
+    by_answer (Some end.NoMemory) others learns knows at whole stream session standing means =
+        ends_with c here given old now before view after start pushed more fed session end.NoMemory so_far others learns knows standing means tt
 
 -- After more bytes were taken.
 pub after_more :
@@ -206,10 +208,10 @@ after_more c here given old now new before view start pushed fed next after answ
     let undecided = next_open fed next (packet_at up_at fed.rest) (so ∙ asked fed so_far.whole) in
     by_answer answer undecided.0 (subst (λ (f : Fed). TakesMore now new f after answer) undecided.1 takes)
   where
-    lost : (answer : ReaderEnd) → TakesMore now new fed after (Some answer) →
+    lost : (answer : ReaderEnd) → IsLeftIf (part_of c view).known.left (Some answer) → TakesMore now new fed after (Some answer) →
         (ends : (rest : List ℕ) (bytes : List ℕ) → EndMeans c here bytes so_far.session rest old new answer) →
         ReadsTo c here given old new before view start pushed answer
-    lost answer takes ends =
+    lost answer knows takes ends =
         let all : (given ++ so_far.taken) ++ takes.taken ≡ given ++ (so_far.taken ++ takes.taken) = append_assoc given so_far.taken takes.taken in
         let size = size_so_far (given ++ so_far.taken) so_far.packets fed so_far.stream so_far.whole in
         record {
@@ -228,13 +230,14 @@ after_more c here given old now new before view start pushed fed next after answ
           standing = so_far.standing;
           others = so_far.others;
           learns = so_far.learns;
+          knows = knows;
           ends = ends (fed.rest ++ takes.taken) (given ++ (so_far.taken ++ takes.taken));
         }
 
-    stopped : (answer : ReaderEnd) → (taken : List ℕ) → taken ≡ [] → Took now.left new.left taken → now.faults ≤ new.faults →
+    stopped : (answer : ReaderEnd) → IsLeftIf (part_of c view).known.left (Some answer) → (taken : List ℕ) → taken ≡ [] → Took now.left new.left taken → now.faults ≤ new.faults →
         EndMeans c here (given ++ so_far.taken) so_far.session fed.rest old new answer →
         ReadsTo c here given old new before view start pushed answer
-    stopped answer taken none took later ends =
+    stopped answer knows taken none took later ends =
         record {
           session = so_far.session;
           taken = so_far.taken;
@@ -247,6 +250,7 @@ after_more c here given old now new before view start pushed fed next after answ
           standing = so_far.standing;
           others = so_far.others;
           learns = so_far.learns;
+          knows = knows;
           ends = ends;
         }
 
@@ -282,20 +286,22 @@ after_more c here given old now new before view start pushed fed next after answ
     by_answer (Some end.Ended) undecided takes =
         let size = size_so_far (given ++ so_far.taken) so_far.packets fed so_far.stream so_far.whole in
         let means = takes.fed in
-        stopped end.Ended takes.taken means.0 takes.took takes.later
+        stopped end.Ended tt takes.taken means.0 takes.took takes.later
         (inr (ap (end_at c here so_far.session) undecided, let few = means.1 in omega (arith, size, few), means.2))
     by_answer (Some (end.Refused why)) undecided takes =
         let size = size_so_far (given ++ so_far.taken) so_far.packets fed so_far.stream so_far.whole in
         let means = takes.fed in
         let full = means.1 in
-        stopped (end.Refused why) takes.taken means.0 takes.took takes.later
+        stopped (end.Refused why) tt takes.taken means.0 takes.took takes.later
         (ap (λ (f : FirstPacket Up). option_map (limited (length (given ++ so_far.taken))) (end_at c here so_far.session f)) undecided
         ∙ ap Some (too_long (length (given ++ so_far.taken)) (size ∙ full))
         ∙ ap (λ (w : ReadCause). Some (ending.Refused w)) (sym means.2))
     by_answer (Some (end.LeftAt n)) undecided takes = absurd takes.fed
     by_answer (Some end.Lost) undecided takes =
-        lost end.Lost takes (λ rest bytes. let earlier = so_far.later in let rose = takes.fed in omega (arith, earlier, rose))
-    by_answer (Some end.NoMemory) undecided takes = lost end.NoMemory takes (λ rest bytes. tt)
+        let means = takes.fed in
+        stopped end.Lost tt takes.taken means.0 takes.took takes.later
+        (ap (end_at c here so_far.session) undecided, let earlier = so_far.later in let rose = means.1 in omega (arith, earlier, rose))
+    by_answer (Some end.NoMemory) undecided takes = lost end.NoMemory tt takes (λ rest bytes. tt)
 
 -- After a fault.
 pub after_fault :
@@ -305,7 +311,7 @@ pub after_fault :
     ReadsTo c here given old now before view start pushed (end.Refused (cause.Feed fault))
 after_fault c here given old now before view start pushed fed next fault so_far is =
     let failed = next_failed fed next fault (packet_at up_at fed.rest) (is ∙ asked fed so_far.whole) in
-    ends_with c here given old now before view view start pushed pushed fed so_far.session (end.Refused (cause.Feed fault)) so_far (refl, refl, λ d other. refl) refl so_far.standing refl
+    ends_with c here given old now before view view start pushed pushed fed so_far.session (end.Refused (cause.Feed fault)) so_far (refl, refl, λ d other. refl) refl tt so_far.standing refl
     (ap (λ (f : FirstPacket Up). option_map (limited (length (given ++ so_far.taken))) (end_at c here so_far.session f)) failed)
 
 -- Before the first turn, after the greeting.

@@ -1,6 +1,6 @@
 -- What the server makes of one packet of a client, in whose column another may have put the
 -- departure by then.
-use Rattle.std.specs.Prelude.{◌≡◌, ℕ, ◌≤◌, List, length, Option, Some, None, Ok, Err}
+use Rattle.std.specs.Prelude.{◌≡◌, ℕ, ◌≤◌, Bool, true, List, length, Option, Some, None, Ok, Err}
 use Rattle.game_orders.specs.declared.order.Order.{Order}
 use Rattle.game_orders.specs.declared.entry.Entry.TheVariants.{Play, Leave}
 use Rattle.frame_core.specs.declared.put.Put.{Put}
@@ -23,6 +23,15 @@ end_by_put (put.Conflict Leave) frame = Some (end.LeftAt frame)
 end_by_put (put.Left at) frame = Some (end.LeftAt at)
 end_by_put (put.Ahead plays) frame = Some (end.Refused cause.Ahead)
 end_by_put put.Full frame = Some (end.Refused cause.Full)
+
+-- Where the reading ends since another let the client leave, that is so.
+abbrev pub IsLeftIf : Bool → Option ReaderEnd → Type 0
+IsLeftIf left None = Unit {0}
+IsLeftIf left (Some end.Ended) = Unit {0}
+IsLeftIf left (Some (end.Refused cause)) = Unit {0}
+IsLeftIf left (Some (end.LeftAt at)) = left ≡ true
+IsLeftIf left (Some end.Lost) = Unit {0}
+IsLeftIf left (Some end.NoMemory) = Unit {0}
 
 -- The packet has orders for the frame at which another has let the client leave, after all its
 -- plays, or for a later one.

@@ -5,3 +5,4 @@ pub mod Session
 pub mod Heeding
 pub mod Reading
 pub mod ReadSoFar
+pub mod Sessions

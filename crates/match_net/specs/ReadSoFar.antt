@@ -54,7 +54,7 @@ MoreMeans old new before after taken (Some (end.Refused why)) =
     (taken ≡ []) × (before.at + length before.rest ≡ MAX_LINK_BYTES)
     × (why ≡ cause.SessionTooLong)
 MoreMeans old new before after taken (Some (end.LeftAt at)) = ⊥
-MoreMeans old new before after taken (Some end.Lost) = Rose old.faults new.faults
+MoreMeans old new before after taken (Some end.Lost) = (taken ≡ []) × Rose old.faults new.faults
 MoreMeans old new before after taken (Some end.NoMemory) = Unit {0}
 
 -- What the taking of more bytes leaves: the feeder was fed a piece, at least one byte; or the reading

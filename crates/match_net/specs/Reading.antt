@@ -18,7 +18,7 @@ use Rattle.match_net.specs.declared.reader_end.ReaderEnd.{ReaderEnd}
 use Rattle.match_net.specs.declared.reader_end.ReaderEnd.TheVariants as end
 use Rattle.match_net.specs.Taking.{Took, NoneLeft}
 use Rattle.match_net.specs.Session.{Session, Makes, end_at, limited}
-use Rattle.match_net.specs.Heeding.{IsLate, HeedMeans}
+use Rattle.match_net.specs.Heeding.{IsLate, IsLeftIf, HeedMeans}
 
 -- The pass may add plays to the client's column, which is free.
 pub record MayPlay (part : Part) : Type 0 where
@@ -43,6 +43,7 @@ pub record PutsOrders (c : ℕ) (old new : View) (n : ℕ) (orders : List Order)
     (answer : Option ReaderEnd) : Type 0 where
   pub others : OthersStay c old new
   pub learns : OnlyLearns (part_of c old) (part_of c new)
+  pub knows : IsLeftIf (part_of c new).known.left answer
   pub means : (session : Session) → session.plays ≡ (part_of c old).known.plays →
       HeedMeans c session (Orders n orders)
       (record session { plays = (part_of c new).known.plays }) answer
@@ -52,6 +53,7 @@ pub record Heeds (c : ℕ) (old new : View) (before after : List Heard) (packet 
     (answer : Option ReaderEnd) : Type 0 where
   pub others : OthersStay c old new
   pub learns : OnlyLearns (part_of c old) (part_of c new)
+  pub knows : IsLeftIf (part_of c new).known.left answer
   pub means : (session : Session) (first : List Heard) → IsStanding c session first old before →
       (next : Session) × IsStanding c next first new after
       × HeedMeans c session packet next answer
@@ -80,7 +82,8 @@ EndMeans c here bytes session rest old new (end.Refused cause) =
 EndMeans c here bytes session rest old new (end.LeftAt at) =
     (packet : Up) × (more : List ℕ) × (packet_at up_at rest ≡ Ok (Some (packet, more)))
     × IsLate session packet at
-EndMeans c here bytes session rest old new end.Lost = Rose old.faults new.faults
+EndMeans c here bytes session rest old new end.Lost =
+    (end_at c here session (packet_at up_at rest) ≡ Some ending.Over) × Rose old.faults new.faults
 EndMeans c here bytes session rest old new end.NoMemory = Unit {0}
 
 -- What a reading took from the link, and what it made of its bytes: these are the ones that were
@@ -97,4 +100,5 @@ pub record ReadsTo (c here : ℕ) (given : List ℕ) (old new : SourceState) (be
   pub standing : IsStanding c session first after pushed
   pub others : OthersStay c before after
   pub learns : OnlyLearns (part_of c before) (part_of c after)
+  pub knows : IsLeftIf (part_of c after).known.left (Some answer)
   pub ends : EndMeans c here (given ++ taken) session rest old new answer
