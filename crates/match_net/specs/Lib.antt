@@ -6,3 +6,4 @@ pub mod Heeding
 pub mod Reading
 pub mod ReadSoFar
 pub mod Sessions
+pub mod Tests

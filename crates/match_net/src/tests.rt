@@ -1,2 +1,3 @@
 //! Sessions over links in memory.
 mod greetings;
+mod links;

@@ -7,7 +7,7 @@ use std::test::Fail;
 /// The hash of no rules and no map.
 const RULES: u64 = 0xaf63_bd4c_8601_b7df;
 
-const INVITE: Invite = Invite {
+pub const INVITE: Invite = Invite {
     client: 0,
     clients: 1,
     lag: 2,
