@@ -5,3 +5,5 @@ pub mod PutLemmas
 pub mod ReadingLemmas
 pub mod TurnLemmas
 pub mod SessionLemmas
+pub mod SendingLemmas
+pub mod RoundLemmas

@@ -7,3 +7,4 @@ pub mod Reading
 pub mod ReadSoFar
 pub mod Sessions
 pub mod Tests
+pub mod Sending

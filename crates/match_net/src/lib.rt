@@ -21,6 +21,8 @@ mod reading;
 mod report_ends;
 mod reporting;
 mod reports;
+mod sender_end;
+mod sending;
 mod taking;
 mod turns;
 
@@ -35,6 +37,7 @@ pub use reader_end::ReaderEnd;
 pub use report_ends::ReportEnds;
 pub use reporting::report_queue;
 pub use reports::Reports;
+pub use sender_end::SenderEnd;
 
 #[cfg(test)]
 mod tests;
