@@ -7,3 +7,4 @@ pub mod TurnLemmas
 pub mod SessionLemmas
 pub mod SendingLemmas
 pub mod RoundLemmas
+pub mod SenderLemmas

@@ -8,3 +8,4 @@ pub mod ReadSoFar
 pub mod Sessions
 pub mod Tests
 pub mod Sending
+pub mod SenderSession

@@ -1,8 +1,13 @@
 //! The links of a match, on the server's side.
 //!
-//! A link joins the server and one client. [`greet`] takes what the client sends first and decides
-//! whether it is in the match (`specs/Greeting.antt`). The crate stands on `order_packets` for the
-//! packets and on `game_io` for the links.
+//! A link joins the server and one client, both ways. [`greet`] takes what the client sends first
+//! and decides whether it is in the match (`specs/Greeting.antt`). Then two threads serve the link.
+//! [`reader_session`] puts the client's plays into its column of a `frame_table` and its reports
+//! into a queue of [`report_queue`], up to the end that the bytes have (`specs/Session.antt`,
+//! `specs/Sessions.antt`). [`sender_session`] writes what the greeting says: the welcome and all
+//! columns, a refusal, or nothing (`specs/Sending.antt`, `specs/SenderSession.antt`). Each leaves no
+//! column but its client's. The crate stands on `order_packets` for the packets, on `game_io` for
+//! the links, and on `frame_table` for the columns.
 #![tactic(auto)]
 
 mod ending;
@@ -21,6 +26,7 @@ mod reading;
 mod report_ends;
 mod reporting;
 mod reports;
+mod sender;
 mod sender_end;
 mod sending;
 mod taking;
@@ -37,6 +43,7 @@ pub use reader_end::ReaderEnd;
 pub use report_ends::ReportEnds;
 pub use reporting::report_queue;
 pub use reports::Reports;
+pub use sender::sender_session;
 pub use sender_end::SenderEnd;
 
 #[cfg(test)]
