@@ -1,5 +1,5 @@
 -- What is known while the first packet of a link isn't decided, and what each way out leaves.
-use Rattle.std.proofs.Common.{◌≡◌, ℕ, suc, ◌+◌, ◌-◌, ◌<◌, ◌≤◌, Bool, true, false, List, [], ◌∷◌, ◌++◌, length, Option, Some, None, Ok, Err, true≢false, refl, sym, ap, ap₂, subst, ◌∙◌, arith}
+use Rattle.std.proofs.Common.{◌≡◌, ℕ, ◌+◌, ◌-◌, ◌≤◌, Bool, true, false, List, [], ◌++◌, length, Option, Some, None, Ok, Err, true≢false, refl, sym, ap, ap₂, subst, ◌∙◌, arith}
 use Rattle.std.proofs.lemmas.Bool.{eqb-true}
 use Rattle.wire_bytes.specs.Read.{field_at}
 use Rattle.std.specs.Prelude.{◌==◌}
@@ -13,13 +13,13 @@ use Rattle.order_packets.specs.declared.up.Up.TheVariants.{Hello, Orders, Sync, 
 use Rattle.order_packets.specs.PacketBytes.{up_payload, framed, up_bytes}
 use Rattle.order_packets.specs.PacketReading.{FirstPacket, packet_at, up_at}
 use Rattle.order_packets.specs.Feed.{Fed, unfed, more_fed, answer_of}
-use Rattle.match_net.specs.declared.limits.TheConstants.{VERSION, MAX_LINK_BYTES, PIECE_BYTES}
+use Rattle.match_net.specs.declared.limits.TheConstants.{VERSION, MAX_LINK_BYTES}
 use Rattle.match_net.specs.declared.greeting.Greeting.{Greeting}
 use Rattle.match_net.specs.declared.greeting.Greeting.TheVariants as greeting
 use Rattle.match_net.specs.declared.piece.Piece.TheVariants as piece
 use Rattle.match_net.specs.Taking.{Took, NoneLeft, TookAtMost, TakesPiece}
 use Rattle.match_net.specs.Greeting.{greeting_of, decided, decision, asked_once, hello_bytes}
-use Rattle.match_net.specs.Greeting.{IsGreeted, UntilDecided, Greets}
+use Rattle.match_net.specs.Greeting.{IsGreeted, Greets}
 use Rattle.match_net.proofs.TakingLemmas.{took_nothing, took_more}
 
 -- So many turns took bytes that decide nothing yet, and the feeder was fed these.

@@ -1,5 +1,5 @@
 -- What a column answers to a client's own plays, also where another has let the client leave.
-use Rattle.std.proofs.Common.{◌≡◌, ℕ, zero, suc, ◌<◌, ◌≤◌, ◌==◌, ◌&&◌, Bool, true, false, List, [], ◌∷◌, ◌++◌, length, Option, Some, None, Ok, Err, refl, sym, ap, ◌∙◌, arith, inl, inr, eq-eqb, lt-ltb}
+use Rattle.std.proofs.Common.{◌≡◌, ℕ, zero, suc, ◌<◌, ◌≤◌, ◌==◌, Bool, true, false, List, [], ◌∷◌, length, Option, Some, None, refl, sym, ◌∙◌, arith, inl, inr, lt-ltb}
 use Rattle.std.specs.Prelude.{slice_get, nat_lt, if◌then◌else◌}
 use Rattle.std.proofs.Common.{true≢false}
 use Rattle.std.proofs.lemmas.Bool.{cases_lt, eqb-true}
@@ -8,13 +8,13 @@ use Rattle.game_orders.specs.declared.order.Order.{Order}
 use Rattle.game_orders.specs.declared.entry.Entry.{Entry}
 use Rattle.game_orders.specs.declared.entry.Entry.TheVariants.{Play, Leave}
 use Rattle.game_orders.specs.declared.limits.TheConstants.{MAX_FRAMES}
-use Rattle.game_orders.specs.Entry.{is_play, same_entry}
-use Rattle.frame_core.specs.Column.{Column, length_of, entry_from, entry_at, put_by, put_answer, after_answer, put_column}
+use Rattle.game_orders.specs.Entry.{same_entry}
+use Rattle.frame_core.specs.Column.{Column, entry_from, put_by, put_answer, put_column}
 use Rattle.frame_core.specs.declared.put.Put.{Put}
 use Rattle.frame_core.specs.declared.put.Put.TheVariants.{Fixed, Repeat, Conflict, Left, Ahead, Full}
 use Rattle.order_packets.specs.declared.up.Up.TheVariants.{Orders}
-use Rattle.match_net.specs.Session.{Session, own_column, after_put, after_up}
-use Rattle.match_net.specs.Heeding.{end_by_put, IsLate, IsLeftIf, HeedMeans}
+use Rattle.match_net.specs.Session.{Session, own_column}
+use Rattle.match_net.specs.Heeding.{end_by_put, IsLeftIf, HeedMeans}
 
 -- A column of these plays.
 abbrev pub with_plays : List (List Order) → Bool → Column

@@ -1,23 +1,21 @@
 -- What a packet leaves of a session.
-use Rattle.std.proofs.Common.{◌≡◌, ◌≢◌, ℕ, ◌+◌, ◌-◌, ◌<◌, ◌≤◌, Bool, true, false, List, [], ◌∷◌, ◌++◌, length, Option, Some, None, Ok, Err, refl, sym, ap, subst, ◌∙◌, arith, append_assoc}
-use Rattle.std.proofs.lemmas.List.{append-nil}
+use Rattle.std.proofs.Common.{◌≡◌, ℕ, ◌+◌, ◌-◌, Bool, true, List, [], ◌∷◌, ◌++◌, length, Option, Some, None, refl, sym, ap, subst, ◌∙◌, arith, append_assoc}
 use Rattle.game_orders.specs.declared.order.Order.{Order}
-use Rattle.game_orders.specs.declared.entry.Entry.TheVariants.{Play, Leave}
+use Rattle.game_orders.specs.declared.entry.Entry.TheVariants.{Play}
 use Rattle.frame_core.specs.Column.{Column, put_answer, put_column}
 use Rattle.frame_core.specs.declared.put.Put.{Put}
 use Rattle.order_packets.specs.declared.up.Up.{Up}
 use Rattle.order_packets.specs.declared.up.Up.TheVariants.{Hello, Orders, Sync, Bye}
-use Rattle.frame_table.specs.declared.planned.Planned.TheVariants.{Free}
 use Rattle.frame_table.specs.declared.view.View.{View}
-use Rattle.frame_table.specs.Part.{Part, part_of, OthersStay}
+use Rattle.frame_table.specs.Part.{Part, part_of}
 use Rattle.frame_table.specs.Word.{one_if, whole_of}
-use Rattle.frame_table.specs.Steps.{IsFound, published}
-use Rattle.frame_table.specs.Calls.{Acted, PutsSo, Unchanged}
+use Rattle.frame_table.specs.Steps.{published}
+use Rattle.frame_table.specs.Calls.{PutsSo, Unchanged}
 use Rattle.match_net.specs.declared.heard.Heard.{Heard}
 use Rattle.match_net.specs.declared.read_cause.ReadCause.TheVariants as cause
 use Rattle.match_net.specs.declared.reader_end.ReaderEnd.{ReaderEnd}
 use Rattle.match_net.specs.declared.reader_end.ReaderEnd.TheVariants as end
-use Rattle.match_net.specs.Session.{Session, after_up}
+use Rattle.match_net.specs.Session.{Session}
 use Rattle.match_net.specs.Heeding.{end_by_put, IsLeftIf, HeedMeans}
 use Rattle.match_net.specs.Reading.{MayPlay, OnlyLearns, IsStanding, PutsOrders, Heeds, PushMeans}
 use Rattle.match_net.proofs.PutLemmas.{with_plays, PutSays, put_says}

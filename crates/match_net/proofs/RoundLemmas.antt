@@ -1,14 +1,12 @@
 -- Entries sent one after another, client by client.
-use Rattle.std.proofs.Common.{◌≡◌, ◌≢◌, ℕ, ◌+◌, ◌<◌, ◌≤◌, ◌==◌, Bool, true, false, true≢false, List, [], ◌∷◌, ◌++◌, length, Option, Some, None, Result, Ok, Err, refl, sym, ap, subst, ◌∙◌, arith, inl, inr, append_assoc, append-nil, eq-eqb}
+use Rattle.std.proofs.Common.{◌≡◌, ◌≢◌, ℕ, ◌<◌, ◌≤◌, ◌==◌, Bool, true, false, true≢false, List, [], ◌∷◌, ◌++◌, length, Option, Some, None, Result, Ok, Err, refl, sym, ap, subst, ◌∙◌, arith, inl, inr, append_assoc, append-nil}
 use Rattle.std.specs.Prelude.{slice_set, slice_index_or}
 use Rattle.std.proofs.lemmas.List.{get_or-set_same, get_or-set_other, length-set}
 use Rattle.std.proofs.lemmas.Bool.Decides.{eqb_tells}
-use Rattle.base.specs.Cause.{Rose}
-use Rattle.base.specs.Written.{Wrote, WrotePrefix, Wrote-nil, Wrote-append, whole_prefix}
+use Rattle.base.specs.Written.{Wrote, Wrote-nil, Wrote-append, whole_prefix}
 use Rattle.game_io.specs.SinkState.{SinkState}
 use Rattle.game_orders.specs.declared.entry.Entry.{Entry as one_entry}
 use Rattle.frame_core.specs.Column.{Column}
-use Rattle.frame_core.specs.Grows.{GrowsTo}
 use Rattle.order_packets.specs.declared.down.Down.TheVariants as down
 use Rattle.order_packets.specs.PacketBytes.{down_bytes}
 use Rattle.frame_table.specs.declared.seen.Seen.{Seen}
@@ -16,8 +14,8 @@ use Rattle.frame_table.specs.declared.view.View.{View}
 use Rattle.frame_table.specs.Part.{Part, part_of, OthersStay}
 use Rattle.match_net.specs.declared.sender_end.SenderEnd.{SenderEnd}
 use Rattle.match_net.specs.declared.sender_end.SenderEnd.TheVariants as sent
-use Rattle.match_net.specs.Sending.{At, entries_bytes, of_client, entries_of, SentColumn, SentSoFar, nothing_sent, Looks, LooksAtAll, NextMeans, SendsNext, Sending, SentMeans, SendsTo, AfterSend, EndsIfAll}
-use Rattle.match_net.proofs.SendingLemmas.{grows_on, of_client_same, of_client_other, looks_on, looks_still, sent_column, still_sent}
+use Rattle.match_net.specs.Sending.{At, entries_bytes, of_client, entries_of, SentColumn, SentSoFar, nothing_sent, Looks, LooksAtAll, NextMeans, SendsNext, Sending, SendsTo, AfterSend, EndsIfAll}
+use Rattle.match_net.proofs.SendingLemmas.{of_client_other, looks_on, looks_still, sent_column}
 
 -- One packet more.
 bytes_more : (entries : List At) (at : At) →

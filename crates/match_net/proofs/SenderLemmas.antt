@@ -1,16 +1,14 @@
 -- A whole sending: the welcome, and then the entries.
-use Rattle.std.proofs.Common.{◌≡◌, ℕ, zero, suc, ◌+◌, ◌<◌, ◌≤◌, Bool, true, false, true≢false, List, [], ◌∷◌, ◌++◌, length, replicate, Option, Some, None, refl, sym, ap, subst, ◌∙◌, arith, append_assoc, append-nil}
+use Rattle.std.proofs.Common.{◌≡◌, ℕ, zero, suc, ◌<◌, ◌≤◌, false, true≢false, List, [], ◌++◌, replicate, Option, Some, None, refl, sym, ap, subst, ◌∙◌, arith, append_assoc, append-nil}
 use Rattle.std.specs.Prelude.{slice_index_or}
-use Rattle.base.specs.Cause.{Rose}
-use Rattle.base.specs.Written.{Wrote, WrotePrefix, Wrote-nil, Wrote-append, whole_prefix}
+use Rattle.base.specs.Written.{Wrote, WrotePrefix, Wrote-nil, Wrote-append}
 use Rattle.game_io.specs.SinkState.{SinkState}
-use Rattle.frame_core.specs.Column.{Column}
 use Rattle.frame_table.specs.declared.seen.Seen.{Seen}
 use Rattle.frame_table.specs.declared.view.View.{View}
-use Rattle.frame_table.specs.Part.{Part, part_of}
+use Rattle.frame_table.specs.Part.{part_of}
 use Rattle.match_net.specs.declared.sender_end.SenderEnd.{SenderEnd}
 use Rattle.match_net.specs.declared.sender_end.SenderEnd.TheVariants as sent
-use Rattle.match_net.specs.Sending.{At, entries_bytes, of_client, entries_of, SentColumn, nothing_sent, LooksAtAll, PutMeans, PutsPacket, SentMeans, SendsTo}
+use Rattle.match_net.specs.Sending.{entries_bytes, SentColumn, nothing_sent, PutsPacket, SentMeans, SendsTo}
 use Rattle.match_net.proofs.SendingLemmas.{looks_still}
 
 -- No entry was sent.

@@ -1,16 +1,13 @@
 -- What the sending of an entry leaves.
-use Rattle.std.proofs.Common.{◌≡◌, ◌≢◌, ℕ, zero, suc, ◌+◌, ◌-◌, ◌<◌, ◌≤◌, ◌⊎◌, ◌==◌, Bool, true, false, true≢false, List, [], ◌∷◌, ◌++◌, length, Option, Some, None, Result, Ok, Err, refl, sym, ap, ap₂, subst, ◌∙◌, arith, inl, inr, append_assoc, append-nil, eq-eqb}
+use Rattle.std.proofs.Common.{◌≡◌, ℕ, zero, suc, ◌+◌, ◌-◌, ◌<◌, ◌≤◌, ◌==◌, Bool, true, false, true≢false, List, [], ◌∷◌, ◌++◌, length, Option, Some, None, Ok, Err, refl, sym, ap, ap₂, subst, ◌∙◌, arith, append_assoc, append-nil, eq-eqb}
 use Rattle.std.specs.Prelude.{nat_lt, if◌then◌else◌, slice_get}
 use Rattle.std.proofs.lemmas.List.{length-append}
 use Rattle.std.proofs.lemmas.Bool.{ltb-true, ltb-false}
-use Rattle.std.proofs.lemmas.Bool.Decides.{eqb_tells}
-use Rattle.base.specs.Cause.{Rose}
-use Rattle.base.specs.Written.{Wrote, WrotePrefix}
 use Rattle.game_io.specs.SinkState.{SinkState}
 use Rattle.game_orders.specs.declared.order.Order.{Order}
 use Rattle.game_orders.specs.declared.entry.Entry.{Entry as one_entry}
 use Rattle.game_orders.specs.declared.entry.Entry.TheVariants.{Play, Leave}
-use Rattle.frame_core.specs.Column.{Column, length_of, entry_from, has_at}
+use Rattle.frame_core.specs.Column.{Column, entry_from, has_at}
 use Rattle.frame_core.specs.Grows.{GrowsTo}
 use Rattle.order_packets.specs.declared.down.Down.TheVariants as down
 use Rattle.order_packets.specs.PacketBytes.{down_bytes}
@@ -19,11 +16,11 @@ use Rattle.frame_table.specs.declared.view.View.{View}
 use Rattle.frame_table.specs.Part.{Part, part_of, OthersStay}
 use Rattle.frame_table.specs.Word.{one_if, whole_of}
 use Rattle.frame_table.specs.Rule.{IsReach}
-use Rattle.frame_table.specs.Steps.{IsFound, published, loaded, known_after}
-use Rattle.frame_table.specs.Calls.{Acted, TakesSo, HasSeen}
+use Rattle.frame_table.specs.Steps.{published, loaded}
+use Rattle.frame_table.specs.Calls.{TakesSo}
 use Rattle.match_net.specs.declared.sender_end.SenderEnd.{SenderEnd}
 use Rattle.match_net.specs.declared.sender_end.SenderEnd.TheVariants as sent
-use Rattle.match_net.specs.Sending.{At, entries_bytes, of_client, entries_from, entries_of, SentColumn, SentSoFar, nothing_sent, Looks, LooksAtAll, PutMeans, PutsPacket, next_count, SendsEntry, NextMeans, SendsNext}
+use Rattle.match_net.specs.Sending.{At, of_client, entries_from, SentColumn, SentSoFar, Looks, PutMeans, next_count, SendsEntry, NextMeans, SendsNext}
 
 -- Columns that grow twice.
 pub grows_on : (old mid new : Column) → GrowsTo old mid → GrowsTo mid new → GrowsTo old new

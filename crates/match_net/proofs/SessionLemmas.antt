@@ -1,5 +1,5 @@
 -- How a session ends, once its client was let go.
-use Rattle.std.proofs.Common.{◌≡◌, ℕ, ◌+◌, ◌-◌, ◌<◌, ◌≤◌, Bool, true, false, true≢false, List, [], ◌++◌, length, Option, Some, None, refl, sym, ap, ap₂, subst, ◌∙◌, arith, inl, inr}
+use Rattle.std.proofs.Common.{◌≡◌, ℕ, ◌+◌, ◌-◌, Bool, true, false, List, [], ◌++◌, length, Some, refl, sym, ap, subst, ◌∙◌, arith, inl, inr}
 use Rattle.game_io.specs.SourceState.{SourceState}
 use Rattle.game_orders.specs.declared.order.Order.{Order}
 use Rattle.frame_core.specs.Column.{Column, left_column, leave_answer}
@@ -9,18 +9,16 @@ use Rattle.frame_table.specs.declared.view.View.{View}
 use Rattle.frame_table.specs.Part.{Part, part_of, OthersStay}
 use Rattle.frame_table.specs.Word.{one_if, whole_of}
 use Rattle.frame_table.specs.Steps.{IsFound, published}
-use Rattle.frame_table.specs.Calls.{Acted, LeavesSo}
+use Rattle.frame_table.specs.Calls.{LeavesSo}
 use Rattle.match_net.specs.declared.heard.Heard.{Heard}
 use Rattle.match_net.specs.declared.greeting.Greeting.{Greeting}
 use Rattle.match_net.specs.declared.greeting.Greeting.TheVariants as greeting
-use Rattle.match_net.specs.declared.read_cause.ReadCause.TheVariants as cause
 use Rattle.match_net.specs.declared.reader_end.ReaderEnd.{ReaderEnd}
 use Rattle.match_net.specs.declared.reader_end.ReaderEnd.TheVariants as end
 use Rattle.match_net.specs.Greeting.{hello_bytes}
-use Rattle.match_net.specs.Session.{Session, cause_of}
-use Rattle.match_net.specs.Heeding.{IsLate, IsLeftIf}
-use Rattle.match_net.specs.Reading.{MayPlay, OnlyLearns, IsStanding, EndMeans, ReadsTo}
-use Rattle.match_net.specs.Sessions.{LeavesColumn, FixedIt, FoundIt, SessionEnds, ReadsLink, GreetingEnds, ReadsNothing, ReadsAs, Untouched, ReadBy, after_leaving, end_of_greeting}
+use Rattle.match_net.specs.Heeding.{IsLeftIf}
+use Rattle.match_net.specs.Reading.{MayPlay, OnlyLearns, EndMeans, ReadsTo}
+use Rattle.match_net.specs.Sessions.{LeavesColumn, FixedIt, FoundIt, SessionEnds, ReadsLink, GreetingEnds, ReadsNothing, ReadsAs, Untouched, ReadBy, after_leaving}
 use Rattle.match_net.proofs.TurnLemmas.{others_stay}
 
 -- What the answer to a departure says of who fixed it, after these plays.

@@ -5,13 +5,12 @@ use Rattle.std.specs.Option.{option_map}
 use Rattle.std.specs.List.{flat_map}
 use Rattle.std.proofs.lemmas.List.{append-nil, length-append}
 use Rattle.std.proofs.lemmas.Bool.{le-ltb}
-use Rattle.base.specs.Cause.{Rose}
 use Rattle.base.specs.Steps.{◌>>=◌}
 use Rattle.game_io.specs.SourceState.{SourceState}
 use Rattle.order_packets.specs.declared.feed_fault.FeedFault.{FeedFault}
 use Rattle.order_packets.specs.declared.up.Up.{Up}
-use Rattle.order_packets.specs.declared.up.Up.TheVariants.{Hello, Orders, Sync, Bye}
-use Rattle.order_packets.specs.PacketBytes.{framed, up_payload, up_bytes}
+use Rattle.order_packets.specs.declared.up.Up.TheVariants.{Hello}
+use Rattle.order_packets.specs.PacketBytes.{framed, up_payload}
 use Rattle.order_packets.specs.PacketReading.{FirstPacket, packet_at, up_at}
 use Rattle.order_packets.specs.PacketLemmas.{up_again}
 use Rattle.order_packets.specs.Feed.{Fed, more_fed, Answer, answer_of, next_answer, ReadsAll, HasGiven, given_by}
@@ -27,12 +26,12 @@ use Rattle.match_net.specs.declared.read_cause.ReadCause.{ReadCause}
 use Rattle.match_net.specs.declared.read_cause.ReadCause.TheVariants as cause
 use Rattle.match_net.specs.declared.reader_end.ReaderEnd.{ReaderEnd}
 use Rattle.match_net.specs.declared.reader_end.ReaderEnd.TheVariants as end
-use Rattle.match_net.specs.Taking.{Took, NoneLeft}
+use Rattle.match_net.specs.Taking.{Took}
 use Rattle.match_net.specs.Greeting.{hello_bytes}
-use Rattle.match_net.specs.Session.{Session, no_session, After, after_up, after_packet, after_packet_if, after_all, Makes, end_by, end_at, limited}
-use Rattle.match_net.specs.Heeding.{HeedMeans, IsLate, IsLeftIf}
+use Rattle.match_net.specs.Session.{Session, no_session, After, after_up, after_packet, after_packet_if, after_all, end_by, end_at, limited}
+use Rattle.match_net.specs.Heeding.{HeedMeans, IsLeftIf}
 use Rattle.match_net.specs.Reading.{OnlyLearns, IsStanding, Heeds, EndMeans, ReadsTo}
-use Rattle.match_net.specs.ReadSoFar.{ReadSoFar, AfterTurn, MoreMeans, TakesMore}
+use Rattle.match_net.specs.ReadSoFar.{ReadSoFar, AfterTurn, TakesMore}
 use Rattle.match_net.proofs.TakingLemmas.{took_nothing, took_more}
 use Rattle.match_net.proofs.GreetingLemmas.{hello_length}
 

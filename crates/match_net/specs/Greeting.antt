@@ -1,5 +1,5 @@
 -- What the first packet of a link decides, and what the server has then taken from the link.
-use Rattle.std.specs.Prelude.{◌≡◌, ℕ, ◌≤◌, ◌-◌, ◌==◌, if◌then◌else◌, List, [], ◌++◌, length}
+use Rattle.std.specs.Prelude.{◌≡◌, ℕ, ◌≤◌, ◌-◌, ◌==◌, if◌then◌else◌, List, ◌++◌, length}
 use Rattle.std.specs.Prelude.{Option, Some, None, Ok, Err}
 use Rattle.base.specs.Cause.{Rose}
 use Rattle.game_io.specs.SourceState.{SourceState}

@@ -10,7 +10,6 @@ use Rattle.game_orders.specs.declared.entry.Entry.{Entry as one_entry}
 use Rattle.game_orders.specs.declared.entry.Entry.TheVariants.{Play, Leave}
 use Rattle.frame_core.specs.Column.{Column}
 use Rattle.frame_core.specs.Grows.{GrowsTo}
-use Rattle.order_packets.specs.declared.down.Down.{Down}
 use Rattle.order_packets.specs.declared.down.Down.TheVariants as down
 use Rattle.order_packets.specs.PacketBytes.{down_bytes}
 use Rattle.frame_table.specs.declared.seen.Seen.{Seen}

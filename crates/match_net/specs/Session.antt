@@ -5,8 +5,7 @@ use Rattle.std.specs.Prelude.{◌∷◌, ◌++◌, length, take, Option, Some, N
 use Rattle.std.specs.Option.{option_map}
 use Rattle.base.specs.Steps.{◌>>=◌}
 use Rattle.game_orders.specs.declared.order.Order.{Order}
-use Rattle.game_orders.specs.declared.entry.Entry.{Entry}
-use Rattle.game_orders.specs.declared.entry.Entry.TheVariants.{Play, Leave}
+use Rattle.game_orders.specs.declared.entry.Entry.TheVariants.{Play}
 use Rattle.frame_core.specs.Column.{Column, put_answer}
 use Rattle.frame_core.specs.declared.put.Put.{Put}
 use Rattle.frame_core.specs.declared.put.Put.TheVariants as put

@@ -3,10 +3,12 @@ ghost use Rattle.std.specs.Prelude.{IfOk};
 ghost use Rattle.match_net.specs.Tests.{IsFreshPass};
 
 use crate::tests::greetings::INVITE;
-use crate::{ReadCause, ReaderEnd, Reports, greet, reader_session, report_queue};
+use crate::{
+    ReadCause, ReaderEnd, Reports, SenderEnd, greet, reader_session, report_queue, sender_session,
+};
 use base::{List, NoMemory};
 use frame_table::{FrameTable, Pass, Plan, Planned, Seen};
-use game_io::MemSource;
+use game_io::{FailingCall, MemSink, MemSource, Remains};
 use order_packets::{FeedFault, UpFeeder};
 use std::alloc::Global;
 use std::process::Abort;
@@ -190,5 +192,76 @@ fn a_client_that_was_kicked(rt: HostRuntime) -> Result<(), Fail> {
         &mut reports,
     );
     assert_eq!(rt; end, ReaderEnd::LeftAt(0));
+    Ok(())
+}
+
+/// The sending to the client of a link of these bytes, once that was read: how it ends, and what was
+/// written.
+fn send_link<R: Wait + Abort>(
+    rt: &R,
+    alloc: Global,
+    bytes: &[u8],
+    failing: Vec<FailingCall>,
+) -> Result<(SenderEnd, Vec<u8>), Fail> {
+    let (table, mut pass) = begin(alloc)?;
+    let mut reports = one_end(rt, alloc)?;
+    let mut feeder = UpFeeder::create(alloc)?;
+    let mut link = MemSource::new(Vec::from_slice(alloc, bytes)?, Vec::new(alloc));
+    let greeting = greet(&INVITE, &mut feeder, &mut link)?;
+    let _read = reader_session(
+        rt,
+        &table,
+        &mut pass,
+        &INVITE,
+        greeting,
+        &mut feeder,
+        &mut link,
+        &mut reports,
+    );
+    let mut sink = MemSink::new(alloc, failing);
+    let end = sender_session(rt, alloc, &table, &mut pass, &INVITE, greeting, &mut sink);
+    Ok((end, Vec::from_slice(alloc, sink.bytes())?))
+}
+
+/// The bytes of links, and what is written to each.
+const ANSWERS: [(&[u8], &[u8]); 4] = [
+    // A play without orders, and the farewell: the welcome, the play and the departure.
+    (
+        b"\x0b\x00\x01\x02\x00\xdf\xb7\x01\x86\x4c\xbd\x63\xaf\x06\x00\x02\x00\x00\x00\x00\x00\x01\x00\x04",
+        b"\x08\x00\x11\x00\x01\x02\x09\x00\x00\x00\x07\x00\x13\x00\x00\x00\x00\x00\x00\x06\x00\x14\x00\x01\x00\x00\x00",
+    ),
+    // Another version.
+    (
+        b"\x0b\x00\x01\x04\x00\x00\x00\x00\x00\x00\x00\x00\x00",
+        b"\x02\x00\x12\x01",
+    ),
+    // A fault in the place of the first packet.
+    (b"\x01\x01", b""),
+    // No bytes.
+    (b"", b""),
+];
+
+#[test]
+fn answers(rt: HostRuntime) -> Result<(), Fail> {
+    for (bytes, want) in ANSWERS {
+        let (end, written) = send_link(&rt, rt.alloc(), bytes, Vec::new(rt.alloc()))?;
+        assert_eq!(rt; end, SenderEnd::Sent);
+        assert_eq!(rt; written.as_slice(), want);
+    }
+    Ok(())
+}
+
+/// The link fails within the second packet.
+#[test]
+fn a_link_that_is_cut_off(rt: HostRuntime) -> Result<(), Fail> {
+    let failing = vec![in rt.alloc();
+        FailingCall {
+            call: 1,
+            remains: Remains::Prefix(3)
+        },
+    ]?;
+    let (end, written) = send_link(&rt, rt.alloc(), ANSWERS[0].0, failing)?;
+    assert_eq!(rt; end, SenderEnd::Lost);
+    assert_eq!(rt; written.as_slice(), &ANSWERS[0].1[..13]);
     Ok(())
 }

@@ -1,7 +1,4 @@
-use Rattle.std.proofs.Common.{Option, Some, None, subst}
 use Rattle.frame_table.specs.Calls.{view_of}
-use Rattle.match_net.specs.declared.sender_end.SenderEnd.{SenderEnd}
-use Rattle.match_net.specs.Sending.{SendsEntry}
 use Rattle.match_net.proofs.SendingLemmas.{sends_next, sends_last}
 use Rattle.match_net.proofs.sending.send_next.Goals as goal
 

@@ -1,7 +1,5 @@
-use Rattle.std.proofs.Common.{Bool, true, false, Ok, subst, sym, ap, arith, ◌∙◌, ◌≡◌, length, List, [], ℕ, Option}
-use Rattle.std.specs.Prelude.{slice_set}
+use Rattle.std.proofs.Common.{[]}
 use Rattle.frame_table.specs.Calls.{view_of}
-use Rattle.match_net.specs.Sending.{SendsNext, AfterSend}
 use Rattle.match_net.proofs.RoundLemmas.{after_next, ends_if_all}
 use Rattle.match_net.proofs.sending.send_turn.Goals as goal
 

@@ -1,4 +1,4 @@
-use Rattle.std.proofs.Common.{◌<◌, ◌^◌, arith}
+use Rattle.std.proofs.Common.{arith}
 use Rattle.match_net.proofs.TurnLemmas.{begun}
 use Rattle.match_net.proofs.turns.read_packets.Goals as goal
 
