@@ -8,3 +8,5 @@ pub mod SessionLemmas
 pub mod SendingLemmas
 pub mod RoundLemmas
 pub mod SenderLemmas
+pub mod OneSession
+pub mod WholeSession

@@ -106,6 +106,8 @@ welcomed_ends c here given old new before mid after first pushed answer left rea
       took = reads.took;
       later = reads.later;
       makes = reads.makes;
+      at = reads.at;
+      place = reads.place;
       reports = reads.standing.reports;
       column = gone.column;
       ends = by_end answer left reads.ends reads.knows gone.by gone.known;

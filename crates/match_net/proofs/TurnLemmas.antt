@@ -152,6 +152,8 @@ ends_with c here given old now before view after start pushed more fed session a
       took = so_far.took;
       later = so_far.later;
       makes = record { packets = so_far.packets; reads = read_so_far (given ++ so_far.taken) so_far.packets fed so_far.stream so_far.whole; follows = so_far.follows };
+      at = fed.at;
+      place = sym (size_so_far (given ++ so_far.taken) so_far.packets fed so_far.stream so_far.whole);
       standing = subst (λ (s : Session). IsStanding c s start after more) same standing;
       others = others_stay c before view after so_far.others others;
       learns = learns_more (part_of c before) (part_of c view) (part_of c after) so_far.learns learns;
@@ -226,6 +228,12 @@ after_more c here given old now new before view start pushed fed next after answ
                 (all_stay up_at (given ++ so_far.taken) takes.taken fed.rest so_far.packets (read_so_far (given ++ so_far.taken) so_far.packets fed so_far.stream so_far.whole));
             follows = so_far.follows;
           };
+          at = fed.at;
+          place =
+              let held = length-append fed.rest takes.taken in
+              let long = length-append (given ++ so_far.taken) takes.taken in
+              let whole = ap length all in
+              omega (arith, size, held, long, whole);
           standing = so_far.standing;
           others = so_far.others;
           learns = so_far.learns;
@@ -246,6 +254,8 @@ after_more c here given old now new before view start pushed fed next after answ
               (took_more old.left now.left new.left so_far.taken taken so_far.took took);
           later = omega (arith, so_far.later, later);
           makes = record { packets = so_far.packets; reads = read_so_far (given ++ so_far.taken) so_far.packets fed so_far.stream so_far.whole; follows = so_far.follows };
+          at = fed.at;
+          place = sym (size_so_far (given ++ so_far.taken) so_far.packets fed so_far.stream so_far.whole);
           standing = so_far.standing;
           others = so_far.others;
           learns = so_far.learns;

@@ -1,5 +1,5 @@
 -- What the reading of a client's link does to its column, and what it takes from the link.
-use Rattle.std.specs.Prelude.{◌≡◌, ℕ, ◌<◌, ◌≤◌, ◌⊎◌, true, List, ◌++◌, length}
+use Rattle.std.specs.Prelude.{◌≡◌, ℕ, ◌+◌, ◌<◌, ◌≤◌, ◌⊎◌, true, List, ◌++◌, length}
 use Rattle.std.specs.Prelude.{Option, Some, None, Ok}
 use Rattle.std.specs.Option.{option_map}
 use Rattle.base.specs.Cause.{Rose}
@@ -87,7 +87,7 @@ EndMeans c here bytes session rest old new end.Lost =
 EndMeans c here bytes session rest old new end.NoMemory = Unit {0}
 
 -- What a reading took from the link, and what it made of its bytes: these are the ones that were
--- there before, and then those that it took.
+-- there before, and then those that it took. The next packet would begin at this place.
 pub record ReadsTo (c here : ℕ) (given : List ℕ) (old new : SourceState) (before after : View)
     (first pushed : List Heard) (answer : ReaderEnd) : Type 0 where
   pub session : Session
@@ -97,6 +97,8 @@ pub record ReadsTo (c here : ℕ) (given : List ℕ) (old new : SourceState) (be
   pub took : Took old.left new.left taken
   pub later : old.faults ≤ new.faults
   pub makes : Makes c here (given ++ taken) session rest
+  pub at : ℕ
+  pub place : at + length rest ≡ length (given ++ taken)
   pub standing : IsStanding c session first after pushed
   pub others : OthersStay c before after
   pub learns : OnlyLearns (part_of c before) (part_of c after)

@@ -11,11 +11,13 @@ use Rattle.match_net.specs.declared.heard.Heard.{Heard}
 use Rattle.match_net.specs.declared.greeting.Greeting.{Greeting}
 use Rattle.match_net.specs.declared.greeting.Greeting.TheVariants as greeting
 use Rattle.match_net.specs.declared.read_cause.ReadCause.TheVariants as cause
+use Rattle.match_net.specs.declared.ending.Ending.{Ending}
+use Rattle.match_net.specs.declared.ending.Ending.TheVariants as ending
 use Rattle.match_net.specs.declared.reader_end.ReaderEnd.{ReaderEnd}
 use Rattle.match_net.specs.declared.reader_end.ReaderEnd.TheVariants as end
 use Rattle.match_net.specs.Taking.{Took}
 use Rattle.match_net.specs.Greeting.{hello_bytes}
-use Rattle.match_net.specs.Session.{Session, Makes, cause_of}
+use Rattle.match_net.specs.Session.{Session, Makes, IsSession, cause_of}
 use Rattle.match_net.specs.Reading.{EndMeans, ReadsTo}
 
 -- The client has left after these plays, and the pass knows it. No other column was touched.
@@ -55,7 +57,7 @@ SessionEnds c here bytes session rest old new before after end.NoMemory = Unit {
 
 -- A session after a Welcome. Its bytes are those that were given, the greeting and what the feeder
 -- held, and then those that it took. Its plays and reports are those that the bytes put before it
--- ended.
+-- ended, and this is the place of the end.
 pub record ReadsLink (c here : ℕ) (given : List ℕ) (old new : SourceState) (before after : View)
     (first pushed : List Heard) (answer : ReaderEnd) : Type 0 where
   pub session : Session
@@ -65,6 +67,8 @@ pub record ReadsLink (c here : ℕ) (given : List ℕ) (old new : SourceState) (
   pub took : Took old.left new.left taken
   pub later : old.faults ≤ new.faults
   pub makes : Makes c here (given ++ taken) session rest
+  pub at : ℕ
+  pub place : at + length rest ≡ length (given ++ taken)
   pub reports : pushed ≡ first ++ session.reports
   pub column : LeavesColumn c session.plays before after
   pub ends : SessionEnds c here (given ++ taken) session rest old new before after answer
@@ -139,3 +143,16 @@ after_leaving (end.Refused cause) leaving = end.Refused cause
 after_leaving (end.LeftAt at) leaving = end.LeftAt at
 after_leaving end.Lost leaving = end.Lost
 after_leaving end.NoMemory leaving = end.NoMemory
+
+-- How a client's bytes ended, of a session that they ended themselves.
+abbrev pub own_end : Ending → ReaderEnd
+own_end ending.Bye = end.Ended
+own_end ending.Over = end.Ended
+own_end (ending.Refused cause) = end.Refused cause
+
+-- The session of all bytes of a link, and an end of theirs that is answered so.
+pub record IsWholeSession (c here : ℕ) (bytes : List ℕ) (session : Session) (at : ℕ)
+    (answer : ReaderEnd) : Type 0 where
+  pub ending : Ending
+  pub answered : answer ≡ own_end ending
+  pub is : IsSession c here bytes session ending at

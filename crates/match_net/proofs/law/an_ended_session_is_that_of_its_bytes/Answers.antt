@@ -1,0 +1,8 @@
+use Rattle.match_net.proofs.WholeSession.{whole_ended, whole_refused}
+use Rattle.match_net.proofs.law.an_ended_session_is_that_of_its_bytes.Goals as goal
+
+pub returns-clause-ended : goal.returns-clause-ended
+returns-clause-ended c = whole_ended
+
+pub returns-clause-refused : goal.returns-clause-refused
+returns-clause-refused c = whole_refused
