@@ -67,3 +67,12 @@ whole_ended c here given old new before after first pushed reads =
   where
     within : (size : ℕ) → size < MAX_LINK_BYTES → limited size ending.Over ≡ ending.Over
     within size few = let below : nat_lt size MAX_LINK_BYTES ≡ true = lt-ltb size MAX_LINK_BYTES few in rw below refl
+
+pub whole_lost :
+    (c here : ℕ) (given : List ℕ) (old new : SourceState) (before after : View) (first pushed : List Heard) →
+    (reads : ReadsLink c here given old new before after first pushed end.Lost) →
+    IsSession c here (given ++ reads.taken) reads.session (limited (length (given ++ reads.taken)) ending.Over) reads.at
+whole_lost c here given old new before after first pushed reads =
+    let bytes = given ++ reads.taken in
+    is_session c here bytes reads.rest reads.session reads.at (limited (length bytes) ending.Over) reads.few reads.makes reads.place
+    (ap (option_map (limited (length bytes))) reads.ends.0)

@@ -37,7 +37,10 @@ pub use first_packet::greet;
 pub use greeting::Greeting;
 pub use heard::Heard;
 pub use invite::Invite;
-pub use law::{a_links_bytes_have_one_session, an_ended_session_is_that_of_its_bytes};
+pub use law::{
+    a_links_bytes_have_one_session, a_session_begins_that_of_its_bytes,
+    an_ended_session_is_that_of_its_bytes,
+};
 pub use limits::{MAX_LINK_BYTES, NO_HELLO, OTHER_RULES, OTHER_VERSION, VERSION};
 pub use read_cause::ReadCause;
 pub use reader::reader_session;
