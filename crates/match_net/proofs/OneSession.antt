@@ -1,5 +1,5 @@
 -- A link's bytes have one session and one end.
-use Rattle.std.proofs.Common.{◌≡◌, ℕ, ◌+◌, Bool, true, false, List, [], ◌∷◌, ◌++◌, length, take, Option, Some, None, Result, Ok, Err, refl, sym, ap, ap₂, subst, ◌∙◌, arith, append_assoc, append-nil}
+use Rattle.std.proofs.Common.{◌≡◌, ℕ, Bool, true, false, List, [], ◌∷◌, ◌++◌, length, take, Option, Some, None, Ok, Err, refl, sym, ap, ap₂, subst, ◌∙◌, arith, append_assoc, append-nil}
 use Rattle.game_orders.specs.declared.order.Order.{Order}
 use Rattle.game_orders.specs.declared.entry.Entry.TheVariants.{Play}
 use Rattle.frame_core.specs.Column.{put_answer}
@@ -12,7 +12,7 @@ use Rattle.match_net.specs.Greeting.{greeting_of}
 use Rattle.std.specs.Option.{option_map}
 use Rattle.base.specs.Steps.{◌>>=◌}
 use Rattle.order_packets.specs.declared.up.Up.{Up}
-use Rattle.order_packets.specs.PacketReading.{FirstPacket, packet_at, up_at}
+use Rattle.order_packets.specs.PacketReading.{packet_at, up_at}
 use Rattle.order_packets.specs.PacketLemmas.{same_first}
 use Rattle.order_packets.specs.Feed.{ReadsAll}
 use Rattle.match_net.specs.declared.limits.TheConstants.{MAX_LINK_BYTES}

@@ -5,6 +5,7 @@ use Rattle.game_orders.specs.declared.order.Order.{Order}
 use Rattle.frame_core.specs.Column.{Column, left_column, leave_answer}
 use Rattle.frame_core.specs.declared.leaving.Leaving.{Leaving}
 use Rattle.frame_core.specs.declared.leaving.Leaving.TheVariants as leaving
+use Rattle.frame_table.specs.declared.planned.Planned.TheVariants.{Free}
 use Rattle.frame_table.specs.declared.view.View.{View}
 use Rattle.frame_table.specs.Part.{Part, part_of, OthersStay}
 use Rattle.frame_table.specs.Word.{one_if, whole_of}
@@ -173,3 +174,13 @@ session_ends greeting.Ended c here held old new before mid after first pushed an
     by_left : (left : Leaving) → LeftBy c [] before after left → answer ≡ end.Ended → GreetingEnds greeting.Ended c before after (after_leaving answer left)
     by_left (leaving.Fixed at) by is = inl (ap (λ (a : ReaderEnd). after_leaving a (leaving.Fixed at)) is, by)
     by_left (leaving.Already at) by is = inr (at, ap (λ (a : ReaderEnd). after_leaving a (leaving.Already at)) is, by)
+
+-- A session leaves its column free.
+pub stays_free :
+    (g : Greeting) (c here : ℕ) (held : List ℕ) (old new : SourceState) (before after : View) (first pushed : List Heard) (answer : ReaderEnd) →
+    ReadsAs g c here held old new before after first pushed answer → (part_of c before).planned ≡ Free → (part_of c after).planned ≡ Free
+stays_free greeting.Welcome c here held old new before after first pushed answer reads free = ap (λ (p : Part). p.planned) reads.column.part ∙ free
+stays_free (greeting.Refuse code) c here held old new before after first pushed answer reads free = ap (λ (p : Part). p.planned) reads.column.part ∙ free
+stays_free (greeting.Fault fault) c here held old new before after first pushed answer reads free = ap (λ (p : Part). p.planned) reads.column.part ∙ free
+stays_free greeting.Ended c here held old new before after first pushed answer reads free = ap (λ (p : Part). p.planned) reads.column.part ∙ free
+stays_free greeting.Lost c here held old new before after first pushed answer reads free = ap (λ (p : Part). p.planned) reads.column.part ∙ free

@@ -33,7 +33,7 @@ fn one_end(rt: &impl Abort, alloc: Global) -> Result<Reports, Fail> {
 }
 
 /// How the reading of a link of these bytes ends, and what is then seen of its client's column.
-fn read_link<R: Wait + Abort>(
+pub fn read_link<R: Wait + Abort>(
     rt: &R,
     alloc: Global,
     bytes: &[u8],
