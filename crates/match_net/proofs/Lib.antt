@@ -1,0 +1,12 @@
+pub mod TakingLemmas
+pub mod GreetingLemmas
+pub mod ReportLemmas
+pub mod PutLemmas
+pub mod ReadingLemmas
+pub mod TurnLemmas
+pub mod SessionLemmas
+pub mod SendingLemmas
+pub mod RoundLemmas
+pub mod SenderLemmas
+pub mod OneSession
+pub mod WholeSession

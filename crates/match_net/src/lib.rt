@@ -1,0 +1,55 @@
+//! The links of a match, on the server's side.
+//!
+//! A link joins the server and one client, both ways. [`greet`] takes what the client sends first
+//! and decides whether it is in the match (`specs/Greeting.antt`). Then two threads serve the link.
+//! [`reader_session`] puts the client's plays into its column of a `frame_table` and its reports
+//! into a queue of [`report_queue`], up to the end that the bytes have (`specs/Session.antt`,
+//! `specs/Sessions.antt`). [`sender_session`] writes what the greeting says: the welcome and all
+//! columns, a refusal, or nothing (`specs/Sending.antt`, `specs/SenderSession.antt`). Each leaves no
+//! column but its client's. The crate stands on `order_packets` for the packets, on `game_io` for
+//! the links, and on `frame_table` for the columns.
+#![tactic(auto)]
+
+mod ending;
+mod first_packet;
+mod greeting;
+mod heard;
+mod invite;
+mod law;
+mod limits;
+mod line;
+mod piece;
+mod queue_rule;
+mod read_cause;
+mod reader;
+mod reader_end;
+mod reading;
+mod report_ends;
+mod reporting;
+mod reports;
+mod sender;
+mod sender_end;
+mod sending;
+mod taking;
+mod turns;
+
+pub use first_packet::greet;
+pub use greeting::Greeting;
+pub use heard::Heard;
+pub use invite::Invite;
+pub use law::{
+    a_links_bytes_have_one_session, a_session_begins_that_of_its_bytes,
+    an_ended_session_is_that_of_its_bytes,
+};
+pub use limits::{MAX_LINK_BYTES, NO_HELLO, OTHER_RULES, OTHER_VERSION, VERSION};
+pub use read_cause::ReadCause;
+pub use reader::reader_session;
+pub use reader_end::ReaderEnd;
+pub use report_ends::ReportEnds;
+pub use reporting::report_queue;
+pub use reports::Reports;
+pub use sender::sender_session;
+pub use sender_end::SenderEnd;
+
+#[cfg(test)]
+mod tests;

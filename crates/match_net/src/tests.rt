@@ -1,0 +1,4 @@
+//! Sessions over links in memory.
+mod greetings;
+mod links;
+mod recorded;

@@ -1,0 +1,104 @@
+//! How a link is read, packet by packet.
+ghost use Rattle.std.specs.Prelude.{◌≡◌, ◌<◌, ◌≤◌, ◌+◌, ◌-◌, ◌++◌, [], ℕ, List, None, length};
+ghost use Rattle.frame_table.specs.Calls.{plan_of, view_of, standing, IsPassOf};
+ghost use Rattle.frame_table.specs.declared.view.View.{View};
+ghost use Rattle.game_io.specs.SourceState.{SourceState};
+ghost use Rattle.match_net.specs.declared.heard.Heard.{Heard};
+ghost use Rattle.match_net.specs.declared.limits.TheConstants.{MAX_LINK_BYTES};
+ghost use Rattle.match_net.specs.Greeting.{hello_bytes};
+ghost use Rattle.match_net.specs.Reports.{pushed};
+ghost use Rattle.match_net.specs.Reading.{MayPlay, ReadsTo};
+ghost use Rattle.match_net.specs.ReadSoFar.{ReadSoFar, AfterTurn, TakesMore};
+
+use crate::invite::Invite;
+use crate::limits::MAX_LINK_BYTES;
+use crate::piece::Piece;
+use crate::read_cause::ReadCause;
+use crate::reader_end::ReaderEnd;
+use crate::reading::heed;
+use crate::reports::Reports;
+use crate::taking::take_piece;
+use frame_table::{FrameTable, Pass};
+use game_io::Source;
+use order_packets::UpFeeder;
+use std::sync::Wait;
+
+/// Takes a piece from a link, and feeds it, or answers how the reading ends with that.
+fn take_more<I: Source>(feeder: &mut UpFeeder, link: &mut I) -> Option<ReaderEnd>
+    requires fault { feeder.old.fault ≡ None }
+    requires few { feeder.old.at + length feeder.old.rest ≤ MAX_LINK_BYTES }
+    ensures { TakesMore (I.state link.old) (I.state link.new) feeder.old feeder.new result }
+{
+    let room = MAX_LINK_BYTES - (feeder.at() as usize + feeder.held());
+    if room == 0 {
+        return Some(ReaderEnd::Refused(ReadCause::SessionTooLong));
+    }
+    match take_piece(feeder, link, room) {
+        Ok(Piece::Some) => None,
+        Ok(Piece::End) => Some(ReaderEnd::Ended),
+        Ok(Piece::Lost) => Some(ReaderEnd::Lost),
+        Err(_) => Some(ReaderEnd::NoMemory),
+    }
+}
+
+/// Does what the next packet of client `c` asks, or takes more bytes where it is not whole, and
+/// answers how the reading ends with that, if it does.
+fn turn<I: Source, R: Wait>(
+    rt: &R,
+    table: &FrameTable,
+    pass: &mut Pass,
+    c: u8,
+    feeder: &mut UpFeeder,
+    link: &mut I,
+    reports: &mut Reports,
+) -> Option<ReaderEnd>
+    requires pass { IsPassOf table.now pass.old }
+    requires client { c < length (plan_of table.now) }
+    requires may { MayPlay (standing pass.old c) }
+    requires fault { feeder.old.fault ≡ None }
+    requires few { feeder.old.at + length feeder.old.rest ≤ MAX_LINK_BYTES }
+    ensures pass { IsPassOf table.now pass.new }
+    ensures turns { (here : ℕ) (given : List ℕ) (first : SourceState) (before : View)
+        (start : List Heard) →
+        ReadSoFar c here given first (I.state link.old) before (view_of pass.old) start
+        (pushed reports.old) feeder.old →
+        AfterTurn c here given first (I.state link.new) before (view_of pass.new) start
+        (pushed reports.new) feeder.new result }
+{
+    match feeder.next() {
+        Ok(Some(packet)) => heed(rt, table, pass, c, packet, reports),
+        Ok(None) => take_more(feeder, link),
+        Err(fault) => Some(ReaderEnd::Refused(ReadCause::Feed(fault))),
+    }
+}
+
+/// Reads the link of the client that is invited to its end, after its greeting.
+pub(crate) fn read_packets<I: Source, R: Wait>(
+    rt: &R,
+    table: &FrameTable,
+    pass: &mut Pass,
+    invite: &Invite,
+    feeder: &mut UpFeeder,
+    link: &mut I,
+    reports: &mut Reports,
+) -> ReaderEnd
+    requires pass { IsPassOf table.now pass.old }
+    requires client { invite.now.client < length (plan_of table.now) }
+    requires may { MayPlay (standing pass.old invite.now.client) }
+    requires unplayed { (standing pass.old invite.now.client).known.plays ≡ [] }
+    requires at { feeder.old.at ≡ 13 }
+    requires fault { feeder.old.fault ≡ None }
+    requires few { length feeder.old.rest ≤ MAX_LINK_BYTES - 13 }
+    ensures pass { IsPassOf table.now pass.new }
+    ensures reads { ReadsTo invite.now.client invite.now.rules
+        (hello_bytes invite.now.rules ++ feeder.old.rest) (I.state link.old) (I.state link.new)
+        (view_of pass.old) (view_of pass.new) (pushed reports.old) (pushed reports.new) result }
+{
+    let _rules = invite.rules;
+    for _ in rt.forever() {
+        if let Some(end) = turn(rt, table, pass, invite.client, feeder, link, reports) {
+            return end;
+        }
+    }
+    unreachable!()
+}
