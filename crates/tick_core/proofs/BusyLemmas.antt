@@ -1,10 +1,11 @@
 -- What is kept after a step, and a turn step by step.
-use Rattle.std.proofs.Common.{◌≡◌, ◌≢◌, ℕ, zero, suc, ◌+◌, ◌<◌, ◌≤◌, Bool, true, false, eqb, List, [], ◌∷◌, length, map, drop, get_or, Option, Some, None, inl, inr, refl, sym, ap, ap₂, subst, ◌∙◌, add-one, arith}
+use Rattle.std.proofs.Common.{◌≡◌, ◌≢◌, ℕ, zero, suc, cond, ◌+◌, ◌<◌, ◌≤◌, Bool, true, false, eqb, List, [], ◌∷◌, length, map, drop, get_or, Option, Some, None, inl, inr, refl, sym, ap, ap₂, subst, ◌∙◌, add-one, arith}
 use Rattle.std.specs.Prelude.{◌==◌, ◌⊎◌, ◌-◌, if◌then◌else◌, nat_le, not, slice_get, slice_set, IfSome, fold}
 use Rattle.std.specs.List.{All, AllPairs}
 use Rattle.std.specs.Option.{unwrap_or}
 use Rattle.std.proofs.lemmas.List.Elements.{All-head}
 use Rattle.std.proofs.lemmas.Bool.{or_right}
+use Rattle.std.proofs.lemmas.Option.{get_or_from_slice_get}
 use Rattle.std.proofs.lemmas.Bool.Decides.{eqb_tells}
 use Rattle.world_units.specs.declared.cell.CPos.{CPos}
 use Rattle.world_units.specs.Cells.{same_cell}
@@ -22,7 +23,7 @@ use Rattle.game_model.specs.Setup.{Setup}
 use Rattle.game_model.specs.ValidMap.{IsSetup}
 use Rattle.game_model.specs.ValidWorld.{IsActivityOf}
 use Rattle.game_model.specs.Kinds.{capacity_in, load_delay_in, unload_delay_in, kind_of}
-use Rattle.game_model.specs.World.{clients_of, ids_of, living_of}
+use Rattle.game_model.specs.World.{actor_of, clients_of, ids_of, is_alive, living_of}
 use Rattle.game_tick.specs.ActorsLemmas.{step_actors}
 use Rattle.game_tick.specs.Harvesting.{Harvested, after_deliver, after_harvest, after_search, is_beside, nearest_refinery, delivered_to}
 use Rattle.game_tick.specs.StepKeepsLemmas.{dead_stay, step_keeps, steps_keep}
@@ -31,8 +32,8 @@ use Rattle.game_tick.specs.Nearest.{nearest_ore, ore_at}
 use Rattle.game_tick.specs.Turn.{after_first, after_step, after_steps, after_turn, after_way, blocks_of, buried, harvest_of, reloaded, with_build, with_reload, with_way}
 use Rattle.game_tick.specs.TurnLemmas.{length-ids_of, living_steps}
 use Rattle.game_tick.specs.SoundLemmas.{body_of}
-use Rattle.game_model.specs.FoundLemmas.{changed_as}
-use Rattle.game_model.specs.LivingLemmas.{living_actor}
+use Rattle.game_model.specs.FoundLemmas.{IdsRise, changed_as}
+use Rattle.game_model.specs.LivingLemmas.{found_at, living_actor, living_found}
 use Rattle.sync_hash.specs.declared.actor_number.ActorNumber.{ActorNumber}
 use Rattle.sync_hash.specs.Kept.{IsKeptOf, Kept, cell_number, cell_numbers, numbered}
 use Rattle.sync_hash.specs.KeptLemmas.{ore_numbered}
@@ -406,6 +407,48 @@ pub idle_whole :
 idle_whole s id acting idle = idle_by s id (living_of s.world.actors id) refl acting.actors.ready.rise idle
 
 -- Where nothing stands the list has ended.
+pub within_of : {A : Type 0} (xs : List A) (i : ℕ) (x : A) → slice_get xs i ≡ Some x → i < length xs
+within_of [] i x at = absurd cc
+within_of (y ∷ xs) zero x at = omega arith
+within_of (y ∷ xs) (suc i) x at = let more = within_of xs i x at in omega (arith, more)
+
+pub id_at : (actors : List Actor) (i id : ℕ) (a : Actor) → slice_get (ids_of actors) i ≡ Some id → slice_get actors i ≡ Some a → a.id ≡ id
+id_at [] i id a at there = absurd cc
+id_at (b ∷ actors) zero id a at there = let same : b ≡ a = cc in let named : b.id ≡ id = cc in ap (λ (x : Actor). x.id) (sym same) ∙ named
+id_at (b ∷ actors) (suc i) id a at there = id_at actors i id a at there
+
+pub nobody_at : {P : Type 0} (actors : List Actor) (i id : ℕ) → slice_get (ids_of actors) i ≡ Some id → slice_get actors i ≡ None → P
+nobody_at [] i id at none = absurd cc
+nobody_at (b ∷ actors) zero id at none = absurd cc
+nobody_at (b ∷ actors) (suc i) id at none = nobody_at actors i id at none
+
+pub is_not : (b : Bool) → not b ≡ false → b ≡ true
+is_not true denied = refl
+is_not false denied = absurd cc
+
+-- The actor at the place of an id is the living one of the id, if it lives.
+pub idle_at :
+    (actors : List Actor) (i id : ℕ) (a : Actor) → IdsRise actors → slice_get (ids_of actors) i ≡ Some id → slice_get actors i ≡ Some a →
+    (is_alive a ≡ true → IsIdleNow a) → IfSome (living_of actors id) IsIdleNow
+idle_at actors i id a rise at there idle =
+    rw (living_found actors id a rise found) (by_life (is_alive a) refl)
+  where
+    within : i < length actors
+    within = within_of actors i a there
+
+    same : get_or actors i a ≡ a
+    same = get_or_from_slice_get actors i a a there
+
+    named : a.id ≡ id
+    named = id_at actors i id a at there
+
+    found : Some a ≡ actor_of actors id
+    found = sym (subst (λ n. actor_of actors n ≡ Some a) named (subst (λ (x : Actor). actor_of actors x.id ≡ Some x) same (found_at actors i a rise within)))
+
+    by_life : (alive : Bool) → is_alive a ≡ alive → IfSome (cond alive (Some a) None) IsIdleNow
+    by_life true lives = idle lives
+    by_life false dead = tt
+
 pub slice_none : {A : Type 0} (xs : List A) (i : ℕ) → slice_get xs i ≡ None → length xs ≤ i
 slice_none [] i none = omega arith
 slice_none (x ∷ xs) zero none = absurd cc

@@ -1,4 +1,4 @@
-ghost use Rattle.std.specs.Prelude.{◌≡◌, ◌==◌, ◌+◌, ◌-◌, ◌≤◌, ◌<◌, ◌^◌, [], true, false, if◌then◌else◌, length, map, slice_get, IfSome, None};
+ghost use Rattle.std.specs.Prelude.{◌≡◌, ◌==◌, ◌+◌, ◌-◌, ◌≤◌, ◌<◌, ◌^◌, [], true, false, if◌then◌else◌, length, map, slice_get, IfSome, None, Some};
 ghost use Rattle.game_model.specs.Grid.{IsOn};
 ghost use Rattle.game_model.specs.ValidMap.{IsSetup};
 ghost use Rattle.game_model.specs.World.{ids_of, living_of};
@@ -34,6 +34,18 @@ fn is_idle(a: &Actor) -> bool
         && a.body.builds.is_empty()
         && a.body.leg.is_none()
         && a.body.acts.as_slice().is_empty()
+}
+
+/// Whether the actor at a place of the table, which has this id, lives and a step changes it.
+fn is_busy_at(table: &ActorTable, i: usize, id: u32) -> bool
+    requires { slice_get (ids_of table.now.actors) i ≡ Some id }
+    ensures { result ≡ false → IfSome (living_of table.now.actors id) IsIdleNow }
+{
+    let _ids_rise = table.len();
+    match table.nth_actor(i) {
+        Some(a) => a.body.health > 0 && !is_idle(a),
+        None => false,
+    }
 }
 
 /// What the first activity of the actor of an id, if it lives, may change beside the actor itself.
@@ -137,14 +149,13 @@ impl Scene {
         aim_of(&self.table, id)
     }
 
-    /// Whether the actor of an id lives and a step changes it.
-    fn is_busy(&self, id: u32) -> bool
+    /// Whether the actor at a place, which has this id, lives and a step changes it. It is found at
+    /// once, where an id would be searched.
+    fn is_busy(&self, i: usize, id: u32) -> bool
+        requires { slice_get (ids_of self.now.world.actors) i ≡ Some id }
         ensures { result ≡ false → IfSome (living_of self.now.world.actors id) IsIdleNow }
     {
-        match self.table.living(id) {
-            Some(a) => !is_idle(a),
-            None => false,
-        }
+        is_busy_at(&self.table, i, id)
     }
 
     /// Tells the hasher of the actors of these ids, as far as they are there: the numbers of all
@@ -198,7 +209,7 @@ impl LiveWorld {
     {
         for i in 0..self.scene.actors() {
             if let Some(id) = self.scene.nth(i) {
-                self.step_actor(id);
+                self.step_actor(i, id);
             }
         }
     }
@@ -211,15 +222,16 @@ impl LiveWorld {
         self.scene.count_turn();
     }
 
-    /// The step of the actor of an id, of which the hasher is told.
-    fn step_actor(&mut self, id: u32)
-        requires { self.old.world.drawn < 2 ^ 64 - 1 }
+    /// The step of the actor at a place, which has this id, of which the hasher is told.
+    fn step_actor(&mut self, i: usize, id: u32)
+        requires place { slice_get (ids_of self.old.world.actors) i ≡ Some id }
+        requires draws { self.old.world.drawn < 2 ^ 64 - 1 }
         ensures world { self.new ≡ (record self.old { world = after_step self.old.setup self.old.world id }) }
         ensures stands { IsSetup self.old.setup }
         ensures acting { IsActing self.old.setup self.old.world }
     {
         self.scene.known();
-        if self.scene.is_busy(id) {
+        if self.scene.is_busy(i, id) {
             self.step_busy(id);
         }
     }

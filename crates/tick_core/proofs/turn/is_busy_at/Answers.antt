@@ -1,0 +1,19 @@
+use Rattle.std.proofs.Common.{◌≡◌, true, false, sym, ◌∙◌}
+use Rattle.tick_core.proofs.BusyLemmas.{idle_at, is_not, nobody_at}
+use Rattle.tick_core.proofs.turn.is_busy_at.Goals as goal
+
+-- It lives, and is idle or not.
+pub returns-then-a-gt0 : goal.returns-then-a-gt0
+returns-then-a-gt0 c = λ denied.
+    idle_at c.args.table.now.actors c.args.i c.args.id c.in-Some.a.now c.len-ids_rise.ensures.list.rise c.requires (sym c.in-Some.ensures)
+    (λ lives. c.is_idle.ensures (is_not c.is_idle.result denied))
+
+-- It does not live.
+pub returns-else-a-gt0 : goal.returns-else-a-gt0
+returns-else-a-gt0 c = λ denied.
+    idle_at c.args.table.now.actors c.args.i c.args.id c.in-Some.a.now c.len-ids_rise.ensures.list.rise c.requires (sym c.in-Some.ensures)
+    (λ lives. absurd (let never : true ≡ false = sym lives ∙ denied in cc))
+
+-- There is one at the place.
+pub returns-in-None : goal.returns-in-None
+returns-in-None c = λ denied. nobody_at c.args.table.now.actors c.args.i c.args.id c.requires (sym c.in-None.ensures)
