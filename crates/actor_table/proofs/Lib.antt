@@ -1,5 +1,6 @@
 pub mod Rising
 pub mod Places
+pub mod OrderCalls
 pub mod RosterCalls
 pub mod Holders
 pub mod TableCalls

@@ -9,6 +9,7 @@
 mod cell_index;
 mod kind_index;
 mod listed;
+mod order;
 mod place;
 mod roster;
 mod table;

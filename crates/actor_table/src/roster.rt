@@ -7,6 +7,7 @@ ghost use Rattle.actor_table.specs.ActorList.{without_id};
 ghost use Rattle.game_model.specs.ActorChanges.{with_body, moved_to};
 ghost use Rattle.actor_table.specs.Rising.{RisesFrom};
 
+use crate::order;
 use crate::place::Place;
 use base::NoMemory;
 use game_model::{Actor, ActorList, Body, MAX_ACTORS};
@@ -70,12 +71,12 @@ impl Roster {
         }
     }
 
-    /// Where an id stands in the order, by halving. `Err` where there is no such actor.
+    /// Where an id stands in the order. `Err` where there is no such actor.
     fn search(&self, id: u32) -> Result<usize, usize>
         ensures found { IfOk result (IsAt self.now id) }
         ensures absent { IfErr result (λ _. IsAbsent self.now id) }
     {
-        self.order.binary_search_by_key(&id, |place| place.id)
+        order::find(&self.order, id)
     }
 
     /// The actor of an id. `None` exactly where there is none.
