@@ -40,6 +40,11 @@ before_greater order id at d rises within greater k e below named =
         let here = ap (λ (p : Place). p.id) (same_at order at d e within) in
         omega (arith, up, here, greater, named)
 
+pub before_not_lesser : (order : List Place) (id at : ℕ) (d : Place) → IsRising order → at < length order → id ≤ (get_or order at d).id → (get_or order at d).id ≢ id → IsOnlyBetween order id 0 at
+before_not_lesser order id at d rises within least other =
+    let greater : id < (get_or order at d).id = grind (arith, nat_tests, least, other) in
+    before_greater order id at d rises within greater
+
 -- where a lesser id stands, the id stands after it
 pub after_lesser : (order : List Place) (id at : ℕ) (d : Place) → IsRising order → at < length order → (get_or order at d).id < id → IsOnlyBetween order id (at + 1) (length order)
 after_lesser order id at d rises within lesser k e below named =
@@ -54,8 +59,8 @@ after_lesser order id at d rises within lesser k e below named =
         let here = ap (λ (p : Place). p.id) (same_at order at d e within) in
         omega (arith, up, here, lesser, named)
 
--- a step back to an id that is no greater, or to the front
-pub from_not_greater : (order : List Place) (id to step : ℕ) (d : Place) → IsRising order → to ≤ length order → 1 ≤ step → IsOnlyBetween order id 0 to → (step < to → (get_or order (to - step) d).id ≤ id) → IsOnlyBetween order id (to - step) to
+-- where an id that is no greater stands some steps back, the id stands there or after it
+pub from_not_greater : (order : List Place) (id to step : ℕ) (d : Place) → IsRising order → to ≤ length order → 1 ≤ step → IsOnlyBetween order id 0 to → (get_or order (to - step) d).id ≤ id → IsOnlyBetween order id (to - step) to
 from_not_greater order id to step d rises within some before lesser k e below named =
     let up = before k e below named in
     elim (cases_lt k (to - step)) [
@@ -67,7 +72,11 @@ from_not_greater order id to step d rises within some before lesser k e below na
     earlier lt =
         let pair = rises_pair (λ (p : Place). p.id) 0 order k (to - step) e rises lt (omega arith) in
         let here = ap (λ (p : Place). p.id) (same_at order (to - step) d e (omega arith)) in
-        omega (arith, pair, here, lesser (omega arith), named)
+        omega (arith, pair, here, lesser, named)
+
+-- and where there is no such step
+pub from_front : (order : List Place) (id to step : ℕ) → IsOnlyBetween order id 0 to → to ≤ step → IsOnlyBetween order id (to - step) to
+from_front order id to step before le k e below named = (omega arith, (before k e below named).1)
 
 -- the comparisons with an id rise from one index up to another
 comparisons_rise : (order : List Place) (id from to : ℕ) → IsRising order → to ≤ length order → IsNonDecreasingBy (λ (p : Place). ordering_index (nat_cmp p.id id)) (slice_range order from to)
