@@ -1,9 +1,7 @@
 -- The calls of a roster, over its slots and its order.
-use Rattle.std.proofs.Common.{◌≡◌, ℕ, suc, ◌+◌, ◌<◌, ◌≤◌, ◌≢◌, List, [], ◌∷◌, ◌++◌, length, get_or, map, take, Option, Some, None, is_some, Result, Ok, Err, IfOk, IfErr, slice_get, cond, inl, inr, refl, sym, ap, ap₂, ◌∙◌, arith}
+use Rattle.std.proofs.Common.{◌≡◌, ℕ, suc, ◌+◌, ◌<◌, ◌≤◌, ◌≢◌, List, [], ◌∷◌, ◌++◌, length, get_or, map, take, Option, Some, None, is_some, Result, Ok, Err, IfOk, IfErr, slice_get, cond, refl, sym, ap, ap₂, ◌∙◌, arith}
 use Rattle.std.specs.List.{AllByRecursion, All, remove}
 use Rattle.std.specs.Option.{unwrap_or, option_map}
-use Rattle.std.proofs.lemmas.Bool.{cases_lt}
-use Rattle.std.proofs.lemmas.Bool.Decides.{nat_tests}
 use Rattle.std.proofs.lemmas.List.Elements.{recursion_from_All}
 use Rattle.std.proofs.lemmas.List.{length-map, length-append, map-append, take_more}
 use Rattle.std.proofs.lemmas.List.Edits.{length-remove}
@@ -21,7 +19,7 @@ use Rattle.actor_table.specs.Search.{IsAt, IsAbsent}
 use Rattle.actor_table.specs.Order.{IsIndexOf, IsNowhere}
 use Rattle.actor_table.specs.declared.place.Place.{Place}
 use Rattle.actor_table.proofs.Rising.{rises_remove, rises_push}
-use Rattle.actor_table.proofs.Places.{Rises, ids_along, filed_at, found_at, fresh_key, actors_stay, filed_stay, changes_at, removes_at}
+use Rattle.actor_table.proofs.Places.{ids_along, filed_at, found_at, fresh_key, actors_stay, filed_stay, changes_at, removes_at}
 
 -- the place that stands at an index
 pub record Found (slots : Slab Actor) (order : List Place) (id at : ℕ) (p : Place) : Type 0 where

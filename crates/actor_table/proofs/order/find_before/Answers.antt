@@ -17,8 +17,8 @@ pub find_between-requires-clause-between : goal.find_between-requires-clause-bet
 find_between-requires-clause-between c =
     let so_far = c.loop-step.invariant in
     let left : IsOnlyBetween c.args.order.now c.args.id (c.loop-step.to - c.loop-step.step) c.loop-step.to =
-        elim c.loop-step-test.branch [
-          | then-loop-step-test+else-order-to w ↦ from_not_greater c.args.order.now c.args.id c.loop-step.to c.loop-step.step _ c.requires.rises so_far.within so_far.steps so_far.before w.if-order-to.false
-          | else-loop-step-test w ↦ from_front c.args.order.now c.args.id c.loop-step.to c.loop-step.step so_far.before w.loop-step-test.false
-        ] in
+    elim c.loop-step-test.branch [
+      | then-loop-step-test+else-order-to w ↦ from_not_greater c.args.order.now c.args.id c.loop-step.to c.loop-step.step _ c.requires.rises so_far.within so_far.steps so_far.before w.if-order-to.false
+      | else-loop-step-test w ↦ from_front c.args.order.now c.args.id c.loop-step.to c.loop-step.step so_far.before w.loop-step-test.false
+    ] in
     rw c.saturating_sub.ensures left
