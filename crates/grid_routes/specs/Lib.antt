@@ -3,6 +3,8 @@ pub mod Tolls
 pub mod Footing
 pub mod Fares
 pub mod Kept
+pub mod KnownSteps
+pub mod Findings
 pub mod Labels
 pub mod Least
 pub mod Held

@@ -6,7 +6,8 @@ ghost use Rattle.grid_routes.specs.Tolls.{IsCheap};
 ghost use Rattle.grid_routes.specs.Routing.{AreSized, CountsOn, IsSameSize};
 ghost use Rattle.grid_routes.specs.Steps.{IsRoute};
 
-use crate::fields::Fields;
+use crate::ask::Ask;
+use crate::findings::Findings;
 use crate::index::FIELDS;
 use crate::route::Route;
 use base::NoMemory;
@@ -21,19 +22,19 @@ use world_units::CPos;
 pub struct Router {
     width: u8,
     height: u8,
-    fields: Fields,
+    findings: Findings,
     computed: u64,
 }
 
 impl Model for Router {
-    ghost use Rattle.grid_routes.specs.Kept.{AreFields};
+    ghost use Rattle.grid_routes.specs.Findings.{AreFindings};
     ghost use Rattle.grid_routes.specs.Routing.{Routing};
 
     ghost Value = { Routing };
 
     ghost view = { λ r. record { width = r.width; height = r.height; computed = r.computed } };
 
-    ghost invariant = { λ r. AreFields r.width r.height r.fields };
+    ghost invariant = { λ r. AreFindings r.width r.height r.findings };
 }
 
 impl Router {
@@ -57,7 +58,7 @@ impl Router {
         Ok(Router {
             width: w,
             height: h,
-            fields: Fields::create(alloc, w, h, most)?,
+            findings: Findings::create(alloc, w, h, most)?,
             computed: 0,
         })
     }
@@ -89,9 +90,17 @@ impl Router {
         ensures size { IsSameSize self.old self.new }
         ensures computed { CountsOn self.old.computed self.new.computed }
     {
-        let begun = self.fields.settle(map, blocks, costs, from, goal);
+        let ask = Ask {
+            goal,
+            costs: *costs,
+        };
+        self.findings.turn_over(map, blocks);
+        if let Some(direction) = self.findings.steps.direction(&ask, from) {
+            return Some(direction);
+        }
+        let begun = self.findings.fields.settle(&ask, from);
         self.computed = counted(self.computed, begun);
-        self.fields.search.best(from, goal)
+        self.findings.best(&ask, from)
     }
 
     /// The walk that takes the best direction at each cell. `None` comes exactly where there is no
@@ -113,9 +122,14 @@ impl Router {
         ensures size { IsSameSize self.old self.new }
         ensures computed { CountsOn self.old.computed self.new.computed }
     {
-        let begun = self.fields.settle(map, blocks, costs, from, goal);
+        let ask = Ask {
+            goal,
+            costs: *costs,
+        };
+        self.findings.turn_over(map, blocks);
+        let begun = self.findings.fields.settle(&ask, from);
         self.computed = counted(self.computed, begun);
-        self.fields.search.route(alloc, from, goal)
+        self.findings.fields.search.route(alloc, from, goal)
     }
 }
 

@@ -1,7 +1,7 @@
 //! Routes over small maps, and what a router keeps from one question to the next.
 
 ghost use Rattle.std.specs.Prelude.{IfOk};
-ghost use Rattle.std.specs.Prelude.{◌≡◌, ◌≤◌};
+ghost use Rattle.std.specs.Prelude.{◌≡◌, ◌≤◌, ◌<◌};
 ghost use Rattle.game_model.specs.Grid.{HasSize, IsOn};
 ghost use Rattle.grid_routes.specs.Routing.{AreSized, IsMapSized, IsSameSize};
 ghost use Rattle.grid_routes.specs.Tolls.{IsCheap};
@@ -155,17 +155,18 @@ fn ask_often(router: &mut Router, map: &Map, blocks: &Blocks, costs: &Costs, fro
     }
 }
 
-/// Asks for a goal after the other.
-fn ask_for_goals(router: &mut Router, map: &Map, blocks: &Blocks, costs: &Costs, count: u8)
+/// Asks from a cell for a goal after the other, from the first column on.
+fn ask_for_goals(router: &mut Router, map: &Map, blocks: &Blocks, from: u8, count: u8)
     requires sizes { AreSized router.old map.now blocks.now }
-    requires costs { IsCheap costs.now }
-    requires width { map.now.width ≡ 40 }
+    requires width { map.now.width ≡ 60 }
     requires height { map.now.height ≡ 1 }
-    requires count { count ≤ 40 }
+    requires from { from < 60 }
+    requires count { count ≤ 60 }
     ensures { IsSameSize router.old router.new }
 {
     for x in 0..count {
-        let _direction = router.best_dir(map, blocks, costs, CPos { x: 0, y: 0 }, CPos { x, y: 0 });
+        let _direction =
+            router.best_dir(map, blocks, &EVEN, CPos { x: from, y: 0 }, CPos { x, y: 0 });
     }
 }
 
@@ -192,15 +193,34 @@ fn a_field_is_kept_until_a_building_comes_or_dies(rt: HostRuntime) -> Result<(),
 #[test]
 fn fields_of_the_last_32_goals_are_kept(rt: HostRuntime) -> Result<(), Fail> {
     let alloc = rt.alloc();
-    let map = map_of(alloc, 40, 1, "")?;
-    let blocks = Blocks::create(alloc, 40, 1)?;
-    let mut router = Router::create(alloc, 40, 1)?;
-    ask_for_goals(&mut router, &map, &blocks, &EVEN, 32);
-    ask_for_goals(&mut router, &map, &blocks, &EVEN, 32);
+    let map = map_of(alloc, 60, 1, "")?;
+    let blocks = Blocks::create(alloc, 60, 1)?;
+    let mut router = Router::create(alloc, 60, 1)?;
+    ask_for_goals(&mut router, &map, &blocks, 59, 32);
+    ask_for_goals(&mut router, &map, &blocks, 43, 32);
     assert_eq!(rt; router.computed(), 32);
-    ask_for_goals(&mut router, &map, &blocks, &EVEN, 33);
+    ask_for_goals(&mut router, &map, &blocks, 43, 33);
     assert_eq!(rt; router.computed(), 33);
-    ask_for_goals(&mut router, &map, &blocks, &EVEN, 1);
+    ask_for_goals(&mut router, &map, &blocks, 20, 1);
     assert_eq!(rt; router.computed(), 34);
+    Ok(())
+}
+
+#[test]
+fn next_steps_towards_40_goals_need_no_field(rt: HostRuntime) -> Result<(), Fail> {
+    let alloc = rt.alloc();
+    let map = map_of(alloc, 60, 1, "")?;
+    let mut blocks = Blocks::create(alloc, 60, 1)?;
+    let mut router = Router::create(alloc, 60, 1)?;
+    ask_for_goals(&mut router, &map, &blocks, 59, 40);
+    assert_eq!(rt; router.computed(), 40);
+    ask_for_goals(&mut router, &map, &blocks, 58, 40);
+    ask_for_goals(&mut router, &map, &blocks, 44, 40);
+    assert_eq!(rt; router.computed(), 40);
+    blocks.set(CPos { x: 50, y: 0 }, true);
+    let (from, goal) = (CPos { x: 58, y: 0 }, CPos { x: 0, y: 0 });
+    let blocked = router.best_dir(&map, &blocks, &EVEN, from, goal);
+    assert_eq!(rt; blocked, None);
+    assert_eq!(rt; router.computed(), 41);
     Ok(())
 }
