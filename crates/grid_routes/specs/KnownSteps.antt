@@ -11,10 +11,14 @@ abbrev pub IsBestStep : Grid Terrain → Grid Bool → KnownStep → Type 0
 IsBestStep terrain built step =
     IsBest (land_over terrain built step.ask.costs step.ask.goal) step.cell step.direction
 
+-- The place has a best step, or none.
+abbrev pub HoldsBest : Grid Terrain → Grid Bool → Option KnownStep → Type 0
+HoldsBest terrain built place = IfSome place (IsBestStep terrain built)
+
 -- Each place has a best step over this ground, or none.
 pub record AreBest (terrain : Grid Terrain) (built : Grid Bool) (places : List (Option KnownStep))
     : Type 0 where
-  pub each : All (λ place. IfSome place (IsBestStep terrain built)) places
+  pub each : All (HoldsBest terrain built) places
 
 -- A step took some place, or was let go.
 abbrev pub IsPut : (old new : List (Option KnownStep)) → KnownStep → Type 0

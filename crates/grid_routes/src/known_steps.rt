@@ -1,4 +1,4 @@
-ghost use Rattle.std.specs.Prelude.{◌≡◌, Contains, IfOk, IfSome, None, Some, length, replicate};
+ghost use Rattle.std.specs.Prelude.{◌≡◌, ◌<◌, Contains, IfOk, IfSome, None, Some, length, replicate};
 ghost use Rattle.grid_routes.specs.declared.known_steps.KnownStep.{KnownStep};
 ghost use Rattle.grid_routes.specs.KnownSteps.{IsPut};
 
@@ -10,7 +10,7 @@ use world_units::CPos;
 /// How many steps are known at most.
 pub(crate) const STEPS: usize = 32_768;
 
-/// By what the places of two rows of a map differ: the greatest number of its columns.
+/// By what the numbers of cells of two rows differ: the greatest number of columns of a map.
 const ROW: u32 = 128;
 
 /// The best direction of a cell, for a goal and costs.
@@ -98,12 +98,17 @@ fn place(ask: &Ask, cell: CPos) -> usize {
         ask.costs.rough,
         ask.costs.water,
     ]);
-    let goal = u32::from(ask.goal.y) * ROW + u32::from(ask.goal.x);
     let first = costs
         .wrapping_mul(0x85EB_CA6B)
-        .wrapping_add(goal)
+        .wrapping_add(number(ask.goal))
         .wrapping_mul(0x9E37_79B1)
         / 0x2_0000;
-    let cell = u32::from(cell.y) * ROW + u32::from(cell.x);
-    (first + cell) as usize % STEPS
+    (first + number(cell)) as usize % STEPS
+}
+
+/// A number of a cell, which no other cell of a map has.
+fn number(cell: CPos) -> u32
+    ensures { result < 65536 }
+{
+    u32::from(cell.y) * ROW + u32::from(cell.x)
 }

@@ -23,7 +23,6 @@ pub struct Router {
     width: u8,
     height: u8,
     findings: Findings,
-    computed: u64,
 }
 
 impl Model for Router {
@@ -32,7 +31,7 @@ impl Model for Router {
 
     ghost Value = { Routing };
 
-    ghost view = { λ r. record { width = r.width; height = r.height; computed = r.computed } };
+    ghost view = { λ r. record { width = r.width; height = r.height; computed = r.findings.computed } };
 
     ghost invariant = { λ r. AreFindings r.width r.height r.findings };
 }
@@ -59,7 +58,6 @@ impl Router {
             width: w,
             height: h,
             findings: Findings::create(alloc, w, h, most)?,
-            computed: 0,
         })
     }
 
@@ -67,7 +65,7 @@ impl Router {
     pub fn computed(&self) -> u64
         ensures { result ≡ self.now.computed }
     {
-        self.computed
+        self.findings.computed
     }
 
     /// The least direction whose allowed step begins a walk of least cost to the goal. `None` comes
@@ -94,13 +92,7 @@ impl Router {
             goal,
             costs: *costs,
         };
-        self.findings.turn_over(map, blocks);
-        if let Some(direction) = self.findings.steps.direction(&ask, from) {
-            return Some(direction);
-        }
-        let begun = self.findings.fields.settle(&ask, from);
-        self.computed = counted(self.computed, begun);
-        self.findings.best(&ask, from)
+        self.findings.best_dir(map, blocks, &ask, from)
     }
 
     /// The walk that takes the best direction at each cell. `None` comes exactly where there is no
@@ -127,19 +119,7 @@ impl Router {
             costs: *costs,
         };
         self.findings.turn_over(map, blocks);
-        let begun = self.findings.fields.settle(&ask, from);
-        self.computed = counted(self.computed, begun);
+        self.findings.settle(&ask, from);
         self.findings.fields.search.route(alloc, from, goal)
-    }
-}
-
-/// The count of fields that were begun, after one more if one was.
-fn counted(computed: u64, begun: bool) -> u64
-    ensures { CountsOn computed result }
-{
-    if begun {
-        computed.saturating_add(1)
-    } else {
-        computed
     }
 }
