@@ -165,8 +165,13 @@ fn ask_for_goals(router: &mut Router, map: &Map, blocks: &Blocks, from: u8, coun
     ensures { IsSameSize router.old router.new }
 {
     for x in 0..count {
-        let _direction =
-            router.best_dir(map, blocks, &EVEN, CPos { x: from, y: 0 }, CPos { x, y: 0 });
+        let _direction = router.best_dir(
+            map,
+            blocks,
+            &EVEN,
+            CPos { x: from, y: 0 },
+            CPos { x, y: 0 },
+        );
     }
 }
 
