@@ -31,8 +31,8 @@ use std::sync::Wait;
 /// 1. `Refused`: the greeting was refused; or, in a packet's place, stand a fault, a second
 ///    greeting, or orders that the column refuses with `Conflict`, `Ahead` or `Full`; or
 ///    [`crate::MAX_LINK_BYTES`] bytes hold no earlier end.
-/// 2. `LeftAt`: another has let the client leave, and orders for that frame or a later one came,
-///    or the farewell, or the end of the bytes.
+/// 2. `LeftAt`: the client had left before, which this call did not do, and orders for that frame or
+///    a later one came, or the farewell, or the end of the bytes.
 /// 3. `Ended`: the farewell came, or the bytes end; a link that tells its bytes then has none left.
 ///
 /// `Lost` only where the link's count of faults rose in this call, or after the greeting `Lost`.

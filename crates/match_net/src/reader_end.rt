@@ -7,7 +7,7 @@ pub enum ReaderEnd {
     Ended,
     /// The bytes were refused.
     Refused(ReadCause),
-    /// Another has let the client leave, at this frame.
+    /// The client had left at this frame, and the session was not what let it leave.
     LeftAt(u32),
     /// The link failed.
     Lost,
