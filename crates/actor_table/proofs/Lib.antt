@@ -1,8 +1,11 @@
 pub mod Rising
 pub mod Places
+pub mod OrderCalls
 pub mod RosterCalls
 pub mod Holders
 pub mod TableCalls
 pub mod KindLists
 pub mod KindCalls
 pub mod NextKinds
+pub mod IdleCalls
+pub mod PartCalls

@@ -1,12 +1,7 @@
 -- The calls of a roster, over its slots and its order.
-use Rattle.std.proofs.Common.{◌≡◌, ℕ, suc, ◌+◌, ◌<◌, ◌≤◌, ◌≢◌, List, [], ◌∷◌, ◌++◌, length, get_or, map, take, Option, Some, None, is_some, Result, Ok, Err, IfOk, IfErr, slice_get, cond, inl, inr, refl, sym, ap, ap₂, ◌∙◌, arith}
+use Rattle.std.proofs.Common.{◌≡◌, ℕ, suc, ◌+◌, ◌<◌, ◌≤◌, ◌≢◌, List, [], ◌∷◌, ◌++◌, length, get_or, map, take, Option, Some, None, is_some, Result, Ok, Err, IfOk, IfErr, slice_get, cond, refl, sym, ap, ap₂, ◌∙◌, arith}
 use Rattle.std.specs.List.{AllByRecursion, All, remove}
-use Rattle.std.specs.List.Sorted.{IsSearchInRange, IsBinarySearchResult, IsNonDecreasingBy}
 use Rattle.std.specs.Option.{unwrap_or, option_map}
-use Rattle.std.specs.Ordering.{nat_cmp, ordering_index}
-use Rattle.std.proofs.lemmas.Cmp.{ranked}
-use Rattle.std.proofs.lemmas.Bool.{cases_lt}
-use Rattle.std.proofs.lemmas.Bool.Decides.{nat_tests}
 use Rattle.std.proofs.lemmas.List.Elements.{recursion_from_All}
 use Rattle.std.proofs.lemmas.List.{length-map, length-append, map-append, take_more}
 use Rattle.std.proofs.lemmas.List.Edits.{length-remove}
@@ -21,9 +16,10 @@ use Rattle.actor_table.specs.ActorList.{without_id}
 use Rattle.game_model.specs.ActorChanges.{changed_at}
 use Rattle.actor_table.specs.Places.{nobody, actor_in, actors_in, IsFiled, AreFiled, IsRoster}
 use Rattle.actor_table.specs.Search.{IsAt, IsAbsent}
+use Rattle.actor_table.specs.Order.{IsIndexOf, IsNowhere}
 use Rattle.actor_table.specs.declared.place.Place.{Place}
-use Rattle.actor_table.proofs.Rising.{rises_pair, rises_remove, rises_push}
-use Rattle.actor_table.proofs.Places.{Rises, ids_along, filed_at, found_at, fresh_key, actors_stay, filed_stay, changes_at, removes_at}
+use Rattle.actor_table.proofs.Rising.{rises_remove, rises_push}
+use Rattle.actor_table.proofs.Places.{ids_along, filed_at, found_at, fresh_key, actors_stay, filed_stay, changes_at, removes_at}
 
 -- the place that stands at an index
 pub record Found (slots : Slab Actor) (order : List Place) (id at : ℕ) (p : Place) : Type 0 where
@@ -45,10 +41,6 @@ found_place slots order id at p filed is_at read =
     let mapped = slice_get-map (λ (p : Place). p.id) order at in
     record { within = within; is = is; named = same_Some p.id id (sym (mapped ∙ ap (option_map (λ (p : Place). p.id)) is) ∙ along); filed = filed_at slots order at p filed is }
 
-pub found_is_at : (slots : Slab Actor) (order : List Place) (id at : ℕ) (d : Place) → AreFiled slots order → at < length order → (get_or order at d).id ≡ id → IsAt (actors_in slots order) id at
-found_is_at slots order id at d filed within named =
-    rw (ids_along slots order filed) (slice_get-map (λ (p : Place). p.id) order at ∙ ap (option_map (λ (p : Place). p.id)) (slice_get-get_or order at d within) ∙ ap Some named)
-
 -- the i-th place is filed
 filed_index : (slots : Slab Actor) (order : List Place) (i : ℕ) (d : Place) → AreFiled slots order → i < length order → IsFiled slots (get_or order i d)
 filed_index slots order i d filed within = filed_at slots order i _ filed (slice_get-get_or order i d within)
@@ -59,39 +51,13 @@ absent_from slots [] id filed none = tt
 absent_from slots (p ∷ order) id filed none =
     (λ same. none 0 p (omega arith) (sym filed.0.named ∙ same), absent_from slots order id filed.1 (λ k d within. none (suc k) d (omega arith)))
 
--- the comparisons with an id rise along the order
-comparisons_rise : (order : List Place) (id : ℕ) → Rises 0 order → IsNonDecreasingBy (λ (p : Place). ordering_index (nat_cmp p.id id)) order
-comparisons_rise order id rises i j d le within =
-    let pair = rises_pair (λ (p : Place). p.id) 0 order i j d rises in
-    let same : i ≡ j → (get_or order i d).id ≡ (get_or order j d).id = λ e. ap (λ k. (get_or order k d).id) e in
-    let up : (get_or order i d).id ≤ (get_or order j d).id = grind (arith, pair, same) in
-    grind (arith, nat_tests)
-
 pub record Searched (actors : List Actor) (id : ℕ) (r : Result ℕ ℕ) : Type 0 where
   pub found : IfOk r (IsAt actors id)
   pub absent : IfErr r (λ _. IsAbsent actors id)
 
-pub searched : (slots : Slab Actor) (order : List Place) (id : ℕ) (r : Result ℕ ℕ) → Rises 0 order → AreFiled slots order → IsSearchInRange r (length order) → IsBinarySearchResult (λ (p : Place). nat_cmp p.id id) order r → Searched (actors_in slots order) id r
-searched slots order id (Ok at) rises filed in_range equal =
-    record { found = here; absent = tt }
-  where
-    d : Place
-    d = record { id = 0; key = 0 }
-
-    here : IsAt (actors_in slots order) id at
-    here = found_is_at slots order id at d filed in_range (ranked _ id _ (sym (equal d)))
-searched slots order id (Err at) rises filed in_range parted =
-    record { found = tt; absent = absent_from slots order id filed none }
-  where
-    none : (k : ℕ) (d : Place) → k < length order → (get_or order k d).id ≢ id
-    none k d within same =
-        let parts = parted (comparisons_rise order id rises) in
-        let before : k < at → (get_or order k d).id < id = λ lt. ranked _ id _ (sym (parts.0 k d (omega arith) lt)) in
-        let after : at ≤ k → id < (get_or order k d).id = λ le. ranked _ id _ (sym (parts.1 k d le within)) in
-        elim (cases_lt k at) [
-          | inl lt ↦ omega (arith, before lt, same)
-          | inr le ↦ omega (arith, after le, same)
-        ]
+pub searched : (slots : Slab Actor) (order : List Place) (id : ℕ) (r : Result ℕ ℕ) → AreFiled slots order → IfOk r (IsIndexOf order id) → IfErr r (λ _. IsNowhere order id) → Searched (actors_in slots order) id r
+searched slots order id (Ok at) filed found absent = record { found = rw (ids_along slots order filed) found; absent = tt }
+searched slots order id (Err at) filed found absent = record { found = tt; absent = absent_from slots order id filed absent }
 
 -- what the slab holds at a found place is the actor of the id
 pub found_actor : (slots : Slab Actor) (room : ℕ) (order : List Place) (id at : ℕ) (p : Place) → IsRoster slots room order → IsAt (actors_in slots order) id at → p ≡ get_or order at p → get slots p.key ≡ actor_of (actors_in slots order) id

@@ -1,6 +1,9 @@
 pub mod Rising
 pub mod ActorList
 pub mod Places
+pub mod Order
 pub mod Search
+pub mod Parts
+pub mod Idle
 pub mod Table
 pub mod Kinds

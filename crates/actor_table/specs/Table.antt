@@ -1,11 +1,12 @@
 -- A table of actors: the size of the map, and the actors by rising id.
-use Rattle.std.specs.Prelude.{◌≡◌, ◌≢◌, ℕ, ◌<◌, ◌≤◌, List, length, Option, Some, slice_get}
+use Rattle.std.specs.Prelude.{◌≡◌, ◌≢◌, ℕ, ◌<◌, ◌≤◌, Bool, List, length, Option, Some, slice_get}
 use Rattle.std.specs.List.{All, AllPairs}
 use Rattle.world_units.specs.declared.cell.CPos.{CPos}
 use Rattle.game_model.specs.declared.actor.Actor.{Actor}
 use Rattle.game_model.specs.declared.limits.TheConstants.{MAX_ACTORS}
 use Rattle.game_model.specs.Grid.{Grid, IsOn, place_of}
 use Rattle.actor_table.specs.ActorList.{holder_of, CellsDiffer}
+use Rattle.actor_table.specs.Idle.{AreIdle}
 use Rattle.actor_table.specs.Kinds.{ListsActors}
 use Rattle.actor_table.specs.declared.listed.Listed.{Listed}
 
@@ -29,8 +30,9 @@ pub record IsIndexed (cells : Grid (Option ℕ)) (actors : List Actor) : Type 0 
   pub held : (p : CPos) → IsOn cells.width cells.height p
       → slice_get cells.cells (place_of cells.width p) ≡ Some (holder_of actors p)
 
--- The cells and the entries by owner and kind tell of these actors.
-pub record IsTied (cells : Grid (Option ℕ)) (entries : List Listed) (actors : List Actor)
-    : Type 0 where
+-- The cells, the entries by owner and kind and the marks of the idle tell of these actors.
+pub record IsTied (cells : Grid (Option ℕ)) (entries : List Listed) (idle : List Bool)
+    (actors : List Actor) : Type 0 where
   pub indexed : IsIndexed cells actors
   pub listed : ListsActors entries actors
+  pub marked : AreIdle idle actors

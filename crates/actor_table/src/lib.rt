@@ -7,8 +7,10 @@
 #![tactic(auto)]
 
 mod cell_index;
+mod idle_marks;
 mod kind_index;
 mod listed;
+mod order;
 mod place;
 mod roster;
 mod table;

@@ -1,20 +1,23 @@
-ghost use Rattle.std.specs.Prelude.{◌≡◌, ℕ, ◌<◌, ◌≤◌, [], ◌∷◌, ◌++◌, length, Some, None, slice_get};
+ghost use Rattle.std.specs.Prelude.{◌≡◌, ℕ, ◌<◌, ◌≤◌, [], ◌∷◌, ◌++◌, drop, length, Some, None, slice_get};
 ghost use Rattle.std.specs.Prelude.{IfOk, IfErr, IsSome, IfSome};
 ghost use Rattle.std.specs.Option.{option_copied, option_map};
 ghost use Rattle.std.specs.List.{All};
 ghost use Rattle.game_model.specs.World.{actor_of, ids_of};
 ghost use Rattle.actor_table.specs.ActorList.{without_id};
-ghost use Rattle.game_model.specs.ActorChanges.{with_body, moved_to};
+ghost use Rattle.game_model.specs.ActorChanges.{changed_at, with_body, moved_to};
+ghost use Rattle.actor_table.specs.Parts.{with_builds, with_facing, with_first, with_health, with_leg, with_load, with_reload, without_first};
 ghost use Rattle.actor_table.specs.Rising.{RisesFrom};
 
+use crate::order;
 use crate::place::Place;
+use activities::{Activity, Queue};
 use base::NoMemory;
-use game_model::{Actor, ActorList, Body, MAX_ACTORS};
+use game_model::{Actor, ActorList, Body, Builds, Leg, MAX_ACTORS};
 use slab::Slab;
 use std::alloc::Global;
 use std::marker::Model;
 use std::mem;
-use world_units::CPos;
+use world_units::{CPos, WAngle};
 
 /// Actors by rising id, at most [`MAX_ACTORS`]. Each is found by its id in logarithmic time.
 #[derive(Drop)]
@@ -70,12 +73,12 @@ impl Roster {
         }
     }
 
-    /// Where an id stands in the order, by halving. `Err` where there is no such actor.
+    /// Where an id stands in the order. `Err` where there is no such actor.
     fn search(&self, id: u32) -> Result<usize, usize>
         ensures found { IfOk result (IsAt self.now id) }
         ensures absent { IfErr result (λ _. IsAbsent self.now id) }
     {
-        self.order.binary_search_by_key(&id, |place| place.id)
+        order::find(&self.order, id)
     }
 
     /// The actor of an id. `None` exactly where there is none.
@@ -89,7 +92,7 @@ impl Roster {
     }
 
     /// Where an id that is there stands in the order.
-    fn place_of(&self, id: u32) -> usize
+    pub(crate) fn place_of(&self, id: u32) -> usize
         requires { IsSome (actor_of self.now id) }
         ensures { IsAt self.now id result }
     {
@@ -172,6 +175,87 @@ impl Roster {
         self.slots[key].cell = to;
     }
 
+    /// Puts the actor of an id, which is there, on a leg, or on none.
+    pub(crate) fn set_leg(&mut self, id: u32, leg: Option<Leg>)
+        requires { IsSome (actor_of self.old id) }
+        ensures value { self.new ≡ changed_at self.old id (with_leg leg) }
+        ensures rises { RisesFrom (λ (a : Actor). a.id) 0 self.old }
+    {
+        let key = self.order[self.place_of(id)].key;
+        self.slots[key].body.leg = leg;
+    }
+
+    /// Turns the actor of an id, which is there, to an angle.
+    pub(crate) fn set_facing(&mut self, id: u32, facing: WAngle)
+        requires { IsSome (actor_of self.old id) }
+        ensures value { self.new ≡ changed_at self.old id (with_facing facing) }
+        ensures rises { RisesFrom (λ (a : Actor). a.id) 0 self.old }
+    {
+        let key = self.order[self.place_of(id)].key;
+        self.slots[key].body.facing = facing;
+    }
+
+    /// Sets the turns until the actor of an id, which is there, can fire again.
+    pub(crate) fn set_reload(&mut self, id: u32, reload: u16)
+        requires { IsSome (actor_of self.old id) }
+        ensures value { self.new ≡ changed_at self.old id (with_reload reload) }
+        ensures rises { RisesFrom (λ (a : Actor). a.id) 0 self.old }
+    {
+        let key = self.order[self.place_of(id)].key;
+        self.slots[key].body.reload = reload;
+    }
+
+    /// Puts an activity in place of the first one, if there is one, of the actor of an id, which is
+    /// there.
+    pub(crate) fn set_first(&mut self, id: u32, activity: Activity)
+        requires { IsSome (actor_of self.old id) }
+        ensures value { self.new ≡ changed_at self.old id (with_first activity) }
+        ensures rises { RisesFrom (λ (a : Actor). a.id) 0 self.old }
+    {
+        let key = self.order[self.place_of(id)].key;
+        put_first(&mut self.slots[key].body.acts, activity);
+    }
+
+    /// Takes the first activity, if there is one, of the actor of an id, which is there, out.
+    pub(crate) fn pop_first(&mut self, id: u32)
+        requires { IsSome (actor_of self.old id) }
+        ensures value { self.new ≡ changed_at self.old id without_first }
+        ensures rises { RisesFrom (λ (a : Actor). a.id) 0 self.old }
+    {
+        let key = self.order[self.place_of(id)].key;
+        let _done = self.slots[key].body.acts.pop();
+    }
+
+    /// Gives the actor of an id, which is there, these builds in place of its own.
+    pub(crate) fn set_builds(&mut self, id: u32, builds: Builds)
+        requires { IsSome (actor_of self.old id) }
+        ensures value { self.new ≡ changed_at self.old id (with_builds builds) }
+        ensures rises { RisesFrom (λ (a : Actor). a.id) 0 self.old }
+    {
+        let key = self.order[self.place_of(id)].key;
+        self.slots[key].body.builds = builds;
+    }
+
+    /// Sets the bales of ore that the actor of an id, which is there, holds.
+    pub(crate) fn set_load(&mut self, id: u32, load: u16)
+        requires { IsSome (actor_of self.old id) }
+        ensures value { self.new ≡ changed_at self.old id (with_load load) }
+        ensures rises { RisesFrom (λ (a : Actor). a.id) 0 self.old }
+    {
+        let key = self.order[self.place_of(id)].key;
+        self.slots[key].body.load = load;
+    }
+
+    /// Sets the hit points of the actor of an id, which is there.
+    pub(crate) fn set_health(&mut self, id: u32, health: u32)
+        requires { IsSome (actor_of self.old id) }
+        ensures value { self.new ≡ changed_at self.old id (with_health health) }
+        ensures rises { RisesFrom (λ (a : Actor). a.id) 0 self.old }
+    {
+        let key = self.order[self.place_of(id)].key;
+        self.slots[key].body.health = health;
+    }
+
     /// The same actors once more. Out of memory is its only error.
     pub(crate) fn copy(&self, alloc: Global) -> Result<ActorList, NoMemory>
         ensures { IfOk result (λ list. list ≡ self.now) }
@@ -181,5 +265,16 @@ impl Roster {
             copies.push(self.slots[place.key].copy())?;
         }
         Ok(ActorList::from_vec(copies))
+    }
+}
+
+/// Puts the activity in place of the first, if there is one.
+fn put_first(acts: &mut Queue, activity: Activity)
+    ensures { acts.new ≡ activity ∷ drop 1 acts.old }
+{
+    if acts.head().is_some() {
+        acts.set_head(activity);
+    } else {
+        acts.replace(activity);
     }
 }

@@ -1,21 +1,24 @@
-ghost use Rattle.std.specs.Prelude.{◌≡◌, ◌<◌, [], ◌∷◌, ◌++◌, length, false, Some, is_some};
+ghost use Rattle.std.specs.Prelude.{◌≡◌, ◌<◌, [], ◌∷◌, ◌++◌, length, true, false, Some, is_some};
 ghost use Rattle.std.specs.Prelude.{◌↔◌, slice_get, filter, IfOk, IfSome, IsSome, IsTrue};
 ghost use Rattle.std.specs.List.{All};
 ghost use Rattle.std.specs.Option.{option_copied, option_map};
 ghost use Rattle.game_model.specs.World.{actor_of, ids_of, is_alive, is_occupied, living_of};
 ghost use Rattle.actor_table.specs.ActorList.{holder_of};
-ghost use Rattle.game_model.specs.ActorChanges.{with_body, moved_to};
+ghost use Rattle.game_model.specs.ActorChanges.{changed_at, with_body, moved_to};
+ghost use Rattle.actor_table.specs.Parts.{with_builds, with_facing, with_first, with_health, with_leg, with_load, with_reload, without_first};
 ghost use Rattle.actor_table.specs.ActorList.{without_dead_at, without_id};
 
 use crate::cell_index::CellIndex;
+use crate::idle_marks::{IdleMarks, is_idle};
 use crate::kind_index::KindIndex;
 use crate::listed::Listed;
 use crate::roster::Roster;
+use activities::Activity;
 use base::NoMemory;
-use game_model::{Actor, ActorList, Body, MAX_ACTORS};
+use game_model::{Actor, ActorList, Body, Builds, Leg, MAX_ACTORS};
 use std::alloc::Global;
 use std::marker::Model;
-use world_units::CPos;
+use world_units::{CPos, WAngle};
 
 /// The actors of a world, at most [`MAX_ACTORS`], by rising id and by cell. No two hold one cell.
 #[derive(Drop)]
@@ -23,6 +26,7 @@ pub struct ActorTable {
     roster: Roster,
     cells: CellIndex,
     kinds: KindIndex,
+    idle: IdleMarks,
 }
 
 impl Model for ActorTable {
@@ -32,11 +36,12 @@ impl Model for ActorTable {
 
     ghost view = { λ t. record { width = t.cells.width; height = t.cells.height; actors = t.roster } };
 
-    ghost invariant = { λ t. IsTied t.cells t.kinds t.roster };
+    ghost invariant = { λ t. IsTied t.cells t.kinds t.idle t.roster };
 }
 
 impl ActorTable {
     ghost use Rattle.actor_table.specs.Table.{IsTable};
+    ghost use Rattle.actor_table.specs.Idle.{IsIdle};
     ghost use Rattle.actor_table.specs.Kinds.{listed_of, next_number, IsNextKind};
 
     /// No actors on a map of this size, with room for [`MAX_ACTORS`]. Out of memory is its only
@@ -48,6 +53,7 @@ impl ActorTable {
             roster: Roster::create(alloc)?,
             cells: CellIndex::create(alloc, w, h)?,
             kinds: KindIndex::create(alloc)?,
+            idle: IdleMarks::create(alloc, MAX_ACTORS)?,
         })
     }
 
@@ -83,6 +89,17 @@ impl ActorTable {
         } else {
             None
         }
+    }
+
+    /// Whether it is known that the i-th actor by rising id, from 0, if there are so many, has
+    /// nothing to load, to do, to go or to build, so that its step leaves it as it is. It takes no
+    /// look at the actor. After [`ActorTable::remove`] it is known of none until its body changes,
+    /// or a burial takes somebody out.
+    pub fn is_idle_at(&self, i: usize) -> bool
+        ensures { result ≡ true → IfSome (slice_get self.now.actors i) IsIdle }
+    {
+        let _tied = &self.roster;
+        self.idle.get(i)
     }
 
     /// The actor of an id, in logarithmic time. `None` exactly where there is none.
@@ -143,6 +160,7 @@ impl ActorTable {
     {
         self.cells.set(a.cell, Some(a.id));
         self.kinds.insert(a.body.owner, a.kind, a.id);
+        self.idle.set(self.roster.len(), is_idle(&a.body));
         self.roster.push(a);
     }
 
@@ -155,6 +173,7 @@ impl ActorTable {
         let a = self.roster.remove(id)?;
         self.cells.set(a.cell, None);
         self.kinds.remove(id);
+        self.idle.clear();
         Some(a)
     }
 
@@ -167,7 +186,98 @@ impl ActorTable {
     {
         let (owner, kind) = self.roster.owner_and_kind(id);
         self.kinds.set_owner(owner, body.owner, kind, id);
+        let place = self.roster.place_of(id);
+        self.idle.set(place, is_idle(body));
         self.roster.swap_body(id, body);
+    }
+
+    /// Puts the actor of an id, which is there, on a leg, or on none.
+    pub fn set_leg(&mut self, id: u32, leg: Option<Leg>)
+        requires { IsSome (actor_of self.old.actors id) }
+        ensures { self.new ≡ record self.old { actors = changed_at self.old.actors id (with_leg leg) } }
+    {
+        let place = self.roster.place_of(id);
+        self.idle.set(place, false);
+        self.roster.set_leg(id, leg);
+        self.mark(place);
+    }
+
+    /// Turns the actor of an id, which is there, to an angle.
+    pub fn set_facing(&mut self, id: u32, facing: WAngle)
+        requires { IsSome (actor_of self.old.actors id) }
+        ensures { self.new ≡ record self.old { actors = changed_at self.old.actors id (with_facing facing) } }
+    {
+        let place = self.roster.place_of(id);
+        self.idle.set(place, false);
+        self.roster.set_facing(id, facing);
+        self.mark(place);
+    }
+
+    /// Sets the turns until the actor of an id, which is there, can fire again.
+    pub fn set_reload(&mut self, id: u32, reload: u16)
+        requires { IsSome (actor_of self.old.actors id) }
+        ensures { self.new ≡ record self.old { actors = changed_at self.old.actors id (with_reload reload) } }
+    {
+        let place = self.roster.place_of(id);
+        self.idle.set(place, false);
+        self.roster.set_reload(id, reload);
+        self.mark(place);
+    }
+
+    /// Puts an activity in place of the first one, if there is one, of the actor of an id, which is
+    /// there.
+    pub fn set_first(&mut self, id: u32, activity: Activity)
+        requires { IsSome (actor_of self.old.actors id) }
+        ensures { self.new ≡ record self.old { actors = changed_at self.old.actors id (with_first activity) } }
+    {
+        let place = self.roster.place_of(id);
+        self.idle.set(place, false);
+        self.roster.set_first(id, activity);
+        self.mark(place);
+    }
+
+    /// Takes the first activity, if there is one, of the actor of an id, which is there, out.
+    pub fn pop_first(&mut self, id: u32)
+        requires { IsSome (actor_of self.old.actors id) }
+        ensures { self.new ≡ record self.old { actors = changed_at self.old.actors id without_first } }
+    {
+        let place = self.roster.place_of(id);
+        self.idle.set(place, false);
+        self.roster.pop_first(id);
+        self.mark(place);
+    }
+
+    /// Gives the actor of an id, which is there, these builds in place of its own.
+    pub fn set_builds(&mut self, id: u32, builds: Builds)
+        requires { IsSome (actor_of self.old.actors id) }
+        ensures { self.new ≡ record self.old { actors = changed_at self.old.actors id (with_builds builds) } }
+    {
+        let place = self.roster.place_of(id);
+        self.idle.set(place, false);
+        self.roster.set_builds(id, builds);
+        self.mark(place);
+    }
+
+    /// Sets the bales of ore that the actor of an id, which is there, holds.
+    pub fn set_load(&mut self, id: u32, load: u16)
+        requires { IsSome (actor_of self.old.actors id) }
+        ensures { self.new ≡ record self.old { actors = changed_at self.old.actors id (with_load load) } }
+    {
+        let place = self.roster.place_of(id);
+        self.idle.set(place, false);
+        self.roster.set_load(id, load);
+        self.mark(place);
+    }
+
+    /// Sets the hit points of the actor of an id, which is there.
+    pub fn set_health(&mut self, id: u32, health: u32)
+        requires { IsSome (actor_of self.old.actors id) }
+        ensures { self.new ≡ record self.old { actors = changed_at self.old.actors id (with_health health) } }
+    {
+        let place = self.roster.place_of(id);
+        self.idle.set(place, false);
+        self.roster.set_health(id, health);
+        self.mark(place);
     }
 
     /// Moves the actor of an id, which is there, to a cell of the map that is free, in logarithmic
@@ -187,6 +297,36 @@ impl ActorTable {
 
     /// Takes every actor without health out.
     pub fn bury(&mut self)
+        ensures { self.new ≡ record self.old { actors = filter is_alive self.old.actors } }
+    {
+        let before = self.len();
+        self.bury_all();
+        if self.len() < before {
+            self.mark_all();
+        }
+    }
+
+    /// Marks who is idle.
+    fn mark_all(&mut self)
+        ensures { self.new ≡ self.old }
+    {
+        for i in 0..self.len() {
+            self.mark(i);
+        }
+    }
+
+    /// Marks the i-th actor, if there are so many and it is idle.
+    fn mark(&mut self, i: usize)
+        ensures { self.new ≡ self.old }
+    {
+        if i < self.roster.len() {
+            let idle = is_idle(&self.roster.actor_at(i).body);
+            self.idle.set(i, idle);
+        }
+    }
+
+    /// Takes every actor without health out.
+    fn bury_all(&mut self)
         ensures { self.new ≡ record self.old { actors = filter is_alive self.old.actors } }
     {
         let mut left = self.len();

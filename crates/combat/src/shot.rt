@@ -31,22 +31,18 @@ fn hit(t: &mut ActorTable, id: u32, points: u32)
     let Some(a) = t.get(id) else {
         return;
     };
-    let mut body = a.body.copy();
-    body.health = body.health.saturating_sub(points);
-    t.swap_body(id, &mut body);
+    let health = a.body.health.saturating_sub(points);
+    t.set_health(id, health);
 }
 
 /// The actor of an id, if it is there, has just fired: it reloads as long as its kind does.
 fn begin_reloading(t: &mut ActorTable, rules: &Rules, id: u32, kind: u16)
     ensures { t.new ≡ record t.old { actors = changed_at t.old.actors id (reloading (kind_of rules.now kind)) } }
 {
-    let _ids_rise = t.len();
-    let Some(a) = t.get(id) else {
+    let Some(_) = t.get(id) else {
         return;
     };
-    let mut body = a.body.copy();
-    body.reload = reload_of(rules, kind);
-    t.swap_body(id, &mut body);
+    t.set_reload(id, reload_of(rules, kind));
 }
 
 /// An actor of the kind fires at a target, both given by their ids.

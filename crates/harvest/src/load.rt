@@ -12,13 +12,10 @@ use motion::set_head;
 fn set_load(t: &mut ActorTable, id: u32, load: u16)
     ensures { t.new ≡ record t.old { actors = changed_at t.old.actors id (with_load load) } }
 {
-    let _ids_rise = t.len();
-    let Some(a) = t.get(id) else {
+    let Some(_) = t.get(id) else {
         return;
     };
-    let mut body = a.body.copy();
-    body.load = load;
-    t.swap_body(id, &mut body);
+    t.set_load(id, load);
 }
 
 /// The actor of an id, if it is there, holds so many bales, and the activity takes the place of its

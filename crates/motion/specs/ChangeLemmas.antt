@@ -38,6 +38,37 @@ table_moved t mid new id a to body f valid found same moved given =
     given ∙ ap (λ (x : Table). record { width = x.width; height = x.height; actors = with_body x.actors id body }) moved
     ∙ ap (λ xs. record { width = t.width; height = t.height; actors = xs }) (twice ∙ sym (changed_as t.actors id a f (λ (x : Actor). record x { cell = to; body = body }) valid.rise found same))
 
+-- The same of a change that makes the same of this actor.
+pub table_part :
+    (t new : Table) (id : ℕ) (a : Actor) (g f : Actor → Actor) → IsTable t → Some a ≡ actor_of t.actors id →
+    f a ≡ g a → new ≡ record t { actors = changed_at t.actors id g } →
+    new ≡ record t { actors = changed_at t.actors id f }
+table_part t new id a g f valid found same given =
+    given ∙ ap (λ xs. record { width = t.width; height = t.height; actors = xs })
+    (sym (changed_as t.actors id a f g valid.rise (sym found) same))
+
+pub table_part_body :
+    (t new : Table) (id : ℕ) (a : Actor) (g : Actor → Actor) (wanted : Body) → IsTable t →
+    actor_of t.actors id ≡ Some a → g a ≡ record a { body = wanted } →
+    new ≡ record t { actors = changed_at t.actors id g } →
+    new ≡ record t { actors = with_body t.actors a.id wanted }
+table_part_body t new id a g wanted valid found same given =
+    table_body t new id a wanted wanted found refl
+    (table_part t new id a g (λ (x : Actor). record x { body = wanted }) valid (sym found) (sym same) given)
+
+pub table_part_moved :
+    (t mid new : Table) (id : ℕ) (a : Actor) (to : CPos) (g f : Actor → Actor) → IsTable t →
+    actor_of t.actors id ≡ Some a → f a ≡ g (record a { cell = to }) →
+    mid ≡ record t { actors = moved_to t.actors id to } →
+    new ≡ record mid { actors = changed_at mid.actors id g } →
+    new ≡ record t { actors = changed_at t.actors id f }
+table_part_moved t mid new id a to g f valid found same moved given =
+    let twice : changed_at (moved_to t.actors id to) id g ≡ changed_at t.actors id (λ (x : Actor). g (record x { cell = to })) =
+    changed_twice t.actors id (λ (x : Actor). record x { cell = to }) g (λ x. refl) in
+    given ∙ ap (λ (x : Table). record { width = x.width; height = x.height; actors = changed_at x.actors id g }) moved
+    ∙ ap (λ xs. record { width = t.width; height = t.height; actors = xs })
+    (twice ∙ sym (changed_as t.actors id a f (λ (x : Actor). g (record x { cell = to })) valid.rise found same))
+
 -- The actor of an id stands on the map of the table.
 pub found_on : (t : Table) (id : ℕ) (a : Actor) → IsTable t → Some a ≡ actor_of t.actors id → IsOn t.width t.height a.cell
 found_on t id a valid found = found_all (λ (x : Actor). IsOn t.width t.height x.cell) t.actors id a valid.on_map (sym found)

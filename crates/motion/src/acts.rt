@@ -1,10 +1,10 @@
-ghost use Rattle.std.specs.Prelude.{◌≡◌, ◌∷◌, drop};
+ghost use Rattle.std.specs.Prelude.{◌≡◌};
 ghost use Rattle.game_model.specs.ActorChanges.{changed_at};
 ghost use Rattle.game_tick.specs.Acts.{popped, with_first};
 ghost use Rattle.game_tick.specs.Moving.{gone_on};
 ghost use Rattle.motion.specs.Steps.{waits_of, with_waits};
 
-use activities::{Activity, Queue};
+use activities::Activity;
 use actor_table::ActorTable;
 use game_tick::Moving;
 
@@ -32,28 +32,15 @@ pub(crate) fn with_waits(activity: Activity, waits: u8) -> Activity
     }
 }
 
-/// Puts the activity in place of the first, if there is one.
-fn put_first(acts: &mut Queue, activity: Activity)
-    ensures { acts.new ≡ activity ∷ drop 1 acts.old }
-{
-    if acts.head().is_some() {
-        acts.set_head(activity);
-    } else {
-        acts.replace(activity);
-    }
-}
-
 /// Puts the activity in place of the first one of the actor of an id, if the actor is there.
 pub fn set_head(t: &mut ActorTable, id: u32, activity: Activity)
     ensures { t.new ≡ record t.old { actors = changed_at t.old.actors id (with_first activity) } }
 {
     let _ids_rise = t.len();
-    let Some(a) = t.get(id) else {
+    let Some(_) = t.get(id) else {
         return;
     };
-    let mut body = a.body.copy();
-    put_first(&mut body.acts, activity);
-    t.swap_body(id, &mut body);
+    t.set_first(id, activity);
 }
 
 /// Takes the first activity of the actor of an id out, if both are there.
@@ -61,12 +48,10 @@ pub fn pop_head(t: &mut ActorTable, id: u32)
     ensures { t.new ≡ record t.old { actors = changed_at t.old.actors id popped } }
 {
     let _ids_rise = t.len();
-    let Some(a) = t.get(id) else {
+    let Some(_) = t.get(id) else {
         return;
     };
-    let mut body = a.body.copy();
-    let _done = body.acts.pop();
-    t.swap_body(id, &mut body);
+    t.pop_first(id);
 }
 
 /// After a step towards a cell that ended so: the actor of an id goes on with the activity, which

@@ -38,7 +38,6 @@ pub fn advance_leg(t: &mut ActorTable, rules: &Rules, id: u32)
     let Some(a) = t.get(id) else {
         return;
     };
-    let mut body = a.body.copy();
-    body.leg = leg_after(speed_of(rules, a.kind), body.leg);
-    t.swap_body(id, &mut body);
+    let leg = leg_after(speed_of(rules, a.kind), a.body.leg);
+    t.set_leg(id, leg);
 }

@@ -46,12 +46,12 @@ fn turn(t: &mut ActorTable, rules: &Rules, id: u32, d: u8)
           });
     } }
 {
+    let _ids_rise = t.len();
     let Some(a) = t.get(id) else {
         return;
     };
-    let mut body = a.body.copy();
-    body.facing = turn_towards(body.facing, dir_angle(d), turning_of(rules, a.kind));
-    t.swap_body(id, &mut body);
+    let facing = turn_towards(a.body.facing, dir_angle(d), turning_of(rules, a.kind));
+    t.set_facing(id, facing);
 }
 
 /// The actor of an id, which is there, sets out for a free cell in a direction: it holds that cell
@@ -70,14 +70,13 @@ fn set_out(t: &mut ActorTable, rules: &Rules, id: u32, d: u8, next: CPos)
     let Some(a) = t.get(id) else {
         return;
     };
-    let mut body = a.body.copy();
     let leg = Leg {
         dir: d,
         progress: 0,
     };
-    body.leg = leg_after(speed_of(rules, a.kind), Some(leg));
+    let leg = leg_after(speed_of(rules, a.kind), Some(leg));
     t.move_to(id, next);
-    t.swap_body(id, &mut body);
+    t.set_leg(id, leg);
 }
 
 /// The actor of an id, which is there and faces a cell in a direction, waits where that cell is

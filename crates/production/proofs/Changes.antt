@@ -5,14 +5,9 @@ use Rattle.std.proofs.lemmas.Bool.Decides.{eqb_tells}
 use Rattle.world_units.specs.declared.cell.CPos.{CPos}
 use Rattle.world_units.specs.Cells.{same_cell}
 use Rattle.game_model.specs.declared.actor.Actor.{Actor}
-use Rattle.game_model.specs.declared.actor.Body.{Body}
-use Rattle.game_model.specs.ActorChanges.{changed_at, with_body}
+use Rattle.game_model.specs.ActorChanges.{changed_at}
 use Rattle.game_model.specs.World.{actor_of, is_occupied}
 use Rattle.game_model.specs.FoundLemmas.{IdsRise, changed_as}
-
--- another body of the actor of an id
-pub body_changed : (actors : List Actor) (id : ℕ) (a : Actor) (body : Body) (f : Actor → Actor) → IdsRise actors → actor_of actors id ≡ Some a → record a { body = body } ≡ f a → with_body actors id body ≡ changed_at actors id f
-body_changed actors id a body f rise found same = changed_as actors id a (λ (b : Actor). record b { body = body }) f rise found same
 
 -- the same cells are held where a change moves nobody
 pub changed_occupied : (actors : List Actor) (id : ℕ) (f : Actor → Actor) (p : CPos) → ((a : Actor) → (f a).cell ≡ a.cell) → is_occupied (changed_at actors id f) p ≡ is_occupied actors p

@@ -26,11 +26,11 @@ pub fn build_step(t: &mut ActorTable, g: &Ground, next_id: &mut u32, id: u32)
     let Some(a) = t.get(id) else {
         return;
     };
-    let (from, owner) = (a.cell, a.body.owner);
-    let mut builds = a.body.builds.copy();
-    if builds.is_empty() {
+    if a.body.builds.is_empty() {
         return;
     }
+    let (from, owner) = (a.cell, a.body.owner);
+    let mut builds = a.body.builds.copy();
     let first = *builds.get(0);
     let build = Build {
         kind: first.kind,

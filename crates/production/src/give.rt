@@ -15,13 +15,7 @@ pub(crate) fn give_builds(t: &mut ActorTable, id: u32, builds: Builds)
     requires { IsSome (actor_of t.old.actors id) }
     ensures { t.new ≡ record t.old { actors = changed_at t.old.actors id (with_builds builds) } }
 {
-    let _count = t.len();
-    let Some(a) = t.get(id) else {
-        unreachable!();
-    };
-    let mut body = a.body.copy();
-    body.builds = builds;
-    t.swap_body(id, &mut body);
+    t.set_builds(id, builds);
 }
 
 /// The health with which an actor of a kind begins.

@@ -66,6 +66,34 @@ place_after :
     place_for (a ∷ l) id ≡ suc (place_for l id)
 place_after a l id is = rw is (omega arith)
 
+-- An id that is at a place is no less than those before it.
+at_least :
+    (least : ℕ) (l : List ActorNumber) (g id : ℕ) → RiseFrom least l → is_at l g id ≡ true → least ≤ id
+at_least least [] g id rise at = absurd cc
+at_least least (a ∷ l) zero id rise at =
+    let named : a.id ≡ id = grind (arith, nat_tests, at) in
+    omega (arith, rise.0, named)
+at_least least (a ∷ l) (suc g) id rise at =
+    omega (arith, rise.0, at_least (a.id + 1) l g id rise.1 at)
+
+-- A place where the id is.
+pub guess_is :
+    (least : ℕ) (l : List ActorNumber) (g id : ℕ) → RiseFrom least l → is_at l g id ≡ true → g ≡ place_for l id
+guess_is least [] g id rise at = absurd cc
+guess_is least (a ∷ l) zero id rise at =
+    let named : a.id ≡ id = grind (arith, nat_tests, at) in
+    let not_below : nat_lt a.id id ≡ false = grind (arith, nat_tests, named) in
+    rw not_below refl
+guess_is least (a ∷ l) (suc g) id rise at =
+    let above : a.id + 1 ≤ id = at_least (a.id + 1) l g id rise.1 at in
+    let below : nat_lt a.id id ≡ true = grind (arith, nat_tests, above) in
+    ap suc (guess_is (a.id + 1) l g id rise.1 at) ∙ sym (place_after a l id below)
+
+pub guess_within : (l : List ActorNumber) (g id : ℕ) → is_at l g id ≡ true → g ≤ length l
+guess_within [] g id at = absurd cc
+guess_within (a ∷ l) zero id at = omega arith
+guess_within (a ∷ l) (suc g) id at = let more = guess_within l g id at in omega (arith, more)
+
 -- What a change does where the id has its place.
 pub record Present (l : List ActorNumber) (id number place : ℕ) (d : ActorNumber) : Type 0 where
   pub set_there : with_number l id number ≡ set l place (record { id = id; number = number })

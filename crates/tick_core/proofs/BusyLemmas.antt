@@ -39,7 +39,9 @@ use Rattle.sync_hash.specs.Kept.{IsKeptOf, Kept, cell_number, cell_numbers, numb
 use Rattle.sync_hash.specs.KeptLemmas.{ore_numbered}
 use Rattle.tick_core.specs.Live.{Standing}
 use Rattle.tick_core.specs.Scene.{IsActing, prepared, prepared_if}
-use Rattle.tick_core.specs.Telling.{IsIdleNow, cell_in, cell_of, target_of, told_ore, with_some}
+use Rattle.actor_table.specs.Idle.{IsIdle}
+use Rattle.actor_table.specs.Table.{Table, IsTable}
+use Rattle.tick_core.specs.Telling.{cell_in, cell_of, target_of, told_ore, with_some}
 use Rattle.tick_core.specs.Touched.{GrowsBut, KeptBut, SameBut, is_among}
 use Rattle.tick_core.proofs.ChoiceLemmas.{by_if}
 use Rattle.tick_core.proofs.SceneLemmas.{with_list}
@@ -388,9 +390,17 @@ changed_self (a ∷ actors) id =
 abbrev charged : Actor → ℕ → Actor
 charged a n = record a { body = record a.body { reload = n } }
 
+pub not_reloading :
+    (t : Table) (id : ℕ) (a : Actor) → IsTable t → Some a ≡ actor_of t.actors id → a.body.reload ≡ 0 →
+    t ≡ record t { actors = changed_at t.actors id reloaded }
+not_reloading t id a valid found none =
+    let same : reloaded a ≡ a = ap (λ n. charged a n) (let less : a.body.reload - 1 ≡ a.body.reload = omega (arith, none) in less) in
+    ap (λ xs. record { width = t.width; height = t.height; actors = xs })
+    (sym (changed_as t.actors id a reloaded (λ x. x) valid.rise (sym found) same ∙ changed_self t.actors id))
+
 idle_by :
     (s : Standing) (id : ℕ) (found : Option Actor) → living_of s.world.actors id ≡ found →
-    AllPairs (λ (x y : Actor). x.id < y.id) s.world.actors → IfSome found IsIdleNow →
+    AllPairs (λ (x y : Actor). x.id < y.id) s.world.actors → IfSome found IsIdle →
     s ≡ record s { world = after_step s.setup s.world id }
 idle_by s id None found rise idle = ap (the_standing s.setup) (sym (dead_stay s.setup s.world id found))
 idle_by s id (Some a) found rise idle =
@@ -402,7 +412,7 @@ idle_by s id (Some a) found rise idle =
     ap (the_standing s.setup) (sym (stays ∙ ap (with_list s.world) list))
 
 pub idle_whole :
-    (s : Standing) (id : ℕ) → IsActing s.setup s.world → IfSome (living_of s.world.actors id) IsIdleNow →
+    (s : Standing) (id : ℕ) → IsActing s.setup s.world → IfSome (living_of s.world.actors id) IsIdle →
     s ≡ record s { world = after_step s.setup s.world id }
 idle_whole s id acting idle = idle_by s id (living_of s.world.actors id) refl acting.actors.ready.rise idle
 
@@ -429,7 +439,7 @@ is_not false denied = absurd cc
 -- The actor at the place of an id is the living one of the id, if it lives.
 pub idle_at :
     (actors : List Actor) (i id : ℕ) (a : Actor) → IdsRise actors → slice_get (ids_of actors) i ≡ Some id → slice_get actors i ≡ Some a →
-    (is_alive a ≡ true → IsIdleNow a) → IfSome (living_of actors id) IsIdleNow
+    (is_alive a ≡ true → IsIdle a) → IfSome (living_of actors id) IsIdle
 idle_at actors i id a rise at there idle =
     rw (living_found actors id a rise found) (by_life (is_alive a) refl)
   where
@@ -445,9 +455,21 @@ idle_at actors i id a rise at there idle =
     found : Some a ≡ actor_of actors id
     found = sym (subst (λ n. actor_of actors n ≡ Some a) named (subst (λ (x : Actor). actor_of actors x.id ≡ Some x) same (found_at actors i a rise within)))
 
-    by_life : (alive : Bool) → is_alive a ≡ alive → IfSome (cond alive (Some a) None) IsIdleNow
+    by_life : (alive : Bool) → is_alive a ≡ alive → IfSome (cond alive (Some a) None) IsIdle
     by_life true lives = idle lives
     by_life false dead = tt
+
+-- So where it is known that the one at the place is idle.
+pub idle_marked :
+    (actors : List Actor) (i id : ℕ) → IdsRise actors → slice_get (ids_of actors) i ≡ Some id →
+    IfSome (slice_get actors i) IsIdle → IfSome (living_of actors id) IsIdle
+idle_marked actors i id rise at idle = by_place (slice_get actors i) refl idle
+  where
+    by_place :
+        (found : Option Actor) → slice_get actors i ≡ found → IfSome found IsIdle →
+        IfSome (living_of actors id) IsIdle
+    by_place (Some a) there idle = idle_at actors i id a rise at there (λ lives. idle)
+    by_place None there idle = nobody_at actors i id at there
 
 pub slice_none : {A : Type 0} (xs : List A) (i : ℕ) → slice_get xs i ≡ None → length xs ≤ i
 slice_none [] i none = omega arith

@@ -40,13 +40,6 @@ abbrev pub cell_of : Option Actor → Option CPos
 cell_of None = None
 cell_of (Some a) = cell_in a.body.acts
 
--- The actor has nothing to load, to build, to go or to do.
-pub record IsIdleNow (a : Actor) : Type 0 where
-  pub reload : a.body.reload ≡ 0
-  pub acts : a.body.acts ≡ []
-  pub leg : a.body.leg ≡ None
-  pub builds : a.body.builds ≡ []
-
 -- What is kept after the telling of an actor, if there is one.
 abbrev pub told_if : Kept → Option Actor → Kept
 told_if kept None = kept

@@ -23,9 +23,10 @@ fn reload(t: &mut ActorTable, id: u32)
     let Some(a) = t.get(id) else {
         return;
     };
-    let mut body = a.body.copy();
-    body.reload = body.reload.saturating_sub(1);
-    t.swap_body(id, &mut body);
+    let reload = a.body.reload;
+    if reload > 0 {
+        t.set_reload(id, reload - 1);
+    }
 }
 
 impl Scene {

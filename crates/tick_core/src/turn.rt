@@ -1,4 +1,5 @@
 ghost use Rattle.std.specs.Prelude.{◌≡◌, ◌==◌, ◌+◌, ◌-◌, ◌≤◌, ◌<◌, ◌^◌, [], true, false, if◌then◌else◌, length, map, slice_get, IfSome, None, Some};
+ghost use Rattle.actor_table.specs.Idle.{IsIdle};
 ghost use Rattle.game_model.specs.Grid.{IsOn};
 ghost use Rattle.game_model.specs.ValidMap.{IsSetup};
 ghost use Rattle.game_model.specs.World.{ids_of, living_of};
@@ -6,14 +7,14 @@ ghost use Rattle.game_model.specs.declared.limits.TheConstants.{MAX_ACTORS};
 ghost use Rattle.game_tick.specs.Turn.{after_step, after_steps, after_turn};
 ghost use Rattle.sync_hash.specs.Kept.{numbered};
 ghost use Rattle.tick_core.specs.Scene.{IsActing};
-ghost use Rattle.tick_core.specs.Telling.{HasPlaceFor, IsIdleNow, cell_of, target_of, told_of, told_ore, with_some};
+ghost use Rattle.tick_core.specs.Telling.{HasPlaceFor, cell_of, target_of, told_of, told_ore, with_some};
 ghost use Rattle.tick_core.specs.Touched.{KeptBut};
 
 use crate::live::LiveWorld;
 use crate::scene::Scene;
 use activities::Activity;
 use actor_table::ActorTable;
-use game_model::{Actor, Ore};
+use game_model::Ore;
 use sync_hash::Hasher;
 use world_units::CPos;
 
@@ -26,24 +27,17 @@ pub(crate) struct Aim {
     pub(crate) cell: Option<CPos>,
 }
 
-/// Whether a step leaves the actor as it is: it has nothing to load, to build, to go or to do.
-fn is_idle(a: &Actor) -> bool
-    ensures { result ≡ true → IsIdleNow a.now }
-{
-    a.body.reload == 0
-        && a.body.builds.is_empty()
-        && a.body.leg.is_none()
-        && a.body.acts.as_slice().is_empty()
-}
-
-/// Whether the actor at a place of the table, which has this id, lives and a step changes it.
+/// Whether the actor at a place of the table, which has this id, lives and a step may change it.
 fn is_busy_at(table: &ActorTable, i: usize, id: u32) -> bool
     requires { slice_get (ids_of table.now.actors) i ≡ Some id }
-    ensures { result ≡ false → IfSome (living_of table.now.actors id) IsIdleNow }
+    ensures { result ≡ false → IfSome (living_of table.now.actors id) IsIdle }
 {
     let _ids_rise = table.len();
+    if table.is_idle_at(i) {
+        return false;
+    }
     match table.nth_actor(i) {
-        Some(a) => a.body.health > 0 && !is_idle(a),
+        Some(a) => a.body.health > 0,
         None => false,
     }
 }
@@ -149,11 +143,11 @@ impl Scene {
         aim_of(&self.table, id)
     }
 
-    /// Whether the actor at a place, which has this id, lives and a step changes it. It is found at
-    /// once, where an id would be searched.
+    /// Whether the actor at a place, which has this id, lives and a step may change it. It is found
+    /// at once, where an id would be searched.
     fn is_busy(&self, i: usize, id: u32) -> bool
         requires { slice_get (ids_of self.now.world.actors) i ≡ Some id }
-        ensures { result ≡ false → IfSome (living_of self.now.world.actors id) IsIdleNow }
+        ensures { result ≡ false → IfSome (living_of self.now.world.actors id) IsIdle }
     {
         is_busy_at(&self.table, i, id)
     }

@@ -1,8 +1,8 @@
 use Rattle.std.proofs.Common.{◌≡◌, Some, ◌∙◌}
-use Rattle.motion.specs.ChangeLemmas.{table_body}
+use Rattle.motion.specs.ChangeLemmas.{table_part_body}
 use Rattle.motion.proofs.towards.turn.Goals as goal
 
 pub returns : goal.returns
 returns c a found =
     let same : Some c.in-Some.a.now ≡ Some a = c.in-Some.ensures ∙ found in
-    table_body c.args.t.now c.swap_body.new.self c.args.id a _ _ found (cc) c.swap_body.ensures.given
+    table_part_body c.args.t.now c.set_facing.new.self c.args.id a _ _ c.len-ids_rise.ensures.list found (cc) c.set_facing.ensures

@@ -7,12 +7,12 @@ use Rattle.production.proofs.building.build_step.Goals as goal
 
 pub returns-then-is_empty-clause-actors : goal.returns-then-is_empty-clause-actors
 returns-then-is_empty-clause-actors c =
-    let idle = by_id_idle (setup_in c.args.g.now) c.args.t.now.actors c.args.next_id.now c.args.id c.in-Some.a.now _ (sym c.in-Some.ensures) c.copy-builds.ensures (c.is_empty.ensures.0 c.if-is_empty.true) in
+    let idle = by_id_idle (setup_in c.args.g.now) c.args.t.now.actors c.args.next_id.now c.args.id c.in-Some.a.now _ (sym c.in-Some.ensures) refl (c.is_empty.ensures.0 c.if-is_empty.true) in
     ap (λ (b : Built). record c.args.t.now { actors = b.actors }) (sym idle)
 
 pub returns-then-is_empty-clause-next_id : goal.returns-then-is_empty-clause-next_id
 returns-then-is_empty-clause-next_id c =
-    let idle = by_id_idle (setup_in c.args.g.now) c.args.t.now.actors c.args.next_id.now c.args.id c.in-Some.a.now _ (sym c.in-Some.ensures) c.copy-builds.ensures (c.is_empty.ensures.0 c.if-is_empty.true) in
+    let idle = by_id_idle (setup_in c.args.g.now) c.args.t.now.actors c.args.next_id.now c.args.id c.in-Some.a.now _ (sym c.in-Some.ensures) refl (c.is_empty.ensures.0 c.if-is_empty.true) in
     ap (λ (b : Built). b.next_id) (sym idle)
 
 pub returns-in_default-exit_after-clause-actors : goal.returns-in_default-exit_after-clause-actors

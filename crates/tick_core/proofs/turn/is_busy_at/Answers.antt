@@ -1,16 +1,16 @@
 use Rattle.std.proofs.Common.{◌≡◌, true, false, sym, ◌∙◌}
-use Rattle.tick_core.proofs.BusyLemmas.{idle_at, is_not, nobody_at}
+use Rattle.tick_core.proofs.BusyLemmas.{idle_at, idle_marked, nobody_at}
 use Rattle.tick_core.proofs.turn.is_busy_at.Goals as goal
 
--- It lives, and is idle or not.
-pub returns-then-a-gt0 : goal.returns-then-a-gt0
-returns-then-a-gt0 c = λ denied.
-    idle_at c.args.table.now.actors c.args.i c.args.id c.in-Some.a.now c.len-ids_rise.ensures.list.rise c.requires (sym c.in-Some.ensures)
-    (λ lives. c.is_idle.ensures (is_not c.is_idle.result denied))
+-- It is known to be idle.
+pub returns-then-is_idle_at : goal.returns-then-is_idle_at
+returns-then-is_idle_at c = λ denied.
+    idle_marked c.args.table.now.actors c.args.i c.args.id c.len-ids_rise.ensures.list.rise c.requires
+    (c.is_idle_at.ensures c.if-is_idle_at.true)
 
 -- It does not live.
-pub returns-else-a-gt0 : goal.returns-else-a-gt0
-returns-else-a-gt0 c = λ denied.
+pub returns-in-Some : goal.returns-in-Some
+returns-in-Some c = λ denied.
     idle_at c.args.table.now.actors c.args.i c.args.id c.in-Some.a.now c.len-ids_rise.ensures.list.rise c.requires (sym c.in-Some.ensures)
     (λ lives. absurd (let never : true ≡ false = sym lives ∙ denied in cc))
 

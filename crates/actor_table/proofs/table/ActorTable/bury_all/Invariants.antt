@@ -1,7 +1,7 @@
 use Rattle.std.proofs.Common.{◌≡◌, ◌≤◌, ◌++◌, length, take, drop}
 use Rattle.std.specs.List.{filter}
 use Rattle.game_model.specs.World.{is_alive}
-use Rattle.actor_table.proofs.table.ActorTable.bury.Given as goal
+use Rattle.actor_table.proofs.table.ActorTable.bury_all.Given as goal
 
 abbrev pub invariant-loop-left : goal.invariant-loop-left
 invariant-loop-left l =

@@ -1,6 +1,6 @@
 use Rattle.std.proofs.Common.{◌-◌, arith}
 use Rattle.actor_table.proofs.TableCalls.{bury_more}
-use Rattle.actor_table.proofs.table.ActorTable.bury.Goals as goal
+use Rattle.actor_table.proofs.table.ActorTable.bury_all.Goals as goal
 
 pub loop-left-preserved : goal.loop-left-preserved
 loop-left-preserved c =
