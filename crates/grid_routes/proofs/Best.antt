@@ -3,6 +3,7 @@ use Rattle.std.proofs.Common.{◌≡◌, ℕ, ◌+◌, ◌<◌, ◌≤◌, ◌�
 use Rattle.std.proofs.lemmas.Bool.{cases_lt}
 use Rattle.std.proofs.lemmas.Nat.{mul-lt}
 use Rattle.world_units.specs.declared.cell.CPos.{CPos}
+use Rattle.world_units.specs.Directions.{step_of}
 use Rattle.game_model.specs.Grid.{IsOn}
 use Rattle.grid_routes.specs.declared.field.TheConstants.{NONE}
 use Rattle.game_model.specs.Walks.{Land, IsWalk, IsDistance, HasNoWalk, LeadsOn, IsBest, IsBestDirection}
@@ -153,3 +154,30 @@ pub no-direction :
     IsOn f.labels.width f.labels.height p → label_of f.labels p ≤ f.level → n ≡ NONE → n ≡ label_of f.labels p →
     (p ≡ land.goal) ⊎ HasNoWalk land p
 no-direction land f s search p n on final end is = inr (no-walk land f s search p on final (omega arith))
+
+-- The cell that the best step enters is on the map,
+pub next-on :
+    (land : Land) (f : Distances) (s : Shelves) → IsSearch land f s → (p q : CPos) (d : ℕ) →
+    IsBest land p d → Some q ≡ step_of p d → IsOn f.labels.width f.labels.height q
+next-on land f s search p q d best there =
+    let leads = best.leads in
+    let e : Some q ≡ Some leads.entered = there ∙ leads.step.enters in
+    let one : leads.entered ≡ q = cc in
+    subst (λ (x : CPos). IsOn f.labels.width f.labels.height x) one
+    (step-on land.toll f.labels.width f.labels.height search.fair p leads.entered d leads.cost leads.step)
+
+-- and its label is final, as that of the cell before it.
+pub next-final :
+    (land : Land) (f : Distances) (s : Shelves) → IsSearch land f s → (p q : CPos) (d : ℕ) →
+    IsOn f.labels.width f.labels.height p → label_of f.labels p ≤ f.level → IsBest land p d → Some q ≡ step_of p d →
+    label_of f.labels q ≤ f.level
+next-final land f s search p q d on final best there =
+    let here = best.leads.here in
+    let less : label_of f.labels p < NONE = elim (cases_lt (label_of f.labels p) NONE) [
+      | inl low ↦ low
+      | inr end ↦ absurd ((no-walk land f s search p on final end).none here.walk.0 (best.leads.cost + best.leads.left) here.walk.1)
+    ] in
+    let lead = lead-of land f s search p on final less d best.leads in
+    let e : Some q ≡ Some lead.entered = there ∙ lead.step.enters in
+    let one : lead.entered ≡ q = cc in
+    subst (λ (x : CPos). label_of f.labels x ≤ f.level) one (omega (arith, lead.label))

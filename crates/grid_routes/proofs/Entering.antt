@@ -1,5 +1,5 @@
 -- What it costs to enter a cell: as read from the surface, and from each neighbour.
-use Rattle.std.proofs.Common.{◌≡◌, ◌≢◌, ℕ, ◌+◌, ◌*◌, ◌%◌, ◌==◌, ◌⊎◌, ◌<◌, ◌≤◌, ◌&&◌, ◌||◌, not, inl, inr, Bool, true, false, cond, Option, Some, None, List, get_or, refl, sym, ap, ap₂, ◌∙◌, subst, arith}
+use Rattle.std.proofs.Common.{◌≡◌, ◌≢◌, ℕ, ◌+◌, ◌*◌, ◌%◌, ◌==◌, ◌⊎◌, ◌<◌, ◌≤◌, ◌&&◌, ◌||◌, nat_lt, not, inl, inr, Bool, true, false, cond, Option, Some, None, List, length, get_or, refl, sym, ap, ap₂, ◌∙◌, subst, arith}
 use Rattle.std.proofs.lemmas.Bool.{cases_eq}
 use Rattle.world_units.specs.declared.cell.CPos.{CPos}
 use Rattle.world_units.specs.Cells.{same_cell}
@@ -8,7 +8,7 @@ use Rattle.world_units.specs.Directions.{opposite_of, step_of}
 use Rattle.rule_traits.specs.declared.trait_fields.Costs.{Costs}
 use Rattle.game_model.specs.declared.terrain.Terrain.{Terrain}
 use Rattle.game_model.specs.declared.terrain.Terrain.TheVariants.{Clear, Road, Rough, Water, Rock}
-use Rattle.game_model.specs.Grid.{Grid, HasSize, IsOn, is_on, at_cell, with_cell}
+use Rattle.game_model.specs.Grid.{Grid, HasSize, IsOn, is_on, at_cell, place_of, with_cell}
 use Rattle.game_model.specs.Walks.{cost_at, fare_of, holds, is_free, toll_of}
 use Rattle.grid_routes.specs.declared.surface.TheConstants.{ROCK}
 use Rattle.grid_routes.specs.declared.fares.Fares.{Fares}
@@ -16,8 +16,11 @@ use Rattle.grid_routes.specs.Values.{value_in}
 use Rattle.grid_routes.specs.Fares.{AreFares, IsFareFrom}
 use Rattle.grid_routes.specs.Footing.{ArePut, IsFooting, IsRenewed, charges_of, number_at, number_or_rock}
 use Rattle.grid_routes.specs.Tolls.{Ground, AreTolls, toll_in}
+use Rattle.grid_routes.specs.Around.{number_in}
+use Rattle.grid_routes.specs.Beside.{IsBeside, IsPlaced}
+use Rattle.grid_routes.specs.declared.beside.Placed.{Placed}
 use Rattle.grid_routes.specs.Labels.{IsFull}
-use Rattle.grid_routes.proofs.Cells.{is_on-on, set-here, set-other}
+use Rattle.grid_routes.proofs.Cells.{is_on-on, is_on-true, placed, set-here, set-other}
 use Rattle.grid_routes.proofs.Directions.{beside-north_east, beside-south_east, beside-south_west, beside-north_west}
 use Rattle.grid_routes.proofs.Lowering.{one-or-not}
 
@@ -164,6 +167,57 @@ toll-read ground surface charges p tolls =
           let away : is_on surface.width surface.height p ≡ false = rw (tolls.size.width, tolls.size.height) outside in
           rw (off-map surface p away, outside) refl
     ])
+
+-- Whether the cell with a number can be entered.
+free-read :
+    (ground : Ground) (surface : Grid ℕ) (charges : List ℕ) (o : Option CPos) → AreTolls ground surface charges →
+    nat_lt 0 (get_or charges (number_in surface o) 0) ≡ is_free (toll_in ground) o
+free-read ground surface charges (Some p) tolls = ap (λ n. nat_lt 0 n) (toll-read ground surface charges p tolls)
+free-read ground surface charges None tolls = rw tolls.charged refl
+
+pub open-read :
+    (ground : Ground) (surface : Grid ℕ) (charges : List ℕ) (o : Option CPos) (n : ℕ) (b : Bool) →
+    AreTolls ground surface charges → b ≡ nat_lt 0 (get_or charges n 0) → n ≡ number_in surface o →
+    b ≡ is_free (toll_in ground) o
+open-read ground surface charges o n b tolls is at =
+    is ∙ ap (λ k. nat_lt 0 (get_or charges k 0)) at ∙ free-read ground surface charges o tolls
+
+pub number-within :
+    (w h : ℕ) (g : Grid ℕ) (k : Placed) → IsFull g → HasSize w h g → IsPlaced w h k → k.at < length g.cells
+number-within w h g k full size there =
+    let on : IsOn g.width g.height k.cell = record { column = rw size.width there.on.column; row = rw size.height there.on.row } in
+    let at : k.at ≡ place_of g.width k.cell = there.at ∙ ap (λ n. place_of n k.cell) (sym size.width) in
+    omega (arith, at, placed g.width g.height k.cell (length g.cells) full.size on)
+
+surface-read :
+    (g : Grid ℕ) (p : CPos) → IsOn g.width g.height p → value_in ROCK g p ≡ get_or g.cells (place_of g.width p) ROCK
+unfolding value_in
+surface-read g p on = rw (is_on-true g.width g.height p on) refl
+
+-- The number of a neighbour.
+pub number-some :
+    (w h : ℕ) (g : Grid ℕ) (q : CPos) (d : ℕ) (k : Placed) → HasSize w h g → IsBeside w h q d (Some k) →
+    get_or g.cells k.at ROCK ≡ number_in g (step_of q d)
+number-some w h g q d k size beside =
+    let b = beside.some k refl in
+    let on : IsOn g.width g.height k.cell = record { column = rw size.width b.1.on.column; row = rw size.height b.1.on.row } in
+    let at : k.at ≡ place_of g.width k.cell = b.1.at ∙ ap (λ n. place_of n k.cell) (sym size.width) in
+    rw (b.0, at) (sym (surface-read g k.cell on))
+
+outside : (g : Grid ℕ) (o : Option CPos) → ((p : CPos) → o ≡ Some p → IsOn g.width g.height p → ⊥) → ROCK ≡ number_in g o
+outside g None away = refl
+outside g (Some p) away =
+    elim (on-or-off (is_on g.width g.height p)) [
+      | inl on ↦ absurd (away p refl (is_on-on g.width g.height p on))
+      | inr off ↦ sym (off-map g p off)
+    ]
+
+pub number-none :
+    (w h : ℕ) (g : Grid ℕ) (q : CPos) (d : ℕ) → HasSize w h g → IsBeside w h q d None →
+    ROCK ≡ number_in g (step_of q d)
+number-none w h g q d size beside =
+    outside g (step_of q d) (λ p there on.
+    beside.none refl p there (record { column = rw (sym size.width) on.column; row = rw (sym size.height) on.row }))
 
 between-low : (b : Bool) (t : ℕ) → t ≤ 10 → cond b (7 * t) 0 ≤ 70
 between-low true t low = omega arith

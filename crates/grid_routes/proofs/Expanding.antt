@@ -12,6 +12,7 @@ use Rattle.grid_routes.specs.Steps.{Lowers, IsExpanded, IsOffered}
 use Rattle.grid_routes.proofs.Directions.{step-back, opposite-back, opposite-low}
 use Rattle.grid_routes.proofs.Lowering.{lowers-refl, lowers-trans, falls, level-stays, expanded-stays}
 use Rattle.grid_routes.proofs.Shelves.{only-one}
+use Rattle.grid_routes.proofs.StepCosts.{fare-zero}
 
 -- The sizes stay.
 pub full-stays :
@@ -105,6 +106,13 @@ offered-eight toll q level f0 f1 f2 f3 f4 f5 f6 f7 f8 s0 s1 s2 s3 s4 s5 s6 s7 s8
     let six : Offered toll f0 s0 f6 s6 q level 6 = offered-step toll f0 s0 f5 s5 q level 5 f6 s6 five f in
     let seven : Offered toll f0 s0 f7 s7 q level 7 = offered-step toll f0 s0 f6 s6 q level 6 f7 s7 six g in
     offered-step toll f0 s0 f7 s7 q level 7 f8 s8 seven h
+
+-- A cell that can't be entered has nothing to offer.
+pub expanded-free :
+    (toll : CPos → ℕ) (labels : Grid ℕ) (level : ℕ) (q : CPos) → toll q ≡ 0 →
+    IsExpanded toll labels level q
+expanded-free toll labels level q free = λ p d k on step.
+    absurd (omega (arith, fare-zero toll p d q free, step.cost, step.allowed))
 
 -- The cells in the first places of the level's bucket are expanded.
 pub record Ringed (tolls : Ground) (field : Distances) (shelves : Shelves) (tolls' : Ground) (field' : Distances) (shelves' : Shelves) (level i : ℕ) : Type 0 where

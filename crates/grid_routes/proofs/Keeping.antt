@@ -1,5 +1,5 @@
 -- Fields that are put back, taken up and forgotten.
-use Rattle.std.proofs.Common.{◌≡◌, ℕ, ◌+◌, ◌*◌, ◌<◌, ◌≤◌, ◌⊎◌, inl, inr, Bool, true, IsTrue, length, List, get_or, set, Option, Some, None, refl, ap, sym, ◌∙◌, arith, subst, get_or-set_other, get_or-set_same, length-set}
+use Rattle.std.proofs.Common.{◌≡◌, ℕ, ◌+◌, ◌*◌, ◌<◌, inl, inr, Bool, length, List, get_or, set, Option, Some, None, refl, ap, sym, ◌∙◌, arith, subst, get_or-set_other, get_or-set_same, length-set}
 use Rattle.std.specs.Prelude.{IfSome}
 use Rattle.std.specs.List.{All}
 use Rattle.std.proofs.lemmas.Bool.{cases_eq}
@@ -16,7 +16,7 @@ use Rattle.grid_routes.specs.declared.fields.Kept.{Kept}
 use Rattle.grid_routes.specs.declared.fields.Fields.{Fields}
 use Rattle.grid_routes.specs.declared.search.Search.{Search}
 use Rattle.grid_routes.specs.Steps.{IsGoing, IsSearch}
-use Rattle.grid_routes.specs.Kept.{AreFields, AreForgotten, IsFor, IsKept, IsRoom}
+use Rattle.grid_routes.specs.Kept.{AreFields, AreForgotten, IsFor, IsKept}
 use Rattle.grid_routes.proofs.Beginning.{may-go-on}
 
 pub forgotten-none : (old : List Kept) → AreForgotten old old 0

@@ -9,6 +9,7 @@ pub mod Expanding
 pub mod StepCosts
 pub mod Filling
 pub mod Keeping
+pub mod Knowing
 pub mod Lowering
 pub mod Shelves
 pub mod Shortest

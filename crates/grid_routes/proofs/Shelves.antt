@@ -1,11 +1,52 @@
 -- Buckets after a cell is put in or a bucket is emptied.
-use Rattle.std.proofs.Common.{◌≡◌, ◌≢◌, ℕ, ◌+◌, ◌*◌, ◌<◌, ◌≤◌, ◌⊎◌, inl, inr, true, false, length, set, get_or, refl, ap, sym, ◌∙◌, arith, get_or-set_other, get_or-set_same, nat_lt}
-use Rattle.std.proofs.lemmas.Nat.{mul-add-lt, same_from_place}
-use Rattle.std.proofs.lemmas.Bool.{cases_eq, cond_both, ltb-true, ltb-false}
-use Rattle.std.proofs.lemmas.List.{get_or_default}
+use Rattle.std.proofs.Common.{◌≡◌, ◌≢◌, ℕ, zero, suc, ◌+◌, ◌*◌, ◌<◌, ◌≤◌, ◌⊎◌, ◌++◌, inl, inr, true, false, List, [], length, replicate, set, get_or, refl, ap, sym, ◌∙◌, arith, get_or-set_other, get_or-set_same, length-set, nat_lt}
+use Rattle.std.proofs.lemmas.Nat.{same_from_place}
+use Rattle.std.proofs.lemmas.Bool.{cases_eq, cases_lt, cond_both, ltb-true, ltb-false}
+use Rattle.std.proofs.lemmas.List.{get_or_append_left, get_or_default, get_or_past, length-append, length-replicate}
 use Rattle.std.proofs.lemmas.Grind.{get_or-set_at}
 use Rattle.world_units.specs.declared.cell.CPos.{CPos}
-use Rattle.grid_routes.specs.Held.{Shelves, len_of, IsAt, IsHeld, IsWhole, more, pushed, emptied}
+use Rattle.grid_routes.specs.Held.{Shelves, len_of, IsAt, IsHeld, IsWhole, corner, widened, more, pushed, emptied}
+
+-- Buckets that hold nothing.
+zeros : (n b : ℕ) → ◌≡◌ {A = ℕ} (get_or (replicate n 0) b 0) 0
+zeros zero zero = refl
+zeros zero (suc b) = refl
+zeros (suc n) zero = refl
+zeros (suc n) (suc b) = zeros n b
+
+pub none-held : (room : ℕ) → IsWhole (record { room = room; cells = []; lens = replicate 71 0; lost = false })
+none-held room = record {
+  rows = 0;
+  cells = refl;
+  lens = length-replicate {A = ℕ} 71 0;
+  fits = λ b. let none = zeros 71 b in omega (arith, none);
+  low = omega arith;
+}
+
+-- A bucket that holds a cell is one of the 71.
+low_bucket : (s : Shelves) (b i : ℕ) → IsWhole s → i < get_or s.lens b 0 → b < 71
+low_bucket s b i whole held = elim (cases_lt b 71) [
+  | inl low ↦ low
+  | inr past ↦ let none : get_or s.lens b 0 ≡ 0 = get_or_past s.lens b 0 (omega (arith, whole.lens)) in absurd (omega arith)
+]
+
+-- The rows up to a place, and what stands in them.
+widened-kept :
+    (cells : List CPos) (place n : ℕ) (c : CPos) → n < length cells → get_or (widened cells place) n c ≡ get_or cells n c
+widened-kept cells place n c within =
+    cond_both (nat_lt place (length cells)) cells (cells ++ replicate 71 corner) (λ xs. get_or xs n c ≡ get_or cells n c)
+    (λ (test : nat_lt place (length cells) ≡ true). refl)
+    (λ (test : nat_lt place (length cells) ≡ false). get_or_append_left cells (replicate 71 corner) c n within)
+
+row-more : (cells : List CPos) → length (cells ++ replicate 71 corner) ≡ length cells + 71
+row-more cells = length-append cells (replicate 71 corner) ∙ ap (λ n. length cells + n) (length-replicate 71 corner)
+
+widened-there :
+    (cells : List CPos) (place : ℕ) → place < length cells + 71 → place < length (widened cells place)
+widened-there cells place near =
+    cond_both (nat_lt place (length cells)) cells (cells ++ replicate 71 corner) (λ xs. place < length xs)
+    (λ (test : nat_lt place (length cells) ≡ true). ltb-true place (length cells) test)
+    (λ (test : nat_lt place (length cells) ≡ false). omega (arith, row-more cells))
 
 module _ (s : Shelves) (b : ℕ) (p : CPos) (whole : IsWhole s) (low : b < 71) (room : get_or s.lens b 0 < s.room) where
   len-more : (j : ℕ) → (get_or (set s.lens b (get_or s.lens b 0 + 1)) j 0 ≡ get_or s.lens j 0 + 1) ⊎ (get_or (set s.lens b (get_or s.lens b 0 + 1)) j 0 ≡ get_or s.lens j 0)
@@ -19,29 +60,34 @@ module _ (s : Shelves) (b : ℕ) (p : CPos) (whole : IsWhole s) (low : b < 71) (
   pub more-kept : (j i : ℕ) (c : CPos) → IsAt s j i c → IsAt (more s b p) j i c
   more-kept j i c at =
       let at_old : i < get_or s.lens j 0 = at.within in
-      let full : get_or s.lens j 0 ≤ s.room = whole.fits j in
+      let full : get_or s.lens j 0 ≤ whole.rows = whole.fits j in
+      let bucket : j < 71 = low_bucket s j i whole at_old in
+      let size : length s.cells ≡ 71 * whole.rows = whole.cells in
+      let place : i * 71 + j < length s.cells = omega arith in
       record {
         within = elim (len-more j) [ inl grown ↦ omega arith | inr stays ↦ omega arith ];
         cell =
-            get_or-set_other s.cells (b * s.room + get_or s.lens b 0) (j * s.room + i) p c
-            (λ (same : j * s.room + i ≡ b * s.room + get_or s.lens b 0).
-            let parts = same_from_place j i b (get_or s.lens b 0) s.room (omega arith) room same in
-            let there : get_or s.lens j 0 ≡ get_or s.lens b 0 = ap (λ k. get_or s.lens k 0) parts.0 in
-            let here : i ≡ get_or s.lens b 0 = parts.1 in
+            get_or-set_other (widened s.cells (get_or s.lens b 0 * 71 + b)) (get_or s.lens b 0 * 71 + b) (i * 71 + j) p c
+            (λ (same : i * 71 + j ≡ get_or s.lens b 0 * 71 + b).
+            let parts = same_from_place i j (get_or s.lens b 0) b 71 bucket low same in
+            let there : get_or s.lens j 0 ≡ get_or s.lens b 0 = ap (λ k. get_or s.lens k 0) parts.1 in
+            let here : i ≡ get_or s.lens b 0 = parts.0 in
             absurd (omega arith))
-            ∙ at.cell;
+            ∙ widened-kept s.cells (get_or s.lens b 0 * 71 + b) (i * 71 + j) c place ∙ at.cell;
       }
 
   pub more-held : IsHeld (more s b p) b p
   more-held =
       let within : b < length s.lens = omega (arith, whole.lens) in
-      let size : length s.cells ≡ 71 * s.room = whole.cells in
-      let place : b * s.room + get_or s.lens b 0 < length s.cells = omega (arith, mul-add-lt b s.room (get_or s.lens b 0) 71 low room) in
+      let full : get_or s.lens b 0 ≤ whole.rows = whole.fits b in
+      let size : length s.cells ≡ 71 * whole.rows = whole.cells in
+      let place : get_or s.lens b 0 * 71 + b < length (widened s.cells (get_or s.lens b 0 * 71 + b)) =
+      widened-there s.cells (get_or s.lens b 0 * 71 + b) (omega arith) in
       record {
         place = get_or s.lens b 0;
         at = record {
           within = omega (arith, get_or-set_same s.lens b (get_or s.lens b 0 + 1) 0 within);
-          cell = get_or-set_same s.cells (b * s.room + get_or s.lens b 0) p p place;
+          cell = get_or-set_same (widened s.cells (get_or s.lens b 0 * 71 + b)) (get_or s.lens b 0 * 71 + b) p p place;
         };
       }
 
@@ -51,14 +97,70 @@ module _ (s : Shelves) (b : ℕ) (p : CPos) (whole : IsWhole s) (low : b < 71) (
   pub more-grows : (j : ℕ) → get_or (set s.lens b (get_or s.lens b 0 + 1)) j 0 ≤ get_or s.lens j 0 + 1
   more-grows j = elim (len-more j) [ inl grown ↦ omega arith | inr stays ↦ omega arith ]
 
+  -- Where the place is there, the rows stay; else there is one more.
+  more-fits-in : get_or s.lens b 0 < whole.rows → (j : ℕ) → get_or (set s.lens b (get_or s.lens b 0 + 1)) j 0 ≤ whole.rows
+  more-fits-in below j =
+      let full : get_or s.lens j 0 ≤ whole.rows = whole.fits j in
+      elim (cases_eq j b) [
+        | inl same ↦
+            let grown = more-grows j in
+            let there : get_or s.lens j 0 ≡ get_or s.lens b 0 = ap (λ k. get_or s.lens k 0) same in
+            omega arith
+        | inr other ↦ let stays = more-others j other in omega arith
+      ]
+
+  pub more-whole : IsWhole (more s b p)
+  more-whole =
+      let place = get_or s.lens b 0 * 71 + b in
+      let count = length-set s.lens b (get_or s.lens b 0 + 1) in
+      cond_both (nat_lt place (length s.cells)) s.cells (s.cells ++ replicate 71 corner)
+      (λ xs. IsWhole (record s { cells = set xs place p; lens = set s.lens b (get_or s.lens b 0 + 1) }))
+      (λ (test : nat_lt place (length s.cells) ≡ true).
+      let there : place < length s.cells = ltb-true place (length s.cells) test in
+      let size : length s.cells ≡ 71 * whole.rows = whole.cells in
+      record {
+        rows = whole.rows;
+        cells = length-set s.cells place p ∙ whole.cells;
+        lens = count ∙ whole.lens;
+        fits = more-fits-in (omega arith);
+        low = whole.low;
+      })
+      (λ (test : nat_lt place (length s.cells) ≡ false).
+      let past : length s.cells ≤ place = ltb-false place (length s.cells) test in
+      let size : length s.cells ≡ 71 * whole.rows = whole.cells in
+      let full : get_or s.lens b 0 ≤ whole.rows = whole.fits b in
+      record {
+        rows = whole.rows + 1;
+        cells = length-set (s.cells ++ replicate 71 corner) place p ∙ row-more s.cells ∙ omega arith;
+        lens = count ∙ whole.lens;
+        fits = λ j. let grown = more-grows j in let old : get_or s.lens j 0 ≤ whole.rows = whole.fits j in omega arith;
+        low = omega arith;
+      })
+
 -- A place of a bucket holds one cell.
 pub only-one : (s : Shelves) (b i : ℕ) (p q : CPos) → IsWhole s → b < 71 → IsAt s b i p → IsAt s b i q → p ≡ q
 only-one s b i p q whole low first second =
     let at : i < get_or s.lens b 0 = first.within in
-    let full : get_or s.lens b 0 ≤ s.room = whole.fits b in
-    let size : length s.cells ≡ 71 * s.room = whole.cells in
-    let place : b * s.room + i < length s.cells = omega (arith, mul-add-lt b s.room i 71 low (omega arith)) in
-    sym first.cell ∙ get_or_default s.cells (b * s.room + i) p q place ∙ second.cell
+    let full : get_or s.lens b 0 ≤ whole.rows = whole.fits b in
+    let size : length s.cells ≡ 71 * whole.rows = whole.cells in
+    let place : i * 71 + b < length s.cells = omega arith in
+    sym first.cell ∙ get_or_default s.cells (i * 71 + b) p q place ∙ second.cell
+
+-- A cell that is held stands within the rows.
+pub place-within : (s : Shelves) (b i : ℕ) → IsWhole s → b < 71 → i < len_of s b → i * 71 + b < length s.cells
+place-within s b i whole low held =
+    let full : len_of s b ≤ whole.rows = whole.fits b in
+    let size : length s.cells ≡ 71 * whole.rows = whole.cells in
+    omega arith
+
+-- Where a place is past the rows, there is room for one more.
+pub row-fits :
+    (s : Shelves) (b capacity : ℕ) → IsWhole s → b < 71 → 71 * s.room ≤ capacity → len_of s b < s.room →
+    length s.cells ≤ len_of s b * 71 + b → length s.cells + 71 ≤ capacity
+row-fits s b capacity whole low enough room past =
+    let full : len_of s b ≤ whole.rows = whole.fits b in
+    let size : length s.cells ≡ 71 * whole.rows = whole.cells in
+    omega arith
 
 -- The other buckets stay where one is emptied.
 pub emptied-kept : (s : Shelves) (b : ℕ) (j i : ℕ) (c : CPos) → j ≢ b → IsAt s j i c → IsAt (emptied s b) j i c
@@ -67,6 +169,13 @@ emptied-kept s b j i c other at =
     record { within = omega (arith, get_or-set_other s.lens b j 0 0 other); cell = at.cell }
 
 module _ (s : Shelves) (b : ℕ) (p : CPos) (whole : IsWhole s) (low : b < 71) where
+  pub pushed-whole : IsWhole (pushed s b p)
+  pushed-whole =
+      cond_both (nat_lt (len_of s b) s.room) (more s b p) (record s { lost = true }) IsWhole
+      (λ (test : nat_lt (len_of s b) s.room ≡ true). more-whole s b p whole low (ltb-true (len_of s b) s.room test))
+      (λ (test : nat_lt (len_of s b) s.room ≡ false).
+      record { rows = whole.rows; cells = whole.cells; lens = whole.lens; fits = whole.fits; low = whole.low })
+
   either : (P : Shelves → Type 0) → (len_of s b < s.room → P (more s b p)) → P (record s { lost = true }) → P (pushed s b p)
   either P room full =
       cond_both (nat_lt (len_of s b) s.room) (more s b p) (record s { lost = true }) P

@@ -33,7 +33,7 @@ toll-low : (b : Bool) (x : ℕ) → x ≤ 10 → cond b x 0 ≤ 10
 toll-low true x low = low
 toll-low false x low = omega arith
 
-fare-zero : (toll : CPos → ℕ) (p : CPos) (d : ℕ) (q : CPos) → toll q ≡ 0 → fare_of toll p d q ≡ 0
+pub fare-zero : (toll : CPos → ℕ) (p : CPos) (d : ℕ) (q : CPos) → toll q ≡ 0 → fare_of toll p d q ≡ 0
 unfolding fare_of
 fare-zero toll p d q free = rw free (zero-either _ _)
 

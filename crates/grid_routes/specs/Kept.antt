@@ -2,10 +2,10 @@
 use Rattle.std.specs.Prelude.{◌≡◌, ℕ, ◌*◌, ◌<◌, ◌≤◌, All, IfSome, Bool, List, length}
 use Rattle.std.specs.Prelude.{slice_index_or, None}
 use Rattle.world_units.specs.declared.cell.CPos.{CPos}
-use Rattle.rule_traits.specs.declared.trait_fields.Costs.{Costs}
 use Rattle.game_model.specs.declared.terrain.Terrain.{Terrain}
-use Rattle.game_model.specs.Grid.{Grid, HasSize}
-use Rattle.grid_routes.specs.Tolls.{Ground, land_over, toll_in}
+use Rattle.game_model.specs.Grid.{Grid, HasSize, IsOn}
+use Rattle.grid_routes.specs.Tolls.{land_over, toll_in}
+use Rattle.grid_routes.specs.Labels.{label_of}
 use Rattle.grid_routes.specs.declared.ask.Ask.{Ask}
 use Rattle.grid_routes.specs.declared.fields.Kept.{Kept}
 use Rattle.grid_routes.specs.declared.fields.Fields.{Fields}
@@ -30,6 +30,11 @@ pub record IsFor (search : Search) (ask : Ask) : Type 0 where
   pub tolls : search.tolls ≡ record search.tolls { costs = ask.costs; goal = ask.goal }
   pub going :
       IsSearch (record { toll = toll_in search.tolls; goal = ask.goal }) search.field search.buckets
+
+-- The cell is on the map, and its label is final.
+pub record IsSettled (search : Search) (p : CPos) : Type 0 where
+  pub on : IsOn search.field.labels.width search.field.labels.height p
+  pub final : label_of search.field.labels p ≤ search.field.level
 
 -- All fields have the size of the map and are over the ground of the search.
 pub record AreFields (w h : ℕ) (fields : Fields) : Type 0 where

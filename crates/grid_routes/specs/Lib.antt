@@ -1,8 +1,12 @@
 pub mod Values
 pub mod Tolls
 pub mod Footing
+pub mod Around
+pub mod Beside
 pub mod Fares
 pub mod Kept
+pub mod KnownWalks
+pub mod Findings
 pub mod Labels
 pub mod Least
 pub mod Held

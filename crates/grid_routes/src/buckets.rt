@@ -1,5 +1,5 @@
-ghost use Rattle.std.specs.Prelude.{◌≡◌, ℕ, ◌*◌, ◌<◌, true, false, IfOk};
-ghost use Rattle.grid_routes.specs.Held.{IsAt, IsWhole, emptied, len_of, pushed};
+ghost use Rattle.std.specs.Prelude.{◌≡◌, ℕ, ◌+◌, ◌*◌, ◌<◌, ◌≤◌, length, true, false, vec_capacity, IfOk};
+ghost use Rattle.grid_routes.specs.Held.{IsAt, IsWhole, emptied, len_of, pushed, widened};
 
 use base::NoMemory;
 use std::alloc::Global;
@@ -15,7 +15,8 @@ pub(crate) const BUCKETS: u32 = 71;
 pub(crate) struct Buckets {
     /// The most cells that a bucket holds.
     room: usize,
-    /// The cells of each bucket, bucket after bucket.
+    /// The first cells of all buckets, then the second ones, and so on: as many rows as a bucket has
+    /// held, with memory for `room` rows.
     cells: Vec<CPos>,
     /// How many cells each bucket holds.
     lens: Vec<usize>,
@@ -24,6 +25,7 @@ pub(crate) struct Buckets {
 }
 
 impl Model for Buckets {
+    ghost use Rattle.std.specs.Prelude.{◌*◌, ◌≤◌, vec_capacity};
     ghost use Rattle.grid_routes.specs.Held.{Shelves, IsWhole};
 
     ghost Value = { Shelves };
@@ -39,10 +41,9 @@ impl Model for Buckets {
     ghost invariant = { λ b. IsWhole (record {
       room = b.room;
       cells = b.cells.items;
-      lens =
-          b.lens.items;
+      lens = b.lens.items;
       lost = b.lost;
-    }) };
+    }) × (71 * b.room ≤ vec_capacity b.cells) };
 }
 
 impl Buckets {
@@ -52,8 +53,7 @@ impl Buckets {
         ensures { IfOk result (λ buckets. buckets.room ≡ w * h) }
     {
         let room = usize::from(w) * usize::from(h);
-        let mut cells = Vec::new(alloc);
-        cells.resize(71 * room, CPos { x: 0, y: 0 })?;
+        let cells = Vec::with_capacity(alloc, 71 * room)?;
         let mut lens = Vec::new(alloc);
         lens.resize(71, 0)?;
         Ok(Buckets {
@@ -82,7 +82,9 @@ impl Buckets {
     {
         let len = self.lens[bucket];
         if len < self.room {
-            self.cells[bucket * self.room + len] = p;
+            let place = len * 71 + bucket;
+            widen(&mut self.cells, place);
+            self.cells[place] = p;
             self.lens[bucket] = len + 1;
         } else {
             self.lost = true;
@@ -104,7 +106,7 @@ impl Buckets {
         ensures here { IsAt self.now bucket i result }
         ensures whole { IsWhole self.now }
     {
-        self.cells[bucket * self.room + i]
+        self.cells[i * 71 + bucket]
     }
 
     /// Takes the cells of a bucket out.
@@ -129,3 +131,19 @@ impl Buckets {
         self.lost = true;
     }
 }
+
+/// Adds a row of cells where they end before a place.
+fn widen(cells: &mut Vec<CPos>, place: usize)
+    requires { length cells.old.items ≤ place → length cells.old.items + 71 ≤ vec_capacity cells.old }
+    ensures items { cells.new.items ≡ widened cells.old.items place }
+    ensures capacity { vec_capacity cells.old ≤ vec_capacity cells.new }
+{
+    if place >= cells.len() {
+        let Ok(()) = cells.extend_from_slice(&ROW) else {
+            unreachable!()
+        };
+    }
+}
+
+/// A row of cells before one is put in.
+const ROW: [CPos; 71] = [CPos { x: 0, y: 0 }; 71];

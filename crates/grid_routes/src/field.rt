@@ -1,7 +1,9 @@
 ghost use Rattle.std.specs.Prelude.{◌≡◌, IfOk};
-ghost use Rattle.game_model.specs.Grid.{IsOn, HasSize, is_on, with_cell};
+ghost use Rattle.game_model.specs.Grid.{IsOn, HasSize, is_on, place_of, with_cell};
+ghost use Rattle.grid_routes.specs.Beside.{IsPlaced};
 ghost use Rattle.grid_routes.specs.Labels.{IsFull, label_of, begun};
 
+use crate::beside::Placed;
 use base::NoMemory;
 use std::alloc::Global;
 use std::marker::Model;
@@ -92,6 +94,36 @@ impl Field {
         ensures full { IsFull self.old.labels }
     {
         self.labels[usize::from(p.y) * usize::from(self.width) + usize::from(p.x)] = label;
+    }
+
+    /// The place of a cell of the map.
+    #[inline(always)]
+    pub(crate) fn place(&self, p: CPos) -> usize
+        requires { IsOn self.now.labels.width self.now.labels.height p }
+        ensures { result ≡ place_of self.now.labels.width p }
+    {
+        usize::from(p.y) * usize::from(self.width) + usize::from(p.x)
+    }
+
+    /// The label of a cell of the map, by its place.
+    #[inline(always)]
+    pub(crate) fn label_at(&self, n: Placed) -> u32
+        requires { IsPlaced self.now.labels.width self.now.labels.height n }
+        ensures { result ≡ label_of self.now.labels n.cell }
+    {
+        self.labels[n.at]
+    }
+
+    /// Sets the label of a cell of the map, by its place.
+    #[inline(always)]
+    pub(crate) fn lower_at(&mut self, n: Placed, label: u32)
+        requires { IsPlaced self.old.labels.width self.old.labels.height n }
+        ensures value { self.new ≡ record self.old {
+          labels = with_cell self.old.labels n.cell label;
+        } }
+        ensures full { IsFull self.old.labels }
+    {
+        self.labels[n.at] = label;
     }
 
     /// Up to this the labels are final.

@@ -2,7 +2,7 @@ ghost use Rattle.std.specs.Prelude.{◌≡◌, ◌≤◌, ◌<◌, All, Some, If
 ghost use Rattle.std.specs.Prelude.{slice_set, ◌↔◌};
 ghost use Rattle.game_model.specs.Grid.{IsOn, HasSize};
 ghost use Rattle.grid_routes.specs.declared.fields.Kept.{Kept};
-ghost use Rattle.grid_routes.specs.Tolls.{IsCheap, ground_of};
+ghost use Rattle.grid_routes.specs.Tolls.{IsCheap};
 ghost use Rattle.grid_routes.specs.Labels.{label_of};
 ghost use Rattle.grid_routes.specs.Kept.{AreFields, AreForgotten, IsFor, IsRoom, IsSameGround};
 
@@ -12,7 +12,6 @@ use crate::index::{FIELDS, Index};
 use crate::search::Search;
 use base::NoMemory;
 use game_model::{Blocks, Map};
-use rule_traits::Costs;
 use std::alloc::Global;
 use std::mem;
 use world_units::CPos;
@@ -57,52 +56,32 @@ impl Fields {
     }
 
     /// Searches until the distance of a cell is final, from where the last search for this goal and
-    /// these costs over the same ground stopped. Returns whether there was none that is kept.
-    pub(crate) fn settle(
-        &mut self,
-        map: &Map,
-        blocks: &Blocks,
-        costs: &Costs,
-        from: CPos,
-        goal: CPos,
-    ) -> bool
-        requires fields { AreFields map.now.width map.now.height self.old }
-        requires terrain { HasSize map.now.width map.now.height map.now.terrain }
-        requires blocks { HasSize map.now.width map.now.height blocks.now }
-        requires costs { IsCheap costs.now }
-        requires goal { IsOn map.now.width map.now.height goal }
-        ensures fields { AreFields map.now.width map.now.height self.new }
-        ensures tolls { self.new.search.tolls ≡
-            ground_of map.now.terrain blocks.now costs.now goal }
-        ensures search { IsFor self.new.search (record { goal = goal; costs = costs.now }) }
+    /// these costs stopped. Returns whether there was none that is kept.
+    pub(crate) fn settle(&mut self, ask: &Ask, from: CPos) -> bool
+        requires fields { AreFields self.old.search.tolls.terrain.width
+            self.old.search.tolls.terrain.height self.old }
+        requires costs { IsCheap ask.now.costs }
+        requires goal { IsOn self.old.search.tolls.terrain.width
+            self.old.search.tolls.terrain.height ask.now.goal }
+        ensures fields { AreFields self.old.search.tolls.terrain.width
+            self.old.search.tolls.terrain.height self.new }
+        ensures ground { IsSameGround self.old self.new }
+        ensures search { IsFor self.new.search ask.now }
         ensures settled { label_of self.new.search.field.labels from ≤ self.new.search.field.level }
     {
-        let ask = Ask {
-            goal,
-            costs: *costs,
-        };
-        self.turn_over(map, blocks);
-        let begun = self.turn_to(&ask);
+        let goal = ask.goal;
+        let begun = self.turn_to(ask);
         self.search.settle(from, goal);
         begun
     }
 
-    /// Forgets all fields where they are over another ground than this.
-    fn turn_over(&mut self, map: &Map, blocks: &Blocks)
-        requires fields { AreFields map.now.width map.now.height self.old }
-        requires terrain { HasSize map.now.width map.now.height map.now.terrain }
-        requires blocks { HasSize map.now.width map.now.height blocks.now }
-        ensures fields { AreFields map.now.width map.now.height self.new }
-        ensures terrain { self.new.search.tolls.terrain ≡ map.now.terrain }
-        ensures blocks { self.new.search.tolls.built ≡ blocks.now }
-    {
-        if !self.search.tolls.is_over(map, blocks) {
-            self.forget(map, blocks);
-        }
+    /// Whether a field is kept for this. It need not be so: that is never relied on.
+    pub(crate) fn has(&self, ask: &Ask) -> bool {
+        self.index.has(ask)
     }
 
     /// Forgets all fields, and takes in another ground.
-    fn forget(&mut self, map: &Map, blocks: &Blocks)
+    pub(crate) fn forget(&mut self, map: &Map, blocks: &Blocks)
         requires fields { AreFields map.now.width map.now.height self.old }
         requires terrain { HasSize map.now.width map.now.height map.now.terrain }
         requires blocks { HasSize map.now.width map.now.height blocks.now }

@@ -41,16 +41,15 @@ impl Index {
         self.places.clear();
     }
 
+    /// Whether a field has a place.
+    pub(crate) fn has(&self, ask: &Ask) -> bool {
+        self.places.contains(&key_of(ask))
+    }
+
     /// The place of a field: the one that it has, else one that is not taken, else that of the
     /// field that was used longest ago. It is past the last one where memory ran out.
     pub(crate) fn place(&mut self, ask: &Ask) -> usize {
-        let key = Key {
-            goal: ask.goal,
-            clear: ask.costs.clear,
-            road: ask.costs.road,
-            rough: ask.costs.rough,
-            water: ask.costs.water,
-        };
+        let key = key_of(ask);
         match self.places.get(&key) {
             Some(place) => *place,
             None => self.taken(key),
@@ -77,5 +76,16 @@ impl Index {
                 None => self.most,
             }
         }
+    }
+}
+
+/// What the field for a question is found by.
+fn key_of(ask: &Ask) -> Key {
+    Key {
+        goal: ask.goal,
+        clear: ask.costs.clear,
+        road: ask.costs.road,
+        rough: ask.costs.rough,
+        water: ask.costs.water,
     }
 }

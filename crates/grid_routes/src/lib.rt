@@ -10,20 +10,27 @@
 //! It searches from the goal, by rings of cells that are equally far (R. B. Dial, "Algorithm 360:
 //! Shortest-path forest with topological ordering", Communications of the ACM 12, 1969), and stops
 //! as soon as the answer is sure. What it found is kept, and a later question goes on from there.
+//! So are the next steps of the walk from a cell that was asked for: a question for one of these
+//! needs no field.
 #![tactic(auto)]
 
 mod ask;
+mod beside;
 mod buckets;
 mod fares;
 mod field;
 mod fields;
+mod findings;
 mod index;
+mod known_walk;
+mod known_walks;
 mod law;
 mod route;
 mod router;
 mod search;
 mod surface;
 mod tolls;
+mod trails;
 
 pub use index::FIELDS;
 pub use law::distances_are_least;

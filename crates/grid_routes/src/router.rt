@@ -6,7 +6,8 @@ ghost use Rattle.grid_routes.specs.Tolls.{IsCheap};
 ghost use Rattle.grid_routes.specs.Routing.{AreSized, CountsOn, IsSameSize};
 ghost use Rattle.grid_routes.specs.Steps.{IsRoute};
 
-use crate::fields::Fields;
+use crate::ask::Ask;
+use crate::findings::Findings;
 use crate::index::FIELDS;
 use crate::route::Route;
 use base::NoMemory;
@@ -21,19 +22,18 @@ use world_units::CPos;
 pub struct Router {
     width: u8,
     height: u8,
-    fields: Fields,
-    computed: u64,
+    findings: Findings,
 }
 
 impl Model for Router {
-    ghost use Rattle.grid_routes.specs.Kept.{AreFields};
+    ghost use Rattle.grid_routes.specs.Findings.{AreFindings};
     ghost use Rattle.grid_routes.specs.Routing.{Routing};
 
     ghost Value = { Routing };
 
-    ghost view = { λ r. record { width = r.width; height = r.height; computed = r.computed } };
+    ghost view = { λ r. record { width = r.width; height = r.height; computed = r.findings.computed } };
 
-    ghost invariant = { λ r. AreFields r.width r.height r.fields };
+    ghost invariant = { λ r. AreFindings r.width r.height r.findings };
 }
 
 impl Router {
@@ -57,8 +57,7 @@ impl Router {
         Ok(Router {
             width: w,
             height: h,
-            fields: Fields::create(alloc, w, h, most)?,
-            computed: 0,
+            findings: Findings::create(alloc, w, h, most)?,
         })
     }
 
@@ -66,7 +65,7 @@ impl Router {
     pub fn computed(&self) -> u64
         ensures { result ≡ self.now.computed }
     {
-        self.computed
+        self.findings.computed
     }
 
     /// The least direction whose allowed step begins a walk of least cost to the goal. `None` comes
@@ -89,9 +88,11 @@ impl Router {
         ensures size { IsSameSize self.old self.new }
         ensures computed { CountsOn self.old.computed self.new.computed }
     {
-        let begun = self.fields.settle(map, blocks, costs, from, goal);
-        self.computed = counted(self.computed, begun);
-        self.fields.search.best(from, goal)
+        let ask = Ask {
+            goal,
+            costs: *costs,
+        };
+        self.findings.best_dir(map, blocks, &ask, from)
     }
 
     /// The walk that takes the best direction at each cell. `None` comes exactly where there is no
@@ -113,19 +114,12 @@ impl Router {
         ensures size { IsSameSize self.old self.new }
         ensures computed { CountsOn self.old.computed self.new.computed }
     {
-        let begun = self.fields.settle(map, blocks, costs, from, goal);
-        self.computed = counted(self.computed, begun);
-        self.fields.search.route(alloc, from, goal)
-    }
-}
-
-/// The count of fields that were begun, after one more if one was.
-fn counted(computed: u64, begun: bool) -> u64
-    ensures { CountsOn computed result }
-{
-    if begun {
-        computed.saturating_add(1)
-    } else {
-        computed
+        let ask = Ask {
+            goal,
+            costs: *costs,
+        };
+        self.findings.turn_over(map, blocks);
+        self.findings.settle(&ask, from);
+        self.findings.fields.search.route(alloc, from, goal)
     }
 }

@@ -1,9 +1,10 @@
-ghost use Rattle.std.specs.Prelude.{◌≡◌, ◌≢◌, ℕ, ◌+◌, ◌*◌, ◌%◌, ◌^◌, ◌<◌, ◌≤◌, false, Some, IfOk};
-ghost use Rattle.std.specs.Prelude.{IsTrue, IsFalse, MatchOption, length};
+ghost use Rattle.std.specs.Prelude.{◌≡◌, ◌≢◌, ℕ, ◌+◌, ◌*◌, ◌%◌, ◌^◌, ◌<◌, ◌≤◌, false, IfOk};
+ghost use Rattle.std.specs.Prelude.{IfSome, IsTrue, IsFalse, MatchOption, length};
 ghost use Rattle.world_units.specs.declared.cell.CPos.{CPos};
 ghost use Rattle.game_model.specs.Grid.{IsOn, HasSize};
 ghost use Rattle.game_model.specs.Walks.{IsBestDirection, IsStep};
 ghost use Rattle.grid_routes.specs.Tolls.{IsCheap, land_over, toll_in};
+ghost use Rattle.grid_routes.specs.Beside.{IsBeside, IsPlaced};
 ghost use Rattle.grid_routes.specs.Fares.{IsFareFrom};
 ghost use Rattle.grid_routes.specs.Labels.{IsFull, label_of};
 ghost use Rattle.grid_routes.specs.Held.{IsAt};
@@ -11,6 +12,7 @@ ghost use Rattle.grid_routes.specs.Steps.{AreQueued, FitsTogether, HasLabel, IsC
 ghost use Rattle.grid_routes.specs.Steps.{IsFilled, IsGoing, IsLead, IsLeastLead, IsNext, IsOffered};
 ghost use Rattle.grid_routes.specs.Steps.{IsOnward, IsRelaxed, IsRoute, IsSearch, Lowers, rings_left};
 
+use crate::beside::{Placed, above, below, left, left_of, right, right_of};
 use crate::buckets::{BUCKETS, Buckets};
 use crate::field::{Field, NONE};
 use crate::route::Route;
@@ -18,10 +20,7 @@ use crate::tolls::Tolls;
 use base::{List, NoMemory};
 use rule_traits::Costs;
 use std::alloc::Global;
-use world_units::{
-    CPos, DIRECTIONS, EAST, NORTH, NORTH_EAST, NORTH_WEST, SOUTH, SOUTH_EAST, SOUTH_WEST, WEST,
-    step,
-};
+use world_units::{CPos, DIRECTIONS, step};
 
 /// A search of distances from a goal, which may stop at any level and go on later.
 #[derive(Drop)]
@@ -115,6 +114,7 @@ impl Search {
     }
 
     /// Offers each neighbour of a cell of this level the walk that enters the cell.
+    #[inline(always)]
     fn expand(&mut self, q: CPos, level: u32)
         requires full { IsFull self.old.field.labels }
         requires from { label_of self.old.field.labels q ≡ level }
@@ -125,16 +125,115 @@ impl Search {
             self.old.buckets self.new.field.labels self.new.buckets }
         ensures done { IsExpanded (toll_in self.old.tolls) self.new.field.labels level q }
     {
-        let fares = self.tolls.fares(q);
+        if self.tolls.toll(q) > 0 {
+            let (width, height) = (self.field.width(), self.field.height());
+            let at = self.field.place(q);
+            self.spread(Placed { cell: q, at }, level, width, height);
+        }
+    }
+
+    /// The same, for a cell at its place on a map of this size.
+    #[inline(always)]
+    fn spread(&mut self, q: Placed, level: u32, width: u8, height: u8)
+        requires full { IsFull self.old.field.labels }
+        requires size { HasSize width height self.old.field.labels }
+        requires here { IsPlaced width height q }
+        requires from { label_of self.old.field.labels q.cell ≡ level }
+        requires low { level < 2 ^ 31 }
+        ensures tolls { self.new.tolls ≡ self.old.tolls }
+        ensures level { self.new.field.level ≡ self.old.field.level }
+        ensures lowers { Lowers (toll_in self.old.tolls) level self.old.field.labels
+            self.old.buckets self.new.field.labels self.new.buckets }
+        ensures done { IsExpanded (toll_in self.old.tolls) self.new.field.labels level q.cell }
+    {
+        let fares = self.tolls.fares(q.cell);
+        let north = above(q, width, height);
+        let south = below(q, width, height);
         let (field, buckets) = (&mut self.field, &mut self.buckets);
-        offer(field, buckets, q, NORTH, fares.straight, level);
-        offer(field, buckets, q, NORTH_EAST, fares.north_east, level);
-        offer(field, buckets, q, EAST, fares.straight, level);
-        offer(field, buckets, q, SOUTH_EAST, fares.south_east, level);
-        offer(field, buckets, q, SOUTH, fares.straight, level);
-        offer(field, buckets, q, SOUTH_WEST, fares.south_west, level);
-        offer(field, buckets, q, WEST, fares.straight, level);
-        offer(field, buckets, q, NORTH_WEST, fares.north_west, level);
+        offer(
+            field,
+            buckets,
+            q,
+            north,
+            fares.straight,
+            level,
+            width,
+            height,
+        );
+        let north_east = right_of(q, north, width, height);
+        offer(
+            field,
+            buckets,
+            q,
+            north_east,
+            fares.north_east,
+            level,
+            width,
+            height,
+        );
+        offer(
+            field,
+            buckets,
+            q,
+            right(q, width, height),
+            fares.straight,
+            level,
+            width,
+            height,
+        );
+        let south_east = right_of(q, south, width, height);
+        offer(
+            field,
+            buckets,
+            q,
+            south_east,
+            fares.south_east,
+            level,
+            width,
+            height,
+        );
+        offer(
+            field,
+            buckets,
+            q,
+            south,
+            fares.straight,
+            level,
+            width,
+            height,
+        );
+        let south_west = left_of(q, south, width, height);
+        offer(
+            field,
+            buckets,
+            q,
+            south_west,
+            fares.south_west,
+            level,
+            width,
+            height,
+        );
+        offer(
+            field,
+            buckets,
+            q,
+            left(q, width, height),
+            fares.straight,
+            level,
+            width,
+            height,
+        );
+        let north_west = left_of(q, north, width, height);
+        offer(
+            field,
+            buckets,
+            q,
+            north_west,
+            fares.north_west,
+            level,
+            width,
+            height,
+        );
     }
 
     /// Expands the cells of this level.
@@ -411,35 +510,46 @@ impl Search {
     }
 }
 
-/// Offers the neighbour of a cell of this level in direction `d` the walk that enters the cell, by a
-/// step of this cost. No step is allowed where it is 0.
+/// Offers a neighbour of a cell of this level the walk that enters the cell, by a step of this
+/// cost. No step is allowed where it is 0.
 #[inline(always)]
-fn offer(field: &mut Field, buckets: &mut Buckets, q: CPos, d: u8, fare: u32, level: u32)
-    requires direction { d < 8 }
-    requires from { label_of field.old.labels q ≡ level }
+fn offer(
+    field: &mut Field,
+    buckets: &mut Buckets,
+    q: Placed,
+    n: Option<Placed>,
+    fare: u32,
+    level: u32,
+    width: u8,
+    height: u8,
+)
+    requires size { HasSize width height field.old.labels }
+    requires there { IfSome n (IsPlaced width height) }
+    requires from { label_of field.old.labels q.cell ≡ level }
     requires low { level < 2 ^ 31 }
     requires cheap { fare ≤ 70 }
-    ensures stays { label_of field.new.labels q ≡ level }
-    ensures offers { (toll : CPos → ℕ) → IsFareFrom toll q d fare →
-        IsOffered toll q d level field.old buckets.old field.new buckets.new }
+    ensures size { HasSize width height field.new.labels }
+    ensures stays { label_of field.new.labels q.cell ≡ level }
+    ensures offers { (toll : CPos → ℕ) (d : ℕ) → d < 8 → IsFareFrom toll q.cell d fare →
+        IsBeside width height q.cell d n →
+        IsOffered toll q.cell d level field.old buckets.old field.new buckets.new }
 {
     if fare > 0 {
-        if let Some(p) = step(q, d) {
-            if field.has(p) {
-                relax(field, buckets, p, level + fare);
-            }
+        if let Some(n) = n {
+            relax(field, buckets, n, level + fare);
         }
     }
 }
 
-/// Lowers the label of a cell, if it is above this, and puts the cell into its bucket.
+/// Lowers the label of a cell of the map, if it is above this, and puts the cell into its bucket.
 #[inline(always)]
-fn relax(field: &mut Field, buckets: &mut Buckets, p: CPos, label: u32)
-    requires on { IsOn field.old.labels.width field.old.labels.height p }
-    ensures { IsRelaxed field.old buckets.old field.new buckets.new p label }
+fn relax(field: &mut Field, buckets: &mut Buckets, n: Placed, label: u32)
+    requires { IsPlaced field.old.labels.width field.old.labels.height n }
+    ensures relaxed { IsRelaxed field.old buckets.old field.new buckets.new n.cell label }
+    ensures size { HasSize field.old.labels.width field.old.labels.height field.new.labels }
 {
-    if label < field.label(p) {
-        field.lower(p, label);
-        buckets.push((label % BUCKETS) as usize, p);
+    if label < field.label_at(n) {
+        field.lower_at(n, label);
+        buckets.push((label % BUCKETS) as usize, n.cell);
     }
 }

@@ -1,18 +1,32 @@
-ghost use Rattle.std.specs.Prelude.{◌≡◌, ◌+◌, ◌<◌, IfOk};
+ghost use Rattle.std.specs.Prelude.{◌≡◌, ℕ, ◌+◌, ◌<◌, IfOk, IfSome};
+ghost use Rattle.world_units.specs.declared.cell.CPos.{CPos};
+ghost use Rattle.world_units.specs.Directions.{step_of};
 ghost use Rattle.game_model.specs.Grid.{HasSize, IsOn, with_cell};
 ghost use Rattle.game_model.specs.Terrain.{number_of};
+ghost use Rattle.grid_routes.specs.Around.{AreAround, number_in};
+ghost use Rattle.grid_routes.specs.Beside.{IsBeside, IsPlaced};
 ghost use Rattle.grid_routes.specs.Labels.{IsFull};
 ghost use Rattle.grid_routes.specs.Values.{value_in};
 ghost use Rattle.grid_routes.specs.Footing.{ArePut, IsFooting, IsRenewed, number_at};
 
+use crate::beside::{Placed, above, below, left, right};
 use base::NoMemory;
 use game_model::{Blocks, Terrain, Tiles};
 use std::alloc::Global;
 use std::marker::Model;
-use world_units::CPos;
+use world_units::{CPos, EAST, NORTH, SOUTH, WEST, step};
 
 /// The number of rock.
 pub(crate) const ROCK: u8 = 4;
+
+/// The numbers of a cell's neighbours that share a side with it, that of rock where there is none.
+#[derive(Clone, Copy)]
+pub(crate) struct Around {
+    pub(crate) north: u8,
+    pub(crate) east: u8,
+    pub(crate) south: u8,
+    pub(crate) west: u8,
+}
 
 /// What each cell of a map counts as on the way to a goal, as the number of a terrain: its own, or
 /// rock where a building stands that isn't the goal.
@@ -61,6 +75,71 @@ impl Surface {
             self.numbers[usize::from(p.y) * usize::from(self.width) + usize::from(p.x)]
         } else {
             ROCK
+        }
+    }
+
+    /// The numbers of a cell's neighbours that share a side with it.
+    #[inline(always)]
+    pub(crate) fn around(&self, q: CPos) -> Around
+        ensures { AreAround self.now q result }
+    {
+        if q.x < self.width && q.y < self.height {
+            let at = usize::from(q.y) * usize::from(self.width) + usize::from(q.x);
+            self.around_placed(Placed { cell: q, at }, self.width, self.height)
+        } else {
+            self.around_outside(q)
+        }
+    }
+
+    /// The same, for a cell at its place on the map.
+    #[inline(always)]
+    fn around_placed(&self, q: Placed, width: u8, height: u8) -> Around
+        requires size { HasSize width height self.now }
+        requires here { IsPlaced width height q }
+        ensures { AreAround self.now q.cell result }
+    {
+        Around {
+            north: self.number(above(q, width, height), width, height),
+            east: self.number(right(q, width, height), width, height),
+            south: self.number(below(q, width, height), width, height),
+            west: self.number(left(q, width, height), width, height),
+        }
+    }
+
+    /// The same, for a cell that may be outside.
+    fn around_outside(&self, q: CPos) -> Around
+        ensures { AreAround self.now q result }
+    {
+        Around {
+            north: self.beyond(q, NORTH),
+            east: self.beyond(q, EAST),
+            south: self.beyond(q, SOUTH),
+            west: self.beyond(q, WEST),
+        }
+    }
+
+    /// The number of a cell's neighbour in direction `d`, that of rock where there is none.
+    fn beyond(&self, q: CPos, d: u8) -> u8
+        requires { d < 8 }
+        ensures { result ≡ number_in self.now (step_of q d) }
+    {
+        match step(q, d) {
+            Some(p) => self.at(p),
+            None => ROCK,
+        }
+    }
+
+    /// The number of a neighbour, that of rock where there is none.
+    #[inline(always)]
+    fn number(&self, n: Option<Placed>, width: u8, height: u8) -> u8
+        requires size { HasSize width height self.now }
+        requires there { IfSome n (IsPlaced width height) }
+        ensures { (q : CPos) (d : ℕ) → IsBeside width height q d n →
+            result ≡ number_in self.now (step_of q d) }
+    {
+        match n {
+            Some(n) => self.numbers[n.at],
+            None => ROCK,
         }
     }
 

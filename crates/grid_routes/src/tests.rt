@@ -1,7 +1,7 @@
 //! Routes over small maps, and what a router keeps from one question to the next.
 
 ghost use Rattle.std.specs.Prelude.{IfOk};
-ghost use Rattle.std.specs.Prelude.{◌≡◌, ◌≤◌};
+ghost use Rattle.std.specs.Prelude.{◌≡◌, ◌≤◌, ◌<◌};
 ghost use Rattle.game_model.specs.Grid.{HasSize, IsOn};
 ghost use Rattle.grid_routes.specs.Routing.{AreSized, IsMapSized, IsSameSize};
 ghost use Rattle.grid_routes.specs.Tolls.{IsCheap};
@@ -155,17 +155,23 @@ fn ask_often(router: &mut Router, map: &Map, blocks: &Blocks, costs: &Costs, fro
     }
 }
 
-/// Asks for a goal after the other.
-fn ask_for_goals(router: &mut Router, map: &Map, blocks: &Blocks, costs: &Costs, count: u8)
+/// Asks from a cell for a goal after the other, from the first column on.
+fn ask_for_goals(router: &mut Router, map: &Map, blocks: &Blocks, from: u8, count: u8)
     requires sizes { AreSized router.old map.now blocks.now }
-    requires costs { IsCheap costs.now }
-    requires width { map.now.width ≡ 40 }
+    requires width { map.now.width ≡ 60 }
     requires height { map.now.height ≡ 1 }
-    requires count { count ≤ 40 }
+    requires from { from < 60 }
+    requires count { count ≤ 60 }
     ensures { IsSameSize router.old router.new }
 {
     for x in 0..count {
-        let _direction = router.best_dir(map, blocks, costs, CPos { x: 0, y: 0 }, CPos { x, y: 0 });
+        let _direction = router.best_dir(
+            map,
+            blocks,
+            &EVEN,
+            CPos { x: from, y: 0 },
+            CPos { x, y: 0 },
+        );
     }
 }
 
@@ -192,15 +198,105 @@ fn a_field_is_kept_until_a_building_comes_or_dies(rt: HostRuntime) -> Result<(),
 #[test]
 fn fields_of_the_last_32_goals_are_kept(rt: HostRuntime) -> Result<(), Fail> {
     let alloc = rt.alloc();
-    let map = map_of(alloc, 40, 1, "")?;
-    let blocks = Blocks::create(alloc, 40, 1)?;
-    let mut router = Router::create(alloc, 40, 1)?;
-    ask_for_goals(&mut router, &map, &blocks, &EVEN, 32);
-    ask_for_goals(&mut router, &map, &blocks, &EVEN, 32);
+    let map = map_of(alloc, 60, 1, "")?;
+    let blocks = Blocks::create(alloc, 60, 1)?;
+    let mut router = Router::create(alloc, 60, 1)?;
+    ask_for_goals(&mut router, &map, &blocks, 59, 32);
+    ask_for_goals(&mut router, &map, &blocks, 43, 32);
     assert_eq!(rt; router.computed(), 32);
-    ask_for_goals(&mut router, &map, &blocks, &EVEN, 33);
+    ask_for_goals(&mut router, &map, &blocks, 43, 33);
     assert_eq!(rt; router.computed(), 33);
-    ask_for_goals(&mut router, &map, &blocks, &EVEN, 1);
+    ask_for_goals(&mut router, &map, &blocks, 20, 1);
     assert_eq!(rt; router.computed(), 34);
+    Ok(())
+}
+
+/// Asks for the actors on each row, one that goes through its first half and one that goes through
+/// its second half, when each has taken so many steps.
+fn ask_on_rows(router: &mut Router, map: &Map, blocks: &Blocks, taken: u8)
+    requires sizes { AreSized router.old map.now blocks.now }
+    requires width { map.now.width ≡ 41 }
+    requires height { map.now.height ≡ 150 }
+    requires taken { taken < 20 }
+    ensures { IsSameSize router.old router.new }
+{
+    for y in 0..150 {
+        let (from, goal) = (CPos { x: taken, y }, CPos { x: 19, y });
+        let _first = router.best_dir(map, blocks, &EVEN, from, goal);
+        let (from, goal) = (CPos { x: 20 + taken, y }, CPos { x: 39, y });
+        let _second = router.best_dir(map, blocks, &EVEN, from, goal);
+    }
+}
+
+/// Asks for all of these at each of the first steps of their walks.
+fn walk_on_rows(router: &mut Router, map: &Map, blocks: &Blocks)
+    requires sizes { AreSized router.old map.now blocks.now }
+    requires width { map.now.width ≡ 41 }
+    requires height { map.now.height ≡ 150 }
+    ensures { IsSameSize router.old router.new }
+{
+    for taken in 0..6 {
+        ask_on_rows(router, map, blocks, taken);
+    }
+}
+
+/// Asks for the actors on twenty rows and for those on twenty columns that cross these, when each
+/// has taken so many steps.
+fn ask_across(router: &mut Router, map: &Map, blocks: &Blocks, taken: u8)
+    requires sizes { AreSized router.old map.now blocks.now }
+    requires width { map.now.width ≡ 40 }
+    requires height { map.now.height ≡ 40 }
+    requires taken { taken < 40 }
+    ensures { IsSameSize router.old router.new }
+{
+    for i in 0..20 {
+        let (from, goal) = (
+            CPos {
+                x: taken,
+                y: 20 + i,
+            },
+            CPos { x: 39, y: 20 + i },
+        );
+        let _on_row = router.best_dir(map, blocks, &EVEN, from, goal);
+        let (from, goal) = (CPos { x: i, y: taken }, CPos { x: i, y: 39 });
+        let _on_column = router.best_dir(map, blocks, &EVEN, from, goal);
+    }
+}
+
+/// Asks for all of these at each step of their walks.
+fn walk_across(router: &mut Router, map: &Map, blocks: &Blocks)
+    requires sizes { AreSized router.old map.now blocks.now }
+    requires width { map.now.width ≡ 40 }
+    requires height { map.now.height ≡ 40 }
+    ensures { IsSameSize router.old router.new }
+{
+    for taken in 0..39 {
+        ask_across(router, map, blocks, taken);
+    }
+}
+
+#[test]
+fn walks_to_300_goals_by_turns_are_searched_once(rt: HostRuntime) -> Result<(), Fail> {
+    let alloc = rt.alloc();
+    let map = map_of(alloc, 41, 150, "")?;
+    let mut blocks = Blocks::create(alloc, 41, 150)?;
+    let mut router = Router::create(alloc, 41, 150)?;
+    walk_on_rows(&mut router, &map, &blocks);
+    assert_eq!(rt; router.computed(), 300);
+    blocks.set(CPos { x: 40, y: 7 }, true);
+    let (from, goal) = (CPos { x: 3, y: 0 }, CPos { x: 19, y: 0 });
+    let _known_no_more = router.best_dir(&map, &blocks, &EVEN, from, goal);
+    assert_eq!(rt; router.computed(), 301);
+    Ok(())
+}
+
+#[test]
+fn walks_that_cross_are_searched_once(rt: HostRuntime) -> Result<(), Fail> {
+    let alloc = rt.alloc();
+    let map = map_of(alloc, 40, 40, "")?;
+    let blocks = Blocks::create(alloc, 40, 40)?;
+    let mut router = Router::create(alloc, 40, 40)?;
+    walk_across(&mut router, &map, &blocks);
+    assert_eq!(rt; router.computed(), 40);
     Ok(())
 }

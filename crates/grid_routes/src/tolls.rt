@@ -1,5 +1,5 @@
 ghost use Rattle.std.specs.Prelude.{◌≡◌, ◌↔◌, ◌<◌, ◌≤◌, ◌&&◌, if◌then◌else◌, IfOk, IsTrue};
-ghost use Rattle.std.specs.Prelude.{slice_index_or};
+ghost use Rattle.std.specs.Prelude.{nat_lt, slice_index_or};
 ghost use Rattle.world_units.specs.Directions.{step_of};
 ghost use Rattle.game_model.specs.Grid.{HasSize};
 ghost use Rattle.game_model.specs.Walks.{fare_of, is_free};
@@ -14,7 +14,7 @@ use game_model::{Blocks, Map, Tiles};
 use rule_traits::Costs;
 use std::alloc::Global;
 use std::marker::Model;
-use world_units::{CPos, DIRECTIONS, EAST, NORTH, SOUTH, WEST, step};
+use world_units::{CPos, DIRECTIONS, step};
 
 /// What a step straight on costs on ground of cost 1.
 const STRAIGHT: u32 = 5;
@@ -169,10 +169,11 @@ impl Tolls {
     {
         let toll = u32::from(self.toll(q));
         let across = ACROSS * toll;
-        let north = self.is_free(q, NORTH);
-        let east = self.is_free(q, EAST);
-        let south = self.is_free(q, SOUTH);
-        let west = self.is_free(q, WEST);
+        let around = self.surface.around(q);
+        let north = is_open(&self.charges, around.north);
+        let east = is_open(&self.charges, around.east);
+        let south = is_open(&self.charges, around.south);
+        let west = is_open(&self.charges, around.west);
         Fares {
             straight: STRAIGHT * toll,
             north_east: fare_between(north, east, across),
@@ -206,4 +207,12 @@ fn charge(charges: &[u8; TERRAINS], number: u8) -> u8
         Some(charge) => *charge,
         None => 0,
     }
+}
+
+/// Whether the terrain of this number can be entered.
+#[inline(always)]
+fn is_open(charges: &[u8; TERRAINS], number: u8) -> bool
+    ensures { result ≡ nat_lt 0 (slice_index_or charges.now number 0) }
+{
+    charge(charges, number) > 0
 }

@@ -3,9 +3,9 @@ use Rattle.grid_routes.specs.Labels.{label_of}
 use Rattle.grid_routes.proofs.Lowering.{relaxed-all}
 use Rattle.grid_routes.proofs.search.relax.Goals as goal
 
-pub returns-then-label : goal.returns-then-label
-returns-then-label c =
-    let less : c.args.label < label_of c.args.field.now.labels c.args.p = rw c.label.ensures at c.if-label.true in
-    rw (c.push.ensures.value, c.lower.ensures.value)
-    (relaxed-all c.args.field.now c.args.buckets.now c.args.p c.args.label c.lower.ensures.full c.push.ensures.whole
+pub returns-then-label-label_at-clause-relaxed : goal.returns-then-label-label_at-clause-relaxed
+returns-then-label-label_at-clause-relaxed c =
+    let less : c.args.label < label_of c.args.field.now.labels c.args.n.cell = rw c.label_at.ensures at c.if-label-label_at.true in
+    rw (c.push.ensures.value, c.lower_at.ensures.value)
+    (relaxed-all c.args.field.now c.args.buckets.now c.args.n.cell c.args.label c.lower_at.ensures.full c.push.ensures.whole
     c.requires.on less)

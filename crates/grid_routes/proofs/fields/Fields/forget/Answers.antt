@@ -1,4 +1,4 @@
-use Rattle.std.proofs.Common.{sym, subst, ◌∙◌}
+use Rattle.std.proofs.Common.{sym, subst}
 use Rattle.game_model.specs.Grid.{HasSize}
 use Rattle.grid_routes.specs.Tolls.{Ground}
 use Rattle.grid_routes.proofs.Keeping.{forgotten-kept}

@@ -1,4 +1,4 @@
-use Rattle.std.proofs.Common.{ap, sym, subst, arith, ◌∙◌, length, List, length-set}
+use Rattle.std.proofs.Common.{sym, subst, length-set}
 use Rattle.game_model.specs.Grid.{HasSize}
 use Rattle.grid_routes.specs.Labels.{Distances}
 use Rattle.grid_routes.specs.declared.fields.Kept.{Kept}

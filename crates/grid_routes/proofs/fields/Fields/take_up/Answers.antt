@@ -1,4 +1,4 @@
-use Rattle.std.proofs.Common.{ap, sym, subst, arith, ◌∙◌, length, List, None, length-set}
+use Rattle.std.proofs.Common.{sym, subst, ◌∙◌, None, length-set}
 use Rattle.std.specs.List.{All}
 use Rattle.game_model.specs.Grid.{HasSize}
 use Rattle.grid_routes.specs.Tolls.{Ground}

@@ -1,34 +1,29 @@
+use Rattle.std.proofs.Common.{◌<◌, arith}
+use Rattle.grid_routes.specs.declared.field.TheConstants.{NONE}
+use Rattle.grid_routes.specs.Labels.{label_of}
 use Rattle.grid_routes.specs.Tolls.{toll_in}
-use Rattle.grid_routes.proofs.Expanding.{offered-all, offered-eight}
+use Rattle.grid_routes.proofs.Expanding.{expanded-free}
+use Rattle.grid_routes.proofs.Lowering.{lowers-refl}
+use Rattle.grid_routes.proofs.Filling.{labelled-on}
 use Rattle.grid_routes.proofs.search.Search.expand.Goals as goal
 
-pub returns-clause-level : goal.returns-clause-level
-returns-clause-level c =
-    let toll = toll_in c.args.self.now.tolls in
-    let fares = c.fares-fares.ensures in
-    (offered-eight toll c.args.q c.args.level _ _ _ _ _ _ _ _ _ _ _ _ _ _ _ _ _ _
-    (c.offer.ensures.offers toll fares.north) (c.offer-2.ensures.offers toll fares.north_east)
-    (c.offer-3.ensures.offers toll fares.east) (c.offer-4.ensures.offers toll fares.south_east)
-    (c.offer-5.ensures.offers toll fares.south) (c.offer-6.ensures.offers toll fares.south_west)
-    (c.offer-7.ensures.offers toll fares.west) (c.offer-8.ensures.offers toll fares.north_west)).same_level
+pub place-at-requires : goal.place-at-requires
+place-at-requires c =
+    let less : label_of c.args.self.now.field.labels c.args.q < NONE = omega (arith, c.requires.from, c.requires.low) in
+    labelled-on c.args.self.now.field.labels c.args.q less
 
-pub returns-clause-lowers : goal.returns-clause-lowers
-returns-clause-lowers c =
-    let toll = toll_in c.args.self.now.tolls in
-    let fares = c.fares-fares.ensures in
-    (offered-eight toll c.args.q c.args.level _ _ _ _ _ _ _ _ _ _ _ _ _ _ _ _ _ _
-    (c.offer.ensures.offers toll fares.north) (c.offer-2.ensures.offers toll fares.north_east)
-    (c.offer-3.ensures.offers toll fares.east) (c.offer-4.ensures.offers toll fares.south_east)
-    (c.offer-5.ensures.offers toll fares.south) (c.offer-6.ensures.offers toll fares.south_west)
-    (c.offer-7.ensures.offers toll fares.west) (c.offer-8.ensures.offers toll fares.north_west)).lowers
+pub spread-requires-clause-here : goal.spread-requires-clause-here
+spread-requires-clause-here c =
+    let less : label_of c.args.self.now.field.labels c.args.q < NONE = omega (arith, c.requires.from, c.requires.low) in
+    rw (c.width-width.ensures, c.height-height.ensures)
+    (record { on = labelled-on c.args.self.now.field.labels c.args.q less; at = c.place-at.ensures })
 
-pub returns-clause-done : goal.returns-clause-done
-returns-clause-done c =
-    let toll = toll_in c.args.self.now.tolls in
-    let fares = c.fares-fares.ensures in
-    offered-all toll _ _ _ _ c.args.q c.args.level c.requires.full
-    (offered-eight toll c.args.q c.args.level _ _ _ _ _ _ _ _ _ _ _ _ _ _ _ _ _ _
-    (c.offer.ensures.offers toll fares.north) (c.offer-2.ensures.offers toll fares.north_east)
-    (c.offer-3.ensures.offers toll fares.east) (c.offer-4.ensures.offers toll fares.south_east)
-    (c.offer-5.ensures.offers toll fares.south) (c.offer-6.ensures.offers toll fares.south_west)
-    (c.offer-7.ensures.offers toll fares.west) (c.offer-8.ensures.offers toll fares.north_west))
+pub returns-else-toll-gt0-clause-lowers : goal.returns-else-toll-gt0-clause-lowers
+returns-else-toll-gt0-clause-lowers c =
+    lowers-refl (toll_in c.args.self.now.tolls) c.args.level c.args.self.now.field.labels
+    c.args.self.now.buckets
+
+pub returns-else-toll-gt0-clause-done : goal.returns-else-toll-gt0-clause-done
+returns-else-toll-gt0-clause-done c =
+    expanded-free (toll_in c.args.self.now.tolls) c.args.self.now.field.labels c.args.level c.args.q
+    (omega (arith, c.toll.ensures.value))

@@ -1,12 +1,26 @@
-use Rattle.std.proofs.Common.{refl, ◌∙◌, arith}
-use Rattle.grid_routes.specs.Tolls.{toll_in}
-use Rattle.grid_routes.proofs.Entering.{all-fares}
+use Rattle.std.proofs.Common.{◌≡◌, ℕ, Bool, nat_lt, get_or, Option, refl, subst, ◌∙◌, arith}
+use Rattle.world_units.specs.declared.cell.CPos.{CPos}
+use Rattle.world_units.specs.Directions.{step_of}
+use Rattle.game_model.specs.Walks.{is_free}
+use Rattle.grid_routes.specs.Tolls.{Ground, toll_in}
+use Rattle.grid_routes.specs.Around.{number_in}
+use Rattle.grid_routes.proofs.Entering.{all-fares, open-read}
 use Rattle.grid_routes.proofs.tolls.Tolls.fares.Goals as goal
 
 pub returns : goal.returns
 returns c =
-    all-fares (toll_in c.args.self.now) c.args.q (omega arith) (omega arith) c.from-toll.result c.is_free-north.result
-    c.is_free-east.result c.is_free-south.result c.is_free-west.result c.is_free-north.ensures c.is_free-east.ensures
-    c.is_free-south.ensures c.is_free-west.ensures (c.from-toll.ensures ∙ c.toll.ensures.value)
+    let tolls = c.self.inside in
+    let free : (o : Option CPos) (n : ℕ) (b : Bool) → b ≡ nat_lt 0 (get_or tolls.charges n 0) →
+    n ≡ number_in tolls.surface o → b ≡ is_free (toll_in c.args.self.now) o =
+    λ o n b is at.
+    subst (λ (g : Ground). b ≡ is_free (toll_in g) o) c.self.view_is
+    (open-read _ tolls.surface tolls.charges o n b c.self.invariant is at) in
+    let around = c.around-around.ensures in
+    all-fares (toll_in c.args.self.now) c.args.q (omega arith) (omega arith) c.from-toll.result c.is_open-north.result
+    c.is_open-east.result c.is_open-south.result c.is_open-west.result
+    (free (step_of c.args.q 0) _ _ c.is_open-north.ensures around.north)
+    (free (step_of c.args.q 2) _ _ c.is_open-east.ensures around.east)
+    (free (step_of c.args.q 4) _ _ c.is_open-south.ensures around.south)
+    (free (step_of c.args.q 6) _ _ c.is_open-west.ensures around.west) (c.from-toll.ensures ∙ c.toll.ensures.value)
     (omega (arith, c.from-toll.ensures, c.toll.ensures.cheap)) _ refl c.fare_between.ensures c.fare_between-2.ensures
     c.fare_between-3.ensures c.fare_between-4.ensures

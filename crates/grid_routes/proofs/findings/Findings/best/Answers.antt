@@ -1,0 +1,12 @@
+use Rattle.grid_routes.proofs.Knowing.{put_best}
+use Rattle.grid_routes.proofs.findings.Findings.best.Goals as goal
+
+pub returns-clause-found : goal.returns-clause-found
+returns-clause-found c =
+    let search = c.args.self.now.fields.search in
+    let found = c.requires.found in
+    record {
+      fields = found.fields;
+      known = put_best search.tolls.terrain search.tolls.built c.args.self.now.known.walks.items c.put.new.self.walks.items
+          c.walk_from-walk.result found.known c.walk_from-walk.ensures c.put.ensures;
+    }
