@@ -3,12 +3,14 @@
 //!
 //! `read_drill` returns the [`Drill`] that a file's bytes write, or the first fault with its line,
 //! and `read_script` the [`Scripts`] with the seed.
-//! The crate stands on `base` for lines and numbers, and on `game_orders` for orders and the limits
-//! of a match. Its definitions go from the text inward: the kept lines and their words
-//! (`specs/KeptLine.antt`, `specs/Words.antt`), how words are read (`specs/Read.antt`), the line of
-//! a match and of an event (`specs/MatchLine.antt`, `specs/EventLine.antt`), and the whole file
-//! (`specs/Drill.antt`; of a script `specs/ScriptLine.antt` and `specs/Script.antt`). The canonical text of a drill (`specs/Text.antt`) is read back as exactly
-//! this drill ([`lines_read_back`]), and that of a script as its plays ([`scripts_read_back`]).
+//! The crate stands on `base` for lines and numbers, on `game_orders` for orders and the limits of a
+//! match, and on `frame_core` for lists of plays. Its definitions go from the text inward: the kept
+//! lines and their words (`specs/KeptLine.antt`, `specs/Words.antt`), how words are read
+//! (`specs/Read.antt`), the line of a match and of an event (`specs/MatchLine.antt`,
+//! `specs/EventLine.antt`), and the whole file (`specs/Drill.antt`; of a script
+//! `specs/ScriptLine.antt` and `specs/Script.antt`). The canonical text of a drill
+//! (`specs/Text.antt`) is read back as exactly this drill ([`lines_read_back`]), and that of a
+//! script as its plays ([`scripts_read_back`]).
 #![tactic(auto)]
 
 mod drill;

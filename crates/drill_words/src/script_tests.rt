@@ -118,8 +118,9 @@ fn shown(rt: &impl Abort, alloc: Global, text: &[u8], solo: bool) -> Result<Stri
 fn show_scripts(line: &mut String, scripts: &Scripts) -> Result<(), AllocError> {
     for c in 0..scripts.clients() {
         write!(line, " /")?;
-        for orders in scripts.plays(c) {
-            show_play(line, orders)?;
+        let plays = scripts.plays(c);
+        for n in 0..plays.len() {
+            show_play(line, &plays.get(n))?;
         }
     }
     Ok(())

@@ -2,16 +2,18 @@ ghost use Rattle.std.specs.Prelude.{◌≡◌, ◌≤◌, ◌<◌, [], length, r
 ghost use Rattle.drill_words.specs.Scripts.{plays_of, with_play};
 ghost use Rattle.game_orders.specs.declared.limits.TheConstants.{MAX_CLIENTS, MAX_FRAMES};
 
-use base::{List, NoMemory};
+use base::NoMemory;
+use frame_core::PlayList;
 use game_orders::{MAX_CLIENTS, Orders};
 use std::alloc::Global;
 use std::marker::Model;
 
 /// What each client of a match plays, by rising client: its orders frame by frame from 0, at most
-/// `MAX_FRAMES` frames. There are 1 to `MAX_CLIENTS` clients.
+/// `MAX_FRAMES` frames. There are 1 to `MAX_CLIENTS` clients. A play takes 8 bytes, and each of its
+/// orders 12.
 #[derive(Drop)]
 pub struct Scripts {
-    each: Vec<List<Orders>>,
+    each: Vec<PlayList>,
 }
 
 impl Model for Scripts {
@@ -38,7 +40,7 @@ impl Scripts {
     {
         let mut each = Vec::new(alloc);
         for _client in 0..clients {
-            each.push(List::new(alloc))?;
+            each.push(PlayList::new(alloc))?;
         }
         Ok(Scripts { each })
     }
@@ -61,15 +63,15 @@ impl Scripts {
         ensures ok { OnOk result (self.new ≡ with_play self.old c orders) }
         ensures err { OnErr result (self.new ≡ self.old) }
     {
-        self.each[c as usize].push(orders)
+        self.each[c as usize].push(&orders)
     }
 
     /// What client `c`, which is below the number of clients, plays, frame by frame from 0.
-    pub fn plays(&self, c: u8) -> &[Orders]
+    pub fn plays(&self, c: u8) -> &PlayList
         requires { c < length self.now }
         ensures value { result.now ≡ plays_of self.now c }
         ensures limit { length result.now ≤ MAX_FRAMES }
     {
-        self.each[c as usize].as_slice()
+        &self.each[c as usize]
     }
 }

@@ -1,6 +1,7 @@
 pub mod Column
 pub mod Put
-pub mod StoredColumn
+pub mod StoredPlays
+pub mod PlayList
 pub mod Input
 pub mod InputLemmas
 pub mod Ready

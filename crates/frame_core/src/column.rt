@@ -1,4 +1,4 @@
-ghost use Rattle.std.specs.Prelude.{◌≡◌, ◌<◌, ◌≤◌, true, slice_get, OnOk, OnErr, IfOk, IfSome};
+ghost use Rattle.std.specs.Prelude.{◌≡◌, ◌<◌, ◌≤◌, true, OnOk, OnErr, IfOk, IfSome};
 ghost use Rattle.game_orders.specs.Entry.{is_play};
 ghost use Rattle.std.specs.Option.{option_copied};
 ghost use Rattle.frame_core.specs.Input.{input_of};
@@ -8,6 +8,7 @@ ghost use Rattle.frame_core.specs.Column.{no_column, with_entry, leave_answer, l
 use crate::input::Input;
 use crate::leaving::Leaving;
 use crate::put::Put;
+use crate::stored_plays::StoredPlays;
 use base::NoMemory;
 use game_orders::{Entry, MAX_FRAMES};
 use std::alloc::Global;
@@ -16,7 +17,7 @@ use std::marker::Model;
 /// One client's plays, then perhaps its departure.
 #[derive(Drop)]
 pub(crate) struct StoredColumn {
-    plays: Vec<Entry>,
+    plays: StoredPlays,
     left: bool,
     // a departure, to be lent where it stands
     leave: Entry,
@@ -24,17 +25,15 @@ pub(crate) struct StoredColumn {
 
 impl Model for StoredColumn {
     ghost use Rattle.frame_core.specs.Column.{Column};
-    ghost use Rattle.frame_core.specs.StoredColumn.{plays_of, ArePlays};
     ghost use Rattle.game_orders.specs.declared.entry.Entry.TheVariants.{Leave};
     ghost use Rattle.game_orders.specs.declared.limits.TheConstants.{MAX_FRAMES};
     ghost use Rattle.std.specs.Prelude.{◌≡◌, ◌≤◌, length};
 
     ghost Value = { Column };
 
-    ghost view = { λ c. record { plays = plays_of c.plays.items; left = c.left } };
+    ghost view = { λ c. record { plays = c.plays; left = c.left } };
 
-    ghost invariant = { λ c. ArePlays c.plays.items × (c.leave ≡ Leave) × (length c.plays.items ≤
-        MAX_FRAMES) };
+    ghost invariant = { λ c. (c.leave ≡ Leave) × (length c.plays ≤ MAX_FRAMES) };
 }
 
 impl StoredColumn {
@@ -43,7 +42,7 @@ impl StoredColumn {
         ensures { result ≡ no_column }
     {
         StoredColumn {
-            plays: Vec::new(alloc),
+            plays: StoredPlays::new(alloc),
             left: false,
             leave: Entry::Leave,
         }
@@ -54,7 +53,7 @@ impl StoredColumn {
         ensures value { result ≡ length_of self.now }
         ensures limit { result ≤ MAX_FRAMES }
     {
-        self.plays.as_slice().len() as u32
+        self.plays.len() as u32
     }
 
     /// Whether the departure stands.
@@ -68,13 +67,13 @@ impl StoredColumn {
     pub(crate) fn entry(&self, n: u32) -> Option<&Entry>
         ensures { option_copied result ≡ entry_at self.now n }
     {
-        if let Some(play) = play_at(&self.plays, n) {
+        if let Some(play) = self.plays.get(n as usize) {
             return Some(play);
         }
         if !self.left {
             return None;
         }
-        if n as usize != self.plays.as_slice().len() {
+        if n as usize != self.plays.len() {
             return None;
         }
         Some(&self.leave)
@@ -111,7 +110,7 @@ impl StoredColumn {
         ensures value { option_copied result ≡ has_at self.now n }
         ensures limit { IfSome result (λ e. is_play e.now ≡ true → n < MAX_FRAMES) }
     {
-        if let Some(play) = play_at(&self.plays, n) {
+        if let Some(play) = self.plays.get(n as usize) {
             return Some(play);
         }
         if !self.left {
@@ -158,10 +157,4 @@ impl StoredColumn {
         }
         Ok(())
     }
-}
-
-fn play_at(plays: &[Entry], n: u32) -> Option<&Entry>
-    ensures { option_copied result ≡ slice_get plays.now n }
-{
-    plays.get(n as usize)
 }

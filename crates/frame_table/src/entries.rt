@@ -9,7 +9,7 @@ use crate::pass::Pass;
 use crate::table::FrameTable;
 use base::NoMemory;
 use frame_core::{Columns, Leaving, Put};
-use game_orders::Entry;
+use game_orders::{Entry, Orders};
 use std::sync::Wait;
 
 impl FrameTable {
@@ -86,7 +86,18 @@ fn entry_or_leave(found: Option<&Entry>) -> Entry
     ensures { result ≡ or_leave (option_copied found.entry) }
 {
     match found {
-        Some(entry) => entry.copy(),
-        None => Entry::Leave,
+        Some(Entry::Play(orders)) => Entry::Play(copy_of(orders)),
+        _ => Entry::Leave,
+    }
+}
+
+/// The same orders once more. Most plays have none, and need no copy.
+fn copy_of(orders: &Orders) -> Orders
+    ensures { result ≡ orders.now }
+{
+    if orders.is_empty() {
+        Orders::empty()
+    } else {
+        orders.copy()
     }
 }

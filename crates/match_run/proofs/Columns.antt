@@ -1,5 +1,5 @@
 -- Columns that follow a script: what is found of them, and what a put and a departure make of them.
-use Rattle.std.proofs.Common.{◌≡◌, ℕ, zero, suc, ◌<◌, ◌≤◌, ◌==◌, ◌&&◌, nat_lt, Bool, true, false, true≢false, if◌then◌else◌, List, [], ◌∷◌, ◌++◌, length, take, get_or, refl, sym, ap, ◌∙◌, subst, inl, inr, arith, Some, None, append-nil, append_assoc, length-append}
+use Rattle.std.proofs.Common.{◌≡◌, ℕ, zero, suc, ◌<◌, ◌≤◌, ◌==◌, ◌&&◌, nat_lt, Bool, true, false, true≢false, if◌then◌else◌, List, [], ◌∷◌, ◌++◌, length, take, refl, sym, ap, ◌∙◌, subst, inl, inr, arith, Some, None, append-nil, append_assoc, length-append}
 use Rattle.std.specs.Prelude.{slice_get, Option as Maybe}
 use Rattle.std.proofs.lemmas.Bool.{ne_eqb}
 use Rattle.std.proofs.lemmas.Bool.Decides.{nat_tests}
@@ -34,11 +34,6 @@ got_some : (xs : List (List Order)) (n : ℕ) (x : List Order) → slice_get xs 
 got_some [] n x is = absurd cc
 got_some (y ∷ xs) zero x is = omega arith
 got_some (y ∷ xs) (suc n) x is = let rest = got_some xs n x is in omega arith
-
-pub got_at : (xs : List (List Order)) (n : ℕ) (x : List Order) → n < length xs → x ≡ get_or xs n x → slice_get xs n ≡ Some x
-got_at [] n x below is = absurd (omega arith)
-got_at (y ∷ xs) zero x below is = ap Some (sym is)
-got_at (y ∷ xs) (suc n) x below is = got_at xs n x (omega arith) is
 
 none_past : (xs : List (List Order)) (n : ℕ) → length xs ≤ n → slice_get xs n ≡ None
 none_past [] n past = refl

@@ -9,7 +9,6 @@ use crate::client_pass::ClientPass;
 use base::{List, NoMemory};
 use drill_words::Scripts;
 use frame_table::{FrameTable, Pass, Plan, Planned};
-use game_orders::Orders;
 use std::alloc::Global;
 
 /// The table of the scripts' clients, each column planned as its script has it, and its first pass.
@@ -32,20 +31,9 @@ fn plan_of(alloc: Global, scripts: &Scripts) -> Result<Plan, NoMemory>
 {
     let mut each = List::new(alloc);
     for c in 0..scripts.clients() {
-        each.push(Planned::Plays(copy_of(alloc, scripts.plays(c))?))?;
+        each.push(Planned::Plays(scripts.plays(c).copy(alloc)?))?;
     }
     Ok(Plan::new(each))
-}
-
-/// The same plays once more.
-fn copy_of(alloc: Global, plays: &[Orders]) -> Result<List<Orders>, NoMemory>
-    ensures { IfOk result (λ copy. copy ≡ plays.now) }
-{
-    let mut copy = List::new(alloc);
-    for orders in plays {
-        copy.push(orders.copy())?;
-    }
-    Ok(copy)
 }
 
 /// A pass for each client. Each has a part of the share of the pass, which keeps the rest.

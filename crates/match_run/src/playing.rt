@@ -78,7 +78,7 @@ fn play_script<R: Wait, G: Gate>(
     let plays = scripts.plays(c);
     for n in 0..plays.len() as u32 {
         gate.before(c, n);
-        let _answer = table.put(rt, pass, c, n, Entry::Play(plays[n as usize].copy()))?;
+        let _answer = table.put(rt, pass, c, n, Entry::Play(plays.get(n as usize)))?;
         gate.after(c, n);
     }
     let _left = table.leave(rt, pass, c);

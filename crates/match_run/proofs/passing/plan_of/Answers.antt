@@ -7,4 +7,4 @@ loop-c-preserved c =
     let far = c.loop-c.invariant in
     let end = far.1 in
     let test = c.loop-c-test.true in
-    (plan_more _ _ _ _ _ (omega arith) far.0 (c.in_ok-copy_of.ensures ∙ c.plays.ensures.value) c.in_ok-push.ensures.ok, end)
+    (plan_more _ _ _ _ _ (omega arith) far.0 (c.in_ok-copy.ensures ∙ c.plays.ensures.value) c.in_ok-push.ensures.ok, end)

@@ -3,16 +3,13 @@ use Rattle.game_orders.specs.declared.order.Order.{Order}
 use Rattle.game_orders.specs.declared.limits.TheConstants.{MAX_FRAMES}
 use Rattle.std.specs.Prelude.{slice_get}
 use Rattle.drill_words.specs.Scripts.{plays_of}
-use Rattle.match_run.proofs.Columns.{got_at}
 use Rattle.match_run.proofs.LocalPasses.{put_more, left_all}
 use Rattle.match_run.proofs.playing.play_script.Goals as goal
 
 pub loop-n-preserved : goal.loop-n-preserved
 loop-n-preserved g c =
-    let at : slice_get (plays_of c.args.scripts.now c.args.c) c.loop-n.n ≡ Some c.copy.result =
-    let below = c.loop-n-test.true in
-    let here : slice_get c.plays-plays.result.now c.loop-n.n ≡ Some c.index-plays-n.result = got_at c.plays-plays.result.now c.loop-n.n c.index-plays-n.result (omega arith) c.index-plays-n.is in
-    ap (λ (xs : List (List Order)). slice_get xs c.loop-n.n) (sym c.plays-plays.ensures.value) ∙ here ∙ ap Some (sym c.copy.ensures) in (
+    let at : slice_get (plays_of c.args.scripts.now c.args.c) c.loop-n.n ≡ Some c.get.result =
+    ap (λ (xs : List (List Order)). slice_get xs c.loop-n.n) (sym c.plays-plays.ensures.value) ∙ c.get.ensures in (
       put_more _ _ _ _ _ _ _ c.requires.client c.loop-n.invariant.0 c.put.ensures.pass _ _ at (let v = c.plays-plays.ensures.value in let l = c.plays-plays.ensures.limit in subst (λ (xs : List (List Order)). length xs ≤ MAX_FRAMES) v l) c.in_ok-_answer.ensures.ok,
       c.loop-n.invariant.1,
     )
