@@ -26,12 +26,15 @@ mod schedule;
 mod sink;
 mod source;
 mod std_sink;
+mod std_source;
 mod stored_file;
 mod sure_disk;
 mod sure_link;
 mod sure_net;
 mod sure_sink;
 mod sure_source;
+mod tcp_link;
+mod tcp_net;
 #[cfg(test)]
 mod tests;
 
@@ -50,7 +53,9 @@ pub use net::{MAX_LINKS, Net};
 pub use sink::Sink;
 pub use source::Source;
 pub use std_sink::StdSink;
+pub use std_source::StdSource;
 pub use sure_disk::SureDisk;
 pub use sure_net::SureNet;
 pub use sure_sink::SureSink;
 pub use sure_source::SureSource;
+pub use tcp_net::TcpNet;

@@ -1,4 +1,6 @@
-//! Each call that fails in turn, and the adapters over a writer and over real files.
+//! Each call that fails in turn, and the adapters over a writer, over real files and over sockets.
+ghost use Rattle.std.specs.Prelude.{◌<◌};
+
 use super::*;
 use std::alloc::{AllocError, Global};
 use std::io::Write;
@@ -301,4 +303,62 @@ fn a_sure_net_gives_its_links(rt: HostRuntime) -> Result<(), Fail> {
     assert_eq!(rt; used, [('2', 1), ('0', 2)]);
     assert_eq!(rt; (net.faults(), net.link_faults(0)), (0, 0));
     Ok(())
+}
+
+/// Listens at the first port of the loopback that is free, from this one on, and answers its address.
+fn listen_somewhere<N: Net>(alloc: Global, net: &mut N, first: u32) -> Result<String, Fail>
+    requires { first < 20_000 }
+{
+    for step in 0..200 {
+        let port = 20_000 + (first + step) % 20_000;
+        let at = format!(in alloc; "127.0.0.1:{port}")?;
+        if net.listen(&at).is_ok() {
+            return Ok(at);
+        }
+    }
+    Err(Fail::new("no port is free"))
+}
+
+#[test]
+fn links_over_tcp(rt: HostRuntime) -> Result<(), Fail> {
+    let mut host = TcpNet::new(&rt);
+    let mut guest = TcpNet::new(&rt);
+    let first = process::id(rt.process()) % 20_000;
+    let at = listen_somewhere(rt.alloc(), &mut host, first)?;
+    assert_eq!(rt; (host.links(), guest.links()), (0, 0));
+    let Ok((mut guest_in, mut guest_out)) = guest.dial(&at) else {
+        return Err(Fail::new("no link is dialled"));
+    };
+    let Ok((mut host_in, mut host_out)) = host.accept() else {
+        return Err(Fail::new("no link is accepted"));
+    };
+    assert_eq!(rt; guest_out.put(b"ping"), Ok(()));
+    assert_eq!(rt; host_out.put(b"pong!"), Ok(()));
+    let mut room = [0u8; 8];
+    assert_eq!(rt; (host_in.take(&mut room), room), (Ok(4), *b"ping\0\0\0\0"));
+    assert_eq!(rt; (guest_in.take(&mut room), room), (Ok(5), *b"pong!\0\0\0"));
+    assert_eq!(rt; (host.links(), guest.links()), (1, 1));
+    guest.take_back(0, guest_in, guest_out);
+    assert_eq!(rt; host_in.take(&mut room), Ok(0));
+    host.take_back(0, host_in, host_out);
+    assert_eq!(rt; (host.link_faults(0), guest.link_faults(0)), (0, 0));
+    Ok(())
+}
+
+#[test]
+fn a_net_without_a_listener_fails(rt: HostRuntime) {
+    let mut net = TcpNet::new(&rt);
+    assert!(rt; net.accept().is_err());
+    assert!(rt; net.listen("no address").is_err());
+    assert_eq!(rt; (net.links(), net.faults()), (0, 2));
+}
+
+#[test]
+fn a_reader_is_a_source(rt: HostRuntime) {
+    let mut source = StdSource::new(b"abcde".as_slice());
+    let mut room = [0u8; 2];
+    assert_eq!(rt; (source.take(&mut room), room), (Ok(2), *b"ab"));
+    assert_eq!(rt; (source.take(&mut room), room), (Ok(2), *b"cd"));
+    assert_eq!(rt; (source.take(&mut room), room), (Ok(1), *b"ed"));
+    assert_eq!(rt; (source.take(&mut room), source.faults()), (Ok(0), 0));
 }

@@ -137,6 +137,13 @@ impl<S: Sim> Peer<S> {
         &self.sim
     }
 
+    /// The peer's world, of which nothing else is kept.
+    pub fn into_sim(self) -> S
+        ensures { result ≡ self.world }
+    {
+        self.sim
+    }
+
     /// Delivers the agreed entry of client `c`, which is below the number of clients, at frame
     /// `n`. The first applicable case decides:
     ///
