@@ -1,6 +1,7 @@
-//! A fight of a small world, whose values come from outside.
+//! A shot. Fights of small worlds, with what is left of them, are recorded command lines in the
+//! crate `case_runs`.
 
-ghost use Rattle.std.specs.Prelude.{◌≡◌, ◌≤◌, IfOk};
+ghost use Rattle.std.specs.Prelude.{◌≡◌, IfOk};
 ghost use Rattle.rule_traits.specs.ValidRules.{IsValidKind};
 ghost use Rattle.game_model.specs.World.{new_body};
 ghost use Rattle.grid_routes.specs.Routing.{IsMapSized};
@@ -19,10 +20,8 @@ use twister::Twister;
 use world_units::{CPos, WAngle};
 use yaml_lines::Text;
 
-/// The kind 0: a gun that moves and shoots four cells far, for 10 hit points.
-fn gun(alloc: Global, damage: u32, spread: u32) -> Result<Kind, NoMemory>
-    requires damage { damage ≤ 1000 }
-    requires spread { spread ≤ 1000 }
+/// The kind 0: a gun that moves and shoots four cells far.
+fn gun(alloc: Global) -> Result<Kind, NoMemory>
     ensures { IfOk result (λ kind. IsValidKind 1 kind) }
 {
     Ok(Kind {
@@ -46,20 +45,17 @@ fn gun(alloc: Global, damage: u32, spread: u32) -> Result<Kind, NoMemory>
         valued: None,
         armament: Some(Armament {
             range: 4096,
-            damage,
-            spread,
+            damage: 3,
+            spread: 3,
             reload: 5,
         }),
     })
 }
 
 /// The rules of that kind alone.
-fn rules_of(alloc: Global, damage: u32, spread: u32) -> Result<Rules, NoMemory>
-    requires damage { damage ≤ 1000 }
-    requires spread { spread ≤ 1000 }
-{
+fn rules_of_gun(alloc: Global) -> Result<Rules, NoMemory> {
     let mut kinds = Vec::new(alloc);
-    kinds.push(gun(alloc, damage, spread)?)?;
+    kinds.push(gun(alloc)?)?;
     Rules::of(alloc, kinds)
 }
 
@@ -110,37 +106,30 @@ fn told(t: &ActorTable, id: u32) -> Option<(u32, u16, usize)> {
     Some((a.body.health, a.body.reload, a.body.acts.len()))
 }
 
-/// A gun three cells away fires once at its target, waits, and stops where that has no health left.
+/// A gun fires once at a target three cells away, which keeps 6 of its 10 hit points: the first
+/// random word of seed 1 is 1,791,095,845, which is 1 modulo 4, so that the shot has 3 and 1.
 #[test]
 fn a_gun_fires(rt: HostRuntime) -> Result<(), Fail> {
     let alloc = rt.alloc();
-    // The first random word of seed 1 is 1,791,095,845, which is 1 modulo 4.
-    let rows = [(10, 0, 0, 0), (3, 3, 6, 1), (9, 0, 1, 1), (0, 0, 10, 1)];
-    for (damage, spread, health, left) in rows {
-        let (rules, map) = (rules_of(alloc, damage, spread)?, row(alloc)?);
-        let blocks = Blocks::create(alloc, 8, 1)?;
-        let g = Ground {
-            rules: &rules,
-            map: &map,
-            blocks: &blocks,
-        };
-        let mut r = Router::create(alloc, 8, 1)?;
-        let mut t = ActorTable::create(alloc, 8, 1)?;
-        t.insert(actor(1, 0));
-        t.insert(actor(2, 3));
-        let mut dice = Twister::seeded(1);
-        let attack = Activity::Attack {
-            target: 1,
-            waits: 0,
-        };
-        set_head(&mut t, 2, attack);
-        attack_step(&mut t, &mut r, &g, &mut dice, 2);
-        assert_eq!(rt; told(&t, 1), Some((health, 0, 0)));
-        assert_eq!(rt; told(&t, 2), Some((10, 5, 1)));
-        assert_eq!(rt; dice.drawn(), 1);
-        attack_step(&mut t, &mut r, &g, &mut dice, 2);
-        assert_eq!(rt; told(&t, 2), Some((10, 5, left)));
-        assert_eq!(rt; dice.drawn(), 1);
-    }
+    let (rules, map) = (rules_of_gun(alloc)?, row(alloc)?);
+    let blocks = Blocks::create(alloc, 8, 1)?;
+    let g = Ground {
+        rules: &rules,
+        map: &map,
+        blocks: &blocks,
+    };
+    let mut r = Router::create(alloc, 8, 1)?;
+    let mut t = ActorTable::create(alloc, 8, 1)?;
+    t.insert(actor(1, 0));
+    t.insert(actor(2, 3));
+    let mut dice = Twister::seeded(1);
+    let attack = Activity::Attack {
+        target: 1,
+        waits: 0,
+    };
+    set_head(&mut t, 2, attack);
+    attack_step(&mut t, &mut r, &g, &mut dice, 2);
+    assert!(rt; told(&t, 1) == Some((6, 0, 0)));
+    assert!(rt; told(&t, 2) == Some((10, 5, 1)));
     Ok(())
 }

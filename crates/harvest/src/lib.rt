@@ -20,5 +20,3 @@ pub use steps::harvest_step;
 
 #[cfg(test)]
 mod tests;
-#[cfg(test)]
-mod worked;

@@ -1,20 +1,15 @@
-//! Whole runs over a disk and a sink in memory whose first call fails, over files of the greatest
-//! length, and over the sample. Recorded runs stand in the crate `case_runs`.
-mod sample_world;
+//! Whole runs over a disk and a sink in memory whose first call fails, and over files of the
+//! greatest length. Recorded runs stand in the crate `case_runs`.
 
 use super::run;
 use game_io::{FailingCall, MemDisk, MemSink, Remains};
 use std::alloc::{AllocError, Global};
 use std::test::Fail;
 
-/// The words of a drill, after the program's name.
-const DRILL: [&str; 3] = ["drill", "--script", "d"];
-
-/// The program's name, and these words after it.
-fn command_line(alloc: Global, words: &[&str]) -> Result<Vec<String>, AllocError> {
+/// The words of a line with a blank between each two.
+fn command_line(alloc: Global, words: &str) -> Result<Vec<String>, AllocError> {
     let mut line = Vec::new(alloc);
-    line.push(String::from_str(alloc, "lockstep")?)?;
-    for word in words {
+    for word in words.split(' ') {
         line.push(String::from_str(alloc, word)?)?;
     }
     Ok(line)
@@ -29,16 +24,11 @@ fn first_fails(alloc: Global, remains: Option<Remains>) -> Result<Vec<FailingCal
     Ok(failing)
 }
 
-/// A disk that holds these files, and in which the first read fails or none does.
-fn disk_of(
-    alloc: Global,
-    files: &[(&str, &str)],
-    read: Option<Remains>,
-) -> Result<MemDisk, AllocError> {
+/// A disk with both drills, in which the first read fails or none does.
+fn disk_of_drills(alloc: Global, read: Option<Remains>) -> Result<MemDisk, AllocError> {
     let mut disk = MemDisk::new(alloc, first_fails(alloc, read)?);
-    for (name, text) in files {
-        disk.add(alloc, name, text.as_bytes())?;
-    }
+    disk.add(alloc, "d", SEALED.as_bytes())?;
+    disk.add(alloc, "e", OUTSIDE.as_bytes())?;
     Ok(disk)
 }
 
@@ -46,7 +36,7 @@ fn disk_of(
 /// does.
 fn is_answered(
     alloc: Global,
-    words: &[&str],
+    words: &str,
     mut disk: MemDisk,
     put: Option<Remains>,
     status: u8,
@@ -63,126 +53,72 @@ const SEALED: &str = "match 1 2 1\nseal 0\n";
 
 const OUTSIDE: &str = "match 1 2 1\nseal 7\n";
 
-/// What fails: the words, the file `d`, what a failed read and a failed put leave, the status and
-/// the text.
-const FAILED: [(&[&str], &str, Option<Remains>, Option<Remains>, u8, &str); 14] = [
+/// What fails: the words, what a failed read and a failed put leave, the status and the text. A
+/// refusal may be what isn't printed; a file that is not there decides, and none after it is read.
+static FAILED: [(&str, Option<Remains>, Option<Remains>, u8, &str); 7] = [
     (
-        &DRILL,
-        SEALED,
+        "lockstep drill --script d",
         Some(Remains::Nothing),
         None,
         4,
         "fault read\n",
     ),
-    (&DRILL, SEALED, None, Some(Remains::Nothing), 5, ""),
     (
-        &DRILL,
-        SEALED,
+        "lockstep drill --script d",
         None,
         Some(Remains::Prefix(16)),
         5,
         "0 sealed 0\ncolum",
     ),
-    // Both fail.
     (
-        &DRILL,
-        SEALED,
-        Some(Remains::Nothing),
-        Some(Remains::Old),
-        5,
-        "",
-    ),
-    (
-        &DRILL,
-        SEALED,
+        "lockstep drill --script d",
         Some(Remains::Nothing),
         Some(Remains::Prefix(7)),
         5,
         "fault r",
     ),
-    // A refusal that is not printed.
     (
-        &DRILL,
-        OUTSIDE,
+        "lockstep drill --script e",
         None,
         Some(Remains::Prefix(9)),
         5,
-        "refused d",
+        "refused e",
     ),
-    (&["drill"], SEALED, None, Some(Remains::Nothing), 5, ""),
     (
-        &["dance"],
-        SEALED,
-        None,
+        "lockstep dance",
+        Some(Remains::Nothing),
         Some(Remains::Prefix(99)),
         5,
         "refused words\n",
     ),
-    // Rule files.
     (
-        &["yaml", "d"],
-        SEALED,
-        Some(Remains::Nothing),
-        None,
-        4,
-        "fault read\n",
-    ),
-    (
-        &["yaml", "d"],
-        SEALED,
-        None,
-        Some(Remains::Prefix(5)),
-        5,
-        "match",
-    ),
-    (
-        &["check", "d"],
-        SEALED,
-        None,
-        Some(Remains::Prefix(4)),
-        5,
-        "kind",
-    ),
-    // A file that is not there decides, and none after it is read before.
-    (
-        &["yaml", "a", "d"],
-        SEALED,
+        "lockstep yaml a d",
         Some(Remains::Nothing),
         None,
         3,
         "refused a 0 Missing\n",
     ),
     (
-        &["yaml", "d", "a"],
-        SEALED,
+        "lockstep yaml d a",
         Some(Remains::Nothing),
         None,
         4,
         "fault read\n",
     ),
-    // No file is read.
-    (
-        &["dance"],
-        SEALED,
-        Some(Remains::Nothing),
-        None,
-        2,
-        "refused words\n",
-    ),
 ];
 
 #[test]
 fn failures_are_printed(rt: HostRuntime) -> Result<(), Fail> {
-    for (words, script, read, put, status, text) in FAILED {
-        let disk = disk_of(rt.alloc(), &[("d", script)], read)?;
-        let right = is_answered(rt.alloc(), words, disk, put, status, text)?;
+    for (words, read, put, status, text) in FAILED.iter() {
+        let disk = disk_of_drills(rt.alloc(), *read)?;
+        let right = is_answered(rt.alloc(), *words, disk, *put, *status, *text)?;
         assert!(rt; right, "{words:?}: {status} {text}");
     }
     Ok(())
 }
 
-/// What a failed write leaves of a file that held `old`: what remains of the call, and what the file
-/// then holds, if it is there.
+/// What a failed write leaves of a file that held `old`: what remains of the call, and what the
+/// file then holds, if it is there.
 const UNWRITTEN: [(Remains, Option<&[u8]>); 3] = [
     (Remains::Old, Some(b"old")),
     (Remains::Nothing, None),
@@ -202,7 +138,7 @@ fn disk_that_fails_late(alloc: Global, remains: Remains) -> Result<MemDisk, Allo
 #[test]
 fn records_that_are_not_written(rt: HostRuntime) -> Result<(), Fail> {
     let alloc = rt.alloc();
-    let line = command_line(alloc, &["drill", "--script", "d", "--record", "r"])?;
+    let line = command_line(alloc, "lockstep drill --script d --record r")?;
     for (remains, held) in UNWRITTEN {
         let mut disk = disk_that_fails_late(alloc, remains)?;
         let mut out = MemSink::new(alloc, Vec::new(alloc));
@@ -234,7 +170,7 @@ fn long_rule_files_are_refused(rt: HostRuntime) -> Result<(), Fail> {
     ];
     for (lines, status, text) in rows {
         let disk = disk_of_lines(rt.alloc(), lines)?;
-        let right = is_answered(rt.alloc(), &["yaml", "a"], disk, None, status, text)?;
+        let right = is_answered(rt.alloc(), "lockstep yaml a", disk, None, status, text)?;
         assert!(rt; right, "{lines}");
     }
     Ok(())
