@@ -10,3 +10,6 @@ pub mod RoundLemmas
 pub mod SenderLemmas
 pub mod OneSession
 pub mod WholeSession
+pub mod DownLemmas
+pub mod TickLemmas
+pub mod PlayLemmas

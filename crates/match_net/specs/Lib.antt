@@ -9,3 +9,7 @@ pub mod Sessions
 pub mod Tests
 pub mod Sending
 pub mod SenderSession
+pub mod Playing
+pub mod Stages
+pub mod Downward
+pub mod PlayMatch

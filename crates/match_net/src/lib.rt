@@ -1,24 +1,37 @@
-//! The links of a match, on the server's side.
+//! The links of a match, on both sides.
 //!
-//! A link joins the server and one client, both ways. [`greet`] takes what the client sends first
-//! and decides whether it is in the match (`specs/Greeting.antt`). Then two threads serve the link.
-//! [`reader_session`] puts the client's plays into its column of a `frame_table` and its reports
-//! into a queue of [`report_queue`], up to the end that the bytes have (`specs/Session.antt`,
-//! `specs/Sessions.antt`). [`sender_session`] writes what the greeting says: the welcome and all
-//! columns, a refusal, or nothing (`specs/Sending.antt`, `specs/SenderSession.antt`). Each leaves no
-//! column but its client's. The crate stands on `order_packets` for the packets, on `game_io` for
-//! the links, and on `frame_table` for the columns.
+//! A link joins the server and one client, both ways. At the server [`greet`] takes what the client
+//! sends first and decides whether it is in the match (`specs/Greeting.antt`). Then two threads
+//! serve the link. [`reader_session`] puts the client's plays into its column of a `frame_table`
+//! and its reports into a queue of [`report_queue`], up to the end that the bytes have
+//! (`specs/Session.antt`, `specs/Sessions.antt`). [`sender_session`] writes what the greeting says:
+//! the welcome and all columns, a refusal, or nothing (`specs/Sending.antt`,
+//! `specs/SenderSession.antt`). Each leaves no column but its client's. At the client
+//! [`play_match`] greets and plays a script by what comes down (`specs/Playing.antt`,
+//! `specs/Stages.antt`, `specs/PlayMatch.antt`). The crate stands on `order_packets` for the
+//! packets, on `game_io` for the links, on `frame_table` for the columns, and on `peer_core` for
+//! what has reached a client.
 #![tactic(auto)]
 
+mod downward;
 mod ending;
 mod first_packet;
+mod following;
 mod greeting;
+mod halt;
 mod heard;
 mod invite;
 mod law;
 mod limits;
 mod line;
+mod next;
 mod piece;
+mod play_cause;
+mod play_end;
+mod played;
+mod player;
+mod playing;
+mod playthrough;
 mod queue_rule;
 mod read_cause;
 mod reader;
@@ -27,6 +40,7 @@ mod reading;
 mod report_ends;
 mod reporting;
 mod reports;
+mod rounds;
 mod sender;
 mod sender_end;
 mod sending;
@@ -41,7 +55,11 @@ pub use law::{
     a_links_bytes_have_one_session, a_session_begins_that_of_its_bytes,
     an_ended_session_is_that_of_its_bytes,
 };
-pub use limits::{MAX_LINK_BYTES, NO_HELLO, OTHER_RULES, OTHER_VERSION, VERSION};
+pub use limits::{MAX_LINK_BYTES, MAX_PLAY_BYTES, NO_HELLO, OTHER_RULES, OTHER_VERSION, VERSION};
+pub use play_cause::PlayCause;
+pub use play_end::PlayEnd;
+pub use played::Played;
+pub use playthrough::play_match;
 pub use read_cause::ReadCause;
 pub use reader::reader_session;
 pub use reader_end::ReaderEnd;

@@ -7,12 +7,12 @@ use crate::limits::PIECE_BYTES;
 use crate::piece::Piece;
 use base::NoMemory;
 use game_io::Source;
-use order_packets::UpFeeder;
+use order_packets::{Feeder, Packet};
 
 /// Takes one piece of at most `room` bytes from a link, and feeds it. Out of memory is its one
 /// error; then what was taken is lost.
-pub(crate) fn take_piece<I: Source>(
-    feeder: &mut UpFeeder,
+pub(crate) fn take_piece<P: Packet, I: Source>(
+    feeder: &mut Feeder<P>,
     link: &mut I,
     room: usize,
 ) -> Result<Piece, NoMemory>
@@ -29,8 +29,8 @@ pub(crate) fn take_piece<I: Source>(
 }
 
 /// Takes one piece from a link into this place, which is not empty, and feeds it.
-fn feed_from<I: Source>(
-    feeder: &mut UpFeeder,
+fn feed_from<P: Packet, I: Source>(
+    feeder: &mut Feeder<P>,
     link: &mut I,
     place: &mut [u8],
 ) -> Result<Piece, NoMemory>

@@ -1,4 +1,6 @@
-//! Sessions over links in memory.
+//! Sessions and players over links in memory.
 mod greetings;
 mod links;
+mod players;
 mod recorded;
+mod steps;

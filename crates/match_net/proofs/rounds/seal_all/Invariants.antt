@@ -1,0 +1,8 @@
+use Rattle.std.proofs.Common.{◌≡◌, ◌-◌, ◌++◌}
+use Rattle.match_net.specs.Playing.{sealed_bytes}
+use Rattle.match_net.proofs.rounds.seal_all.Given as goal
+
+abbrev pub invariant-loop-n : goal.invariant-loop-n
+invariant-loop-n l =
+    l.bytes.items ++ sealed_bytes l.script l.n (l.upto - l.n)
+    ≡ l.fn.bytes.items ++ sealed_bytes l.script l.from (l.upto - l.from)

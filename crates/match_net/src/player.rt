@@ -1,0 +1,12 @@
+use frame_core::Sim;
+use peer_core::Peer;
+
+/// A player that was welcomed.
+#[derive(Drop)]
+pub(crate) struct Player<S: Sim> {
+    pub(crate) peer: Peer<S>,
+    /// How many frames of its script it has sealed.
+    pub(crate) sealed: usize,
+    /// It writes no more: it has said farewell, or its own departure has come.
+    pub(crate) quiet: bool,
+}
