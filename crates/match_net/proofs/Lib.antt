@@ -13,3 +13,4 @@ pub mod WholeSession
 pub mod DownLemmas
 pub mod TickLemmas
 pub mod PlayLemmas
+pub mod OpeningLemmas
