@@ -113,3 +113,17 @@ going-on land f s w h size room going = record {
 
 pub may-go-on : (land : Land) (f : Distances) (s : Shelves) → IsSearch land f s → IsGoing land f
 may-go-on land f s search = record { goal = search.goal; full = search.full; fair = search.fair; right = search.right }
+
+-- A field by itself, as that of a search whose buckets are lost.
+abbrev pub no-shelves : Distances → Shelves
+no-shelves f = record { room = length f.labels.cells; cells = []; lens = []; lost = true }
+
+pub as-search : (land : Land) (f : Distances) → IsGoing land f → IsSearch land f (no-shelves f)
+as-search land f going = record {
+  goal = going.goal;
+  full = going.full;
+  room = refl;
+  fair = going.fair;
+  right = going.right;
+  queued = λ still. absurd (no-both true still refl);
+}

@@ -1,22 +1,23 @@
 -- Fields that are put back, taken up and forgotten.
 use Rattle.std.proofs.Common.{◌≡◌, ℕ, ◌+◌, ◌*◌, ◌<◌, inl, inr, Bool, length, List, get_or, set, Option, Some, None, refl, ap, sym, ◌∙◌, arith, subst, get_or-set_other, get_or-set_same, length-set}
-use Rattle.std.specs.Prelude.{IfSome}
+use Rattle.std.specs.Prelude.{IfSome, slice_get}
 use Rattle.std.specs.List.{All}
 use Rattle.std.proofs.lemmas.Bool.{cases_eq}
 use Rattle.std.proofs.lemmas.List.{get_or_read, set-set}
 use Rattle.std.proofs.lemmas.List.Elements.{All-set}
+use Rattle.std.proofs.lemmas.Option.{get_or_from_slice_get, slice_get_within}
 use Rattle.world_units.specs.declared.cell.CPos.{CPos}
 use Rattle.rule_traits.specs.declared.trait_fields.Costs.{Costs}
 use Rattle.game_model.specs.declared.terrain.Terrain.{Terrain}
-use Rattle.game_model.specs.Grid.{Grid, HasSize}
-use Rattle.grid_routes.specs.Tolls.{Ground, land_over, toll_in}
+use Rattle.game_model.specs.Grid.{Grid, HasSize, IsOn}
+use Rattle.grid_routes.specs.Tolls.{Ground, ground_of, land_over, toll_in}
 use Rattle.grid_routes.specs.Labels.{Distances}
 use Rattle.grid_routes.specs.declared.ask.Ask.{Ask}
 use Rattle.grid_routes.specs.declared.fields.Kept.{Kept}
 use Rattle.grid_routes.specs.declared.fields.Fields.{Fields}
 use Rattle.grid_routes.specs.declared.search.Search.{Search}
 use Rattle.grid_routes.specs.Steps.{IsGoing, IsSearch}
-use Rattle.grid_routes.specs.Kept.{AreFields, AreForgotten, IsFor, IsKept}
+use Rattle.grid_routes.specs.Kept.{AreFields, AreForgotten, IsFinal, IsFor, IsKept, IsOwn}
 use Rattle.grid_routes.proofs.Beginning.{may-go-on}
 
 pub forgotten-none : (old : List Kept) → AreForgotten old old 0
@@ -67,14 +68,29 @@ forgotten-kept w h terrain terrain' built built' old new forgotten kept = λ k d
       going = none-going (get_or new k d).ask _ (forgotten.none k d inside);
     }
 
+-- A search that is on its way for this, by its ground alone.
+pub for-own : (search : Search) (ask : Ask) → IsFor search ask → IsOwn search ask
+for-own search ask is =
+    subst (λ (g : Ground). IsSearch (record { toll = toll_in g; goal = ask.goal }) search.field search.buckets) is.tolls
+    is.going
+
+-- Once its tolls are turned to this, it is on its way.
+pub own-for :
+    (search : Search) (ask : Ask) → IsOwn search ask →
+    search.tolls ≡ record search.tolls { costs = ask.costs; goal = ask.goal } → IsFor search ask
+own-for search ask own turned = record {
+  tolls = turned;
+  going = subst (λ (g : Ground). IsSearch (record { toll = toll_in g; goal = ask.goal }) search.field search.buckets)
+      (sym turned) own;
+}
+
 -- The search's field, as one that is kept.
-pub for-going :
-    (search : Search) (o : Option Ask) → IfSome o (IsFor search) →
+pub own-going :
+    (search : Search) (o : Option Ask) → IfSome o (IsOwn search) →
     IfSome o (λ ask. IsGoing (land_over search.tolls.terrain search.tolls.built ask.costs ask.goal) search.field)
-for-going search None is = tt
-for-going search (Some ask) is =
-    subst (λ (g : Ground). IsGoing (record { toll = toll_in g; goal = ask.goal }) search.field) is.tolls
-    (may-go-on (record { toll = toll_in search.tolls; goal = ask.goal }) search.field search.buckets is.going)
+own-going search None own = tt
+own-going search (Some ask) own =
+    may-go-on (land_over search.tolls.terrain search.tolls.built ask.costs ask.goal) search.field search.buckets own
 
 -- A field that is found for a goal and costs may be taken up.
 pub found-going :
@@ -124,25 +140,58 @@ size-back a b w h f wide high fields =
 pub asked-for : (P : Ask → Type 0) (o : Option Ask) (ask : Ask) → o ≡ Some ask → IfSome o P → P ask
 asked-for P o ask is some = subst (λ (x : Option Ask). IfSome x P) is some
 
+-- After the tolls were turned.
+pub turned-fields :
+    (w h : ℕ) (f : Fields) (t : Ground) (costs : Costs) (goal : CPos) → AreFields w h f →
+    t ≡ record f.search.tolls { costs = costs; goal = goal } →
+    AreFields w h (record f { search = record f.search { tolls = t } })
+turned-fields w h f t costs goal fields is =
+    subst (λ (g : Ground). AreFields w h (record f { search = record f.search { tolls = g } })) (sym is)
+    (record {
+      terrain = fields.terrain;
+      size = fields.size;
+      room = fields.room;
+      search = fields.search;
+      kept = fields.kept;
+      place = fields.place;
+    })
+
 -- After the search went on.
 pub settled-fields :
-    (w h : ℕ) (f : Fields) (s : Search) (ask : Ask) → AreFields w h f → f.ask ≡ Some ask → s.tolls ≡ f.search.tolls →
-    IsSearch (record { toll = toll_in s.tolls; goal = ask.goal }) s.field s.buckets →
+    (w h : ℕ) (f : Fields) (s : Search) (ask : Ask) → AreFields w h f → f.ask ≡ Some ask → IsFor f.search ask →
+    s.tolls ≡ f.search.tolls → IsSearch (record { toll = toll_in s.tolls; goal = ask.goal }) s.field s.buckets →
     HasSize f.search.field.labels.width f.search.field.labels.height s.field.labels →
-    AreFields w h (record f { search = s })
-settled-fields w h f s ask fields asked tolls search size =
-    let before : IsFor f.search ask = asked-for (IsFor f.search) f.ask ask asked fields.search in
+    IsFor s ask × AreFields w h (record f { search = s })
+settled-fields w h f s ask fields asked before tolls search size =
     let is_for : IsFor s ask = record {
       tolls = turned s.tolls f.search.tolls ask.costs ask.goal (tolls ∙ before.tolls);
       going = search;
     } in
     let wide : s.field.labels.width ≡ w = size.width ∙ fields.size.width in
-    let high : s.field.labels.height ≡ h = size.height ∙ fields.size.height in
-    record {
-      terrain = subst (λ (g : Ground). HasSize w h g.terrain) (sym tolls) fields.terrain;
-      size = record { width = wide; height = high };
-      room = search.room ∙ search.full.size ∙ ap (λ n. n * s.field.labels.height) wide ∙ ap (λ n. w * n) high;
-      search = subst (λ (o : Option Ask). IfSome o (IsFor s)) (sym asked) is_for;
-      kept = subst (λ (g : Ground). All (IsKept w h g.terrain g.built) f.kept.items) (sym tolls) fields.kept;
-      place = fields.place;
-    }
+    let high : s.field.labels.height ≡ h = size.height ∙ fields.size.height in (
+      is_for,
+      record {
+        terrain = subst (λ (g : Ground). HasSize w h g.terrain) (sym tolls) fields.terrain;
+        size = record { width = wide; height = high };
+        room = search.room ∙ search.full.size ∙ ap (λ n. n * s.field.labels.height) wide ∙ ap (λ n. w * n) high;
+        search = subst (λ (o : Option Ask). IfSome o (IsOwn s)) (sym asked) (for-own s ask is_for);
+        kept = subst (λ (g : Ground). All (IsKept w h g.terrain g.built) f.kept.items) (sym tolls) fields.kept;
+        place = fields.place;
+      },
+    )
+
+-- A kept field that belongs to this, read over its ground.
+pub read-going :
+    (w h : ℕ) (terrain : Grid Terrain) (built : Grid Bool) (kept : List Kept) (place : ℕ) (k : Kept) (ask : Ask)
+    (p : CPos) (t : Ground) → All (IsKept w h terrain built) kept → slice_get kept place ≡ Some k →
+    IsFinal ask p k → t ≡ ground_of terrain built ask.costs ask.goal → IsOn w h p →
+    IsGoing (record { toll = toll_in t; goal = ask.goal }) k.field × IsOn k.field.labels.width k.field.labels.height p
+read-going w h terrain built kept place k ask p t all at final is on =
+    let here : get_or kept place k ≡ k = get_or_from_slice_get kept place k k at in
+    let one : IsKept w h terrain built k =
+    subst (λ (x : Kept). IsKept w h terrain built x) here (all place k (slice_get_within kept place k at)) in
+    let going : IsGoing (land_over terrain built ask.costs ask.goal) k.field =
+    asked-for (λ a. IsGoing (land_over terrain built a.costs a.goal) k.field) k.ask ask final.asked one.going in (
+      subst (λ (g : Ground). IsGoing (record { toll = toll_in g; goal = ask.goal }) k.field) (sym is) going,
+      record { column = rw one.size.width on.column; row = rw one.size.height on.row },
+    )

@@ -10,6 +10,7 @@ pub mod StepCosts
 pub mod Filling
 pub mod Keeping
 pub mod Knowing
+pub mod Looking
 pub mod Lowering
 pub mod Shelves
 pub mod Shortest

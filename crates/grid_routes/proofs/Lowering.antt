@@ -1,6 +1,7 @@
 -- Labels that fall by steps into cells of one level.
-use Rattle.std.proofs.Common.{◌≡◌, ◌≢◌, ℕ, ◌+◌, ◌%◌, ◌<◌, ◌≤◌, ◌⊎◌, inl, inr, not, nat_lt, Some, cond, length, List, set, get_or, refl, ap, sym, ◌∙◌, arith, subst, length-set}
-use Rattle.std.proofs.lemmas.Bool.{cases_eq}
+use Rattle.std.proofs.Common.{◌≡◌, ◌≢◌, ◌&&◌, Bool, true, false, ℕ, ◌+◌, ◌%◌, ◌<◌, ◌≤◌, ◌⊎◌, inl, inr, not, nat_lt, Some, cond, length, List, set, get_or, refl, ap, sym, ◌∙◌, arith, subst, length-set}
+use Rattle.std.proofs.lemmas.Bool.{cases_eq, ltb-true, ltb-false, true≢false, false≢true}
+use Rattle.std.proofs.lemmas.List.{set-get_or}
 use Rattle.std.proofs.lemmas.Bool.Decides.{nat_tests}
 use Rattle.std.proofs.lemmas.List.Sums.{sum_by-set}
 use Rattle.std.specs.List.{count_by}
@@ -11,11 +12,11 @@ use Rattle.grid_routes.specs.declared.field.TheConstants.{NONE}
 use Rattle.grid_routes.specs.Values.{value_in}
 use Rattle.game_model.specs.Walks.{IsStep, fare_of}
 use Rattle.grid_routes.specs.Labels.{Distances, IsFull, label_of, open_count}
-use Rattle.grid_routes.specs.Held.{Shelves, IsWhole, pushed}
+use Rattle.grid_routes.specs.Held.{Shelves, HasRows, IsWhole, tried}
 use Rattle.grid_routes.specs.Fares.{IsFareFrom}
 use Rattle.grid_routes.specs.Steps.{IsMade, IsOffered, IsRelaxed, Lowers, IsExpanded}
 use Rattle.grid_routes.proofs.Cells.{placed, set-here, set-other, is_on-true}
-use Rattle.grid_routes.proofs.Shelves.{pushed-kept, pushed-held, pushed-others, pushed-lost, pushed-room}
+use Rattle.grid_routes.proofs.Shelves.{Puts, tried-kept, tried-puts, tried-stays}
 
 -- Two cells are one or not.
 pub one-or-not : (p q : CPos) → (p ≡ q) ⊎ (p ≢ q)
@@ -145,19 +146,18 @@ count-with g p bound v full on new old =
 
 -- A cell that is offered a lower label.
 pub relaxed :
-    (toll : CPos → ℕ) (level : ℕ) (g : Grid ℕ) (s : Shelves) (p q : CPos) (d k : ℕ) →
-    IsFull g → IsWhole s → IsOn g.width g.height p → IsStep toll p d q k → k ≤ 70 →
+    (toll : CPos → ℕ) (level : ℕ) (g : Grid ℕ) (s t : Shelves) (p q : CPos) (d k : ℕ) →
+    IsFull g → Puts s t ((level + k) % 71) p → IsOn g.width g.height p → IsStep toll p d q k → k ≤ 70 →
     label_of g q ≡ level → level + k < label_of g p →
-    Lowers toll level g s (with_cell g p (level + k)) (pushed s ((level + k) % 71) p)
-relaxed toll level g s p q d k full whole on step cheap from less =
-    let low : (level + k) % 71 < 71 = omega arith in
+    Lowers toll level g s (with_cell g p (level + k)) t
+relaxed toll level g s t p q d k full puts on step cheap from less =
     let allowed = step.allowed in
     record {
       size = record { width = refl; height = refl };
       cells = length-set g.cells (place_of g.width p) (level + k);
       each = λ c. elim (one-or-not c p) [
         | inl same ↦
-            subst (λ (x : CPos). (label_of (with_cell g p (level + k)) x ≡ label_of g x) ⊎ IsMade toll level g (with_cell g p (level + k)) (pushed s ((level + k) % 71) p) x)
+            subst (λ (x : CPos). (label_of (with_cell g p (level + k)) x ≡ label_of g x) ⊎ IsMade toll level g (with_cell g p (level + k)) t x)
             (sym same)
             (inr (record {
               entered = q;
@@ -169,23 +169,23 @@ relaxed toll level g s p q d k full whole on step cheap from less =
               from = from;
               label = set-here NONE g p (level + k) full.size on;
               lower = less;
-              held = pushed-held s ((level + k) % 71) p whole low;
+              held = puts.held;
             }))
         | inr other ↦ inl (set-other NONE g p (level + k) c on.column other)
       ];
       count = count-with g p (level + 1) (level + k) full on (omega arith) (omega arith);
-      kept = pushed-kept s ((level + k) % 71) p whole low;
-      row = pushed-others s ((level + k) % 71) p whole low (level % 71) (λ (same : level % 71 ≡ (level + k) % 71). omega arith);
-      lost = pushed-lost s ((level + k) % 71) p whole low;
-      room = pushed-room s ((level + k) % 71) p whole low;
+      kept = puts.kept;
+      row = puts.others (level % 71) (λ (same : level % 71 ≡ (level + k) % 71). omega arith);
+      lost = puts.lost;
+      room = puts.room;
     }
 
 -- The same, as what is said of the labels and the buckets, whatever the step.
 pub relaxed-all :
-    (f : Distances) (s : Shelves) (p : CPos) (label : ℕ) → IsFull f.labels → IsWhole s →
+    (f : Distances) (s t : Shelves) (p : CPos) (label : ℕ) → IsFull f.labels → Puts s t (label % 71) p →
     IsOn f.labels.width f.labels.height p → label < label_of f.labels p →
-    IsRelaxed f s (record f { labels = with_cell f.labels p label }) (pushed s (label % 71) p) p label
-relaxed-all f s p label full whole on less =
+    IsRelaxed f s (record f { labels = with_cell f.labels p label }) t p label
+relaxed-all f s t p label full puts on less =
     let here = set-here NONE f.labels p label full.size on in
     record {
       least = omega (arith, here);
@@ -197,9 +197,71 @@ relaxed-all f s p label full whole on less =
         | inr other ↦ set-other NONE f.labels p label c on.column other
       ];
       lowers = λ toll n d k q step cheap from is.
-          subst (λ (m : ℕ). Lowers toll n f.labels s (with_cell f.labels p m) (pushed s (m % 71) p)) (sym is)
-          (relaxed toll n f.labels s p q d k full whole on step cheap from (omega (arith, is, less)));
+          let there : Puts s t ((n + k) % 71) p = subst (λ (m : ℕ). Puts s t (m % 71) p) is puts in
+          subst (λ (m : ℕ). Lowers toll n f.labels s (with_cell f.labels p m) t) (sym is)
+          (relaxed toll n f.labels s t p q d k full there on step cheap from (omega (arith, is, less)));
     }
+
+-- A label that is written again.
+pub label-again : (g : Grid ℕ) (p : CPos) → IsOn g.width g.height p → with_cell g p (label_of g p) ≡ g
+label-again g p on =
+    let made : List ℕ → Grid ℕ = λ cells. record g { cells = cells } in
+    ap (λ n. with_cell g p n) (label-read g p on) ∙ ap made (set-get_or g.cells (place_of g.width p) NONE)
+
+-- A cell that keeps its label.
+pub left-so :
+    (toll : CPos → ℕ) (level : ℕ) (g : Grid ℕ) (s : Shelves) (b : ℕ) (p : CPos) →
+    IsWhole s → b < 71 → HasRows s b 1 → Lowers toll level g s g (tried s b p false)
+left-so toll level g s b p whole low rows = record {
+  size = record { width = refl; height = refl };
+  cells = refl;
+  each = λ c. inl refl;
+  count = refl;
+  kept = tried-kept s b p false whole low rows;
+  row = tried-stays s b p whole low rows (level % 71);
+  lost = λ h. h;
+  room = refl;
+}
+
+-- A cell whose label is no greater is left so.
+pub relaxed-not :
+    (f : Distances) (s : Shelves) (p : CPos) (label : ℕ) → IsWhole s → HasRows s (label % 71) 1 →
+    label_of f.labels p ≤ label → IsRelaxed f s f (tried s (label % 71) p false) p label
+relaxed-not f s p label whole rows most = record {
+  least = most;
+  same = refl;
+  stays = λ c low. refl;
+  lowers = λ toll n d k q step cheap from is. left-so toll n f.labels s (label % 71) p whole (omega arith) rows;
+}
+
+-- What is known of a cell that was tried, by whether its label is lower.
+pub record Tried (f : Distances) (s : Shelves) (g : Distances) (t : Shelves) (p : CPos) (allowed : Bool) (label : ℕ) : Type 0 where
+  pub relaxed : allowed ≡ true → IsRelaxed f s g t p label
+  pub closed : allowed ≡ false → (toll : CPos → ℕ) (level : ℕ) → Lowers toll level f.labels s g.labels t
+
+pub tried-relaxed :
+    (f : Distances) (s : Shelves) (p : CPos) (allowed low : Bool) (label : ℕ) → IsFull f.labels → IsWhole s →
+    HasRows s (label % 71) 1 → IsOn f.labels.width f.labels.height p → low ≡ (allowed && nat_lt label (label_of f.labels p)) →
+    Tried f s (record f { labels = with_cell f.labels p (cond low label (label_of f.labels p)) }) (tried s (label % 71) p low) p allowed label
+tried-relaxed f s p true true label full whole rows on is = record {
+  relaxed = λ h. relaxed-all f s (tried s (label % 71) p true) p label full (tried-puts s (label % 71) p whole (omega arith) rows) on
+      (ltb-true label (label_of f.labels p) (sym is));
+  closed = λ h. absurd (true≢false h);
+}
+tried-relaxed f s p true false label full whole rows on is =
+    let most : label_of f.labels p ≤ label = ltb-false label (label_of f.labels p) (sym is) in
+    rw (label-again f.labels p on)
+    (record {
+      relaxed = λ h. relaxed-not f s p label whole rows most;
+      closed = λ h. absurd (true≢false h);
+    })
+tried-relaxed f s p false true label full whole rows on is = absurd (true≢false is)
+tried-relaxed f s p false false label full whole rows on is =
+    rw (label-again f.labels p on)
+    (record {
+      relaxed = λ h. absurd (false≢true h);
+      closed = λ h toll level. left-so toll level f.labels s (label % 71) p whole (omega arith) rows;
+    })
 
 -- A neighbour that is offered the walk over a cell.
 pub offered :
@@ -219,3 +281,38 @@ offered toll q p d fare level f s g t is some there from low back relaxed_to =
           let same_label : label_of g.labels r ≡ label_of g.labels p = ap (λ x. label_of g.labels x) one in
           omega (arith, cost, steps.cost, same_label, relaxed_to.least);
     }
+
+-- A neighbour to which no step is allowed: none leads there.
+pub offered-closed :
+    (toll : CPos → ℕ) (q p : CPos) (d level : ℕ) (f : Distances) (s : Shelves) (g : Distances) (t : Shelves) →
+    IsFareFrom toll q d 0 → step_of q d ≡ Some p → g.level ≡ f.level → Lowers toll level f.labels s g.labels t →
+    IsOffered toll q d level f s g t
+offered-closed toll q p d level f s g t is there same lowers = record {
+  same = same;
+  lowers = lowers;
+  done = λ r k to on steps.
+      let cost : fare_of toll r (opposite_of d) q ≡ 0 = is.cost r to in
+      absurd (omega (arith, cost, steps.cost, steps.allowed));
+}
+
+-- A neighbour that was tried was offered the walk, and what was at the level stays.
+module _ (f : Distances) (s : Shelves) (g : Distances) (t : Shelves) (q p : CPos) (fare level : ℕ) where
+  pub offered-tried :
+      (toll : CPos → ℕ) (d : ℕ) (allowed : Bool) →
+      (allowed ≡ true → IsRelaxed f s g t p (level + fare)) →
+      (allowed ≡ false → (any : CPos → ℕ) (n : ℕ) → Lowers any n f.labels s g.labels t) → g.level ≡ f.level →
+      IsFareFrom toll q d (cond allowed fare 0) → 0 < fare → step_of q d ≡ Some p → label_of f.labels q ≡ level →
+      opposite_of d < 8 → step_of p (opposite_of d) ≡ Some q → IsOffered toll q d level f s g t
+  offered-tried toll d true to closed same is some there from low back =
+      offered toll q p d fare level f s g t is some there from low back (to refl)
+  offered-tried toll d false to closed same is some there from low back =
+      offered-closed toll q p d level f s g t is there same (closed refl toll level)
+
+  pub stays-tried :
+      (allowed : Bool) →
+      (allowed ≡ true → IsRelaxed f s g t p (level + fare)) →
+      (allowed ≡ false → (any : CPos → ℕ) (n : ℕ) → Lowers any n f.labels s g.labels t) →
+      label_of f.labels q ≡ level → label_of g.labels q ≡ level
+  stays-tried true to closed from = (to refl).stays q (omega (arith, from)) ∙ from
+  stays-tried false to closed from =
+      level-stays (λ c. 0) level f.labels s g.labels t (closed refl (λ c. 0) level) q (omega (arith, from)) ∙ from

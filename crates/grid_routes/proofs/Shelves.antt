@@ -1,11 +1,12 @@
 -- Buckets after a cell is put in or a bucket is emptied.
-use Rattle.std.proofs.Common.{◌≡◌, ◌≢◌, ℕ, zero, suc, ◌+◌, ◌*◌, ◌<◌, ◌≤◌, ◌⊎◌, ◌++◌, inl, inr, true, false, List, [], length, replicate, set, get_or, refl, ap, sym, ◌∙◌, arith, get_or-set_other, get_or-set_same, length-set, nat_lt}
+use Rattle.std.proofs.Common.{◌≡◌, ◌≢◌, ℕ, zero, suc, ◌+◌, ◌*◌, ◌<◌, ◌≤◌, ◌⊎◌, ◌++◌, inl, inr, true, false, List, [], length, replicate, set, get_or, refl, ap, sym, ◌∙◌, arith, get_or-set_other, get_or-set_same, length-set, nat_lt, Bool}
+use Rattle.std.specs.Int.{from_bool}
 use Rattle.std.proofs.lemmas.Nat.{same_from_place}
 use Rattle.std.proofs.lemmas.Bool.{cases_eq, cases_lt, cond_both, ltb-true, ltb-false}
 use Rattle.std.proofs.lemmas.List.{get_or_append_left, get_or_default, get_or_past, length-append, length-replicate}
 use Rattle.std.proofs.lemmas.Grind.{get_or-set_at}
 use Rattle.world_units.specs.declared.cell.CPos.{CPos}
-use Rattle.grid_routes.specs.Held.{Shelves, len_of, IsAt, IsHeld, IsWhole, corner, widened, more, pushed, emptied}
+use Rattle.grid_routes.specs.Held.{Shelves, len_of, HasRows, IsAt, IsHeld, IsWhole, corner, widened, more, pushed, tried, emptied}
 
 -- Buckets that hold nothing.
 zeros : (n b : ℕ) → ◌≡◌ {A = ℕ} (get_or (replicate n 0) b 0) 0
@@ -209,3 +210,112 @@ module _ (s : Shelves) (b : ℕ) (p : CPos) (whole : IsWhole s) (low : b < 71) w
       cond_both (nat_lt (len_of s b) s.room) (more s b p) (record s { lost = true }) (λ n. (n.lost ≡ false) × IsHeld n b p)
       (λ (test : nat_lt (len_of s b) s.room ≡ true). (kept, more-held s b p whole low room))
       (λ (test : nat_lt (len_of s b) s.room ≡ false). let full = ltb-false (len_of s b) s.room test in absurd (omega arith))
+
+-- A cell went into its bucket, or is missing, and the rest stays.
+pub record Puts (s t : Shelves) (b : ℕ) (p : CPos) : Type 0 where
+  pub kept : (j i : ℕ) (c : CPos) → IsAt s j i c → IsAt t j i c
+  pub held : (t.lost ≡ true) ⊎ IsHeld t b p
+  pub others : (j : ℕ) → j ≢ b → len_of t j ≡ len_of s j
+  pub lost : s.lost ≡ true → t.lost ≡ true
+  pub room : t.room ≡ s.room
+
+pub pushed-puts : (s : Shelves) (b : ℕ) (p : CPos) → IsWhole s → b < 71 → Puts s (pushed s b p) b p
+pushed-puts s b p whole low = record {
+  kept = pushed-kept s b p whole low;
+  held = pushed-held s b p whole low;
+  others = pushed-others s b p whole low;
+  lost = pushed-lost s b p whole low;
+  room = pushed-room s b p whole low;
+}
+
+-- A cell that is written after the last one of a bucket.
+from_bool-low : (held : Bool) → from_bool held ≤ 1
+from_bool-low true = omega arith
+from_bool-low false = omega arith
+
+module _ (s : Shelves) (b : ℕ) (p : CPos) (held : Bool) (whole : IsWhole s) (low : b < 71) (rows : HasRows s b 1) where
+  tried-len : (j : ℕ) → ((j ≡ b) × (len_of (tried s b p held) j ≡ len_of s j + from_bool held)) ⊎ ((j ≢ b) × (len_of (tried s b p held) j ≡ len_of s j))
+  tried-len j =
+      let within : b < length s.lens = omega (arith, whole.lens) in
+      elim (cases_eq j b) [
+        | inl same ↦
+            inl (
+              same,
+              get_or-set_at s.lens b j (get_or s.lens b 0 + from_bool held) 0 same within
+                  ∙ ap (λ i. get_or s.lens i 0 + from_bool held) (sym same),
+            )
+        | inr other ↦ inr (other, get_or-set_other s.lens b j (get_or s.lens b 0 + from_bool held) 0 other)
+      ]
+
+  pub tried-grows : (j : ℕ) → len_of (tried s b p held) j ≤ len_of s j + 1
+  tried-grows j =
+      let one = from_bool-low held in
+      elim (tried-len j) [ inl grown ↦ omega (arith, grown.1, one) | inr stays ↦ omega (arith, stays.1) ]
+
+  tried-least : (j : ℕ) → len_of s j ≤ len_of (tried s b p held) j
+  tried-least j = elim (tried-len j) [ inl grown ↦ omega (arith, grown.1) | inr stays ↦ omega (arith, stays.1) ]
+
+  pub tried-cells : length (tried s b p held).cells ≡ length s.cells
+  tried-cells = length-set s.cells (len_of s b * 71 + b) p
+
+  pub tried-whole : IsWhole (tried s b p held)
+  tried-whole =
+      let one = from_bool-low held in
+      let size : length s.cells ≡ 71 * whole.rows = whole.cells in
+      record {
+        rows = whole.rows;
+        cells = tried-cells ∙ whole.cells;
+        lens = length-set s.lens b (get_or s.lens b 0 + from_bool held) ∙ whole.lens;
+        fits = λ j. let full : len_of s j ≤ whole.rows = whole.fits j in
+            elim (tried-len j) [
+              | inl grown ↦
+                  let there : len_of s j ≡ len_of s b = ap (λ k. get_or s.lens k 0) grown.0 in
+                  omega (arith, grown.1, one, rows.fit)
+              | inr stays ↦ omega (arith, stays.1)
+            ];
+        low = whole.low;
+      }
+
+  pub tried-kept : (j i : ℕ) (c : CPos) → IsAt s j i c → IsAt (tried s b p held) j i c
+  tried-kept j i c at =
+      let at_old : i < get_or s.lens j 0 = at.within in
+      let bucket : j < 71 = low_bucket s j i whole at_old in
+      let least = tried-least j in
+      record {
+        within = omega (arith, least);
+        cell =
+            get_or-set_other s.cells (get_or s.lens b 0 * 71 + b) (i * 71 + j) p c
+            (λ (same : i * 71 + j ≡ get_or s.lens b 0 * 71 + b).
+            let parts = same_from_place i j (get_or s.lens b 0) b 71 bucket low same in
+            let there : get_or s.lens j 0 ≡ get_or s.lens b 0 = ap (λ k. get_or s.lens k 0) parts.1 in
+            let here : i ≡ get_or s.lens b 0 = parts.0 in
+            absurd (omega arith))
+            ∙ at.cell;
+      }
+
+  pub tried-others : (j : ℕ) → j ≢ b → len_of (tried s b p held) j ≡ len_of s j
+  tried-others j other = elim (tried-len j) [ inl grown ↦ absurd (other grown.0) | inr stays ↦ stays.1 ]
+
+-- The bucket holds the cell, if so told.
+pub tried-puts : (s : Shelves) (b : ℕ) (p : CPos) → IsWhole s → b < 71 → HasRows s b 1 → Puts s (tried s b p true) b p
+tried-puts s b p whole low rows =
+    let within : b < length s.lens = omega (arith, whole.lens) in
+    let place : get_or s.lens b 0 * 71 + b < length s.cells = omega (arith, rows.fit) in
+    record {
+      kept = tried-kept s b p true whole low rows;
+      held = inr (record {
+        place = get_or s.lens b 0;
+        at = record {
+          within = omega (arith, get_or-set_same s.lens b (get_or s.lens b 0 + 1) 0 within);
+          cell = get_or-set_same s.cells (get_or s.lens b 0 * 71 + b) p p place;
+        };
+      });
+      others = tried-others s b p true whole low rows;
+      lost = λ lost. lost;
+      room = refl;
+    }
+
+-- Else no length changes.
+pub tried-stays : (s : Shelves) (b : ℕ) (p : CPos) → IsWhole s → b < 71 → HasRows s b 1 → (j : ℕ) → len_of (tried s b p false) j ≡ len_of s j
+tried-stays s b p whole low rows j =
+    elim (tried-len s b p false whole low rows j) [ inl grown ↦ omega (arith, grown.1) | inr stays ↦ stays.1 ]

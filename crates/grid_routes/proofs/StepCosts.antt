@@ -5,7 +5,7 @@ use Rattle.world_units.specs.declared.cell.CPos.{CPos}
 use Rattle.rule_traits.specs.declared.trait_fields.Costs.{Costs}
 use Rattle.game_model.specs.declared.terrain.Terrain.{Terrain}
 use Rattle.game_model.specs.declared.terrain.Terrain.TheVariants.{Clear, Road, Rough, Water, Rock}
-use Rattle.game_model.specs.Grid.{Grid, HasSize, IsOn, is_on, place_of, at_cell}
+use Rattle.game_model.specs.Grid.{Grid, HasSize, IsOn, is_on, at_cell}
 use Rattle.game_model.specs.Walks.{IsStep, cost_at, fare_of, toll_of}
 use Rattle.grid_routes.specs.Tolls.{IsCheap}
 use Rattle.grid_routes.specs.Steps.{IsFair}

@@ -1,5 +1,6 @@
 -- Cells in buckets.
 use Rattle.std.specs.Prelude.{◌≡◌, ℕ, ◌+◌, ◌*◌, ◌<◌, ◌≤◌, ◌++◌, nat_lt, if◌then◌else◌, Bool, true, List}
+use Rattle.std.specs.Int.{from_bool}
 use Rattle.std.specs.Prelude.{length, replicate}
 use Rattle.std.specs.Prelude.{slice_index_or, slice_set}
 use Rattle.world_units.specs.declared.cell.CPos.{CPos}
@@ -56,6 +57,19 @@ more s b p =
 -- The same, or the note that the cell is missing, where the bucket is full.
 abbrev pub pushed : Shelves → ℕ → CPos → Shelves
 pushed s b p = if nat_lt (len_of s b) s.room then more s b p else record s { lost = true }
+
+-- Buckets with a cell written after the last one of a bucket, which holds it only if so told.
+abbrev pub tried : Shelves → ℕ → CPos → Bool → Shelves
+tried s b p held =
+    let place = len_of s b * 71 + b in
+    record s {
+      cells = slice_set s.cells place p;
+      lens = slice_set s.lens b (len_of s b + from_bool held);
+    }
+
+-- There are rows for so many cells more in a bucket.
+pub record HasRows (shelves : Shelves) (b count : ℕ) : Type 0 where
+  pub fit : (len_of shelves b + count) * 71 ≤ length shelves.cells
 
 -- Buckets one of which is emptied.
 abbrev pub emptied : Shelves → ℕ → Shelves

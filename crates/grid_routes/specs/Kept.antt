@@ -1,6 +1,6 @@
 -- What is kept from one question to the next: fields of distances over one ground.
 use Rattle.std.specs.Prelude.{◌≡◌, ℕ, ◌*◌, ◌<◌, ◌≤◌, All, IfSome, Bool, List, length}
-use Rattle.std.specs.Prelude.{slice_index_or, None}
+use Rattle.std.specs.Prelude.{slice_index_or, Some, None}
 use Rattle.world_units.specs.declared.cell.CPos.{CPos}
 use Rattle.game_model.specs.declared.terrain.Terrain.{Terrain}
 use Rattle.game_model.specs.Grid.{Grid, HasSize, IsOn}
@@ -31,6 +31,18 @@ pub record IsFor (search : Search) (ask : Ask) : Type 0 where
   pub going :
       IsSearch (record { toll = toll_in search.tolls; goal = ask.goal }) search.field search.buckets
 
+-- The search's field and buckets are those of a search for this over its ground, which may go on
+-- once its tolls are turned to this.
+abbrev pub IsOwn : Search → Ask → Type 0
+IsOwn search ask =
+    IsSearch (land_over search.tolls.terrain search.tolls.built ask.costs ask.goal) search.field
+    search.buckets
+
+-- The field belongs to this, and its label of the cell is final.
+pub record IsFinal (ask : Ask) (p : CPos) (kept : Kept) : Type 0 where
+  pub asked : kept.ask ≡ Some ask
+  pub final : label_of kept.field.labels p ≤ kept.field.level
+
 -- The cell is on the map, and its label is final.
 pub record IsSettled (search : Search) (p : CPos) : Type 0 where
   pub on : IsOn search.field.labels.width search.field.labels.height p
@@ -41,7 +53,7 @@ pub record AreFields (w h : ℕ) (fields : Fields) : Type 0 where
   pub terrain : HasSize w h fields.search.tolls.terrain
   pub size : HasSize w h fields.search.field.labels
   pub room : fields.search.buckets.room ≡ w * h
-  pub search : IfSome fields.ask (IsFor fields.search)
+  pub search : IfSome fields.ask (IsOwn fields.search)
   pub kept : All (IsKept w h fields.search.tolls.terrain fields.search.tolls.built)
       fields.kept.items
   pub place : fields.place < length fields.kept.items

@@ -1,13 +1,23 @@
 -- What is seen of a router.
 use Rattle.std.specs.Prelude.{◌≡◌, ◌⊎◌, ℕ, ◌+◌, ◌-◌, ◌^◌, min, Bool}
 use Rattle.game_model.specs.declared.map.Map.{Map}
+use Rattle.game_model.specs.declared.terrain.Terrain.{Terrain}
 use Rattle.game_model.specs.Grid.{Grid, HasSize}
 
--- The size of the maps that it serves, and how many fields of distances it began.
+-- The size of the maps that it serves, the ground that it looks at, and how many fields of distances
+-- it began.
 pub record Routing : Type 0 where
   pub width : ℕ
   pub height : ℕ
+  pub terrain : Grid Terrain
+  pub built : Grid Bool
   pub computed : ℕ
+
+-- A router for maps of this size that began no field.
+pub record IsNew (width height : ℕ) (router : Routing) : Type 0 where
+  pub wide : router.width ≡ width
+  pub high : router.height ≡ height
+  pub none : router.computed ≡ 0
 
 -- The map has this size, and a terrain for each of its cells.
 pub record IsMapSized (width height : ℕ) (map : Map) : Type 0 where
@@ -26,6 +36,18 @@ pub record AreSized (router : Routing) (map : Map) (built : Grid Bool) : Type 0 
 pub record IsSameSize (old new : Routing) : Type 0 where
   pub wide : new.width ≡ old.width
   pub high : new.height ≡ old.height
+
+-- The router looks at the terrain of this map and at these buildings.
+pub record LooksAt (router : Routing) (map : Map) (built : Grid Bool) : Type 0 where
+  pub sizes : AreSized router map built
+  pub terrain : router.terrain ≡ map.terrain
+  pub blocks : router.built ≡ built
+
+-- A router serves maps of the same size as before, and looks at the same ground.
+pub record IsSameSight (old new : Routing) : Type 0 where
+  pub size : IsSameSize old new
+  pub terrain : new.terrain ≡ old.terrain
+  pub built : new.built ≡ old.built
 
 -- At most one field more was begun. The count stays at the greatest number of 64 bits.
 abbrev pub CountsOn : ℕ → ℕ → Type 0

@@ -124,3 +124,11 @@ pub(crate) fn left_of(q: Placed, row: Option<Placed>, width: u8, height: u8) -> 
         None => None,
     }
 }
+
+/// Whether a cell has all eight neighbours on a map of this size.
+#[inline(always)]
+pub(crate) fn is_inside(q: Placed, width: u8, height: u8) -> bool
+    requires { IsPlaced width height q }
+{
+    q.cell.x > 0 && q.cell.x < width - 1 && q.cell.y > 0 && q.cell.y < height - 1
+}

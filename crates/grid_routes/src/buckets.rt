@@ -1,5 +1,6 @@
-ghost use Rattle.std.specs.Prelude.{◌≡◌, ℕ, ◌+◌, ◌*◌, ◌<◌, ◌≤◌, length, true, false, vec_capacity, IfOk};
-ghost use Rattle.grid_routes.specs.Held.{IsAt, IsWhole, emptied, len_of, pushed, widened};
+ghost use Rattle.std.specs.Prelude.{◌≡◌, ℕ, ◌+◌, ◌*◌, ◌<◌, ◌≤◌, length, true, false, vec_capacity, IfOk, IsTrue};
+ghost use Rattle.grid_routes.specs.Held.{HasRows, IsAt, IsWhole, emptied, len_of, pushed, tried};
+ghost use Rattle.grid_routes.specs.Held.{widened};
 
 use base::NoMemory;
 use std::alloc::Global;
@@ -89,6 +90,28 @@ impl Buckets {
         } else {
             self.lost = true;
         }
+    }
+
+    /// Whether there are rows for eight cells more in a bucket.
+    #[inline(always)]
+    pub(crate) fn has_rows(&self, bucket: usize) -> bool
+        requires { bucket < 71 }
+        ensures { IsTrue result → HasRows self.now bucket 8 }
+    {
+        (self.lens[bucket] + 8) * 71 <= self.cells.len()
+    }
+
+    /// Writes a cell after the last one of a bucket, which holds it from then on only if so told.
+    #[inline(always)]
+    pub(crate) fn try_push(&mut self, bucket: usize, p: CPos, held: bool)
+        requires bucket { bucket < 71 }
+        requires row { HasRows self.old bucket 1 }
+        ensures value { self.new ≡ tried self.old bucket p held }
+        ensures whole { IsWhole self.old }
+    {
+        let len = self.lens[bucket];
+        self.cells[len * 71 + bucket] = p;
+        self.lens[bucket] = len + usize::from(held);
     }
 
     /// How many cells a bucket holds.

@@ -9,3 +9,13 @@ pub(crate) struct Fares {
     pub(crate) south_west: u32,
     pub(crate) north_west: u32,
 }
+
+/// Whether a cell can be entered across each of its corners, as far as the cells beside the step
+/// say.
+#[derive(Clone, Copy)]
+pub(crate) struct Corners {
+    pub(crate) north_east: bool,
+    pub(crate) south_east: bool,
+    pub(crate) south_west: bool,
+    pub(crate) north_west: bool,
+}

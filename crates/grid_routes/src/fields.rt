@@ -1,14 +1,16 @@
 ghost use Rattle.std.specs.Prelude.{◌≡◌, ◌≤◌, ◌<◌, All, Some, IfOk, IsTrue, length, slice_index_or};
-ghost use Rattle.std.specs.Prelude.{slice_set, ◌↔◌};
+ghost use Rattle.std.specs.Prelude.{slice_set, slice_get, ◌↔◌, IfSome, IsSomeAnd};
 ghost use Rattle.game_model.specs.Grid.{IsOn, HasSize};
+ghost use Rattle.game_model.specs.Walks.{IsBestDirection};
 ghost use Rattle.grid_routes.specs.declared.fields.Kept.{Kept};
-ghost use Rattle.grid_routes.specs.Tolls.{IsCheap};
+ghost use Rattle.grid_routes.specs.Tolls.{IsCheap, land_over};
 ghost use Rattle.grid_routes.specs.Labels.{label_of};
-ghost use Rattle.grid_routes.specs.Kept.{AreFields, AreForgotten, IsFor, IsRoom, IsSameGround};
+ghost use Rattle.grid_routes.specs.Kept.{AreFields, AreForgotten, IsFinal, IsFor, IsRoom, IsSameGround};
 
 use crate::ask::Ask;
 use crate::field::Field;
 use crate::index::{FIELDS, Index};
+use crate::lead::best_on;
 use crate::search::Search;
 use base::NoMemory;
 use game_model::{Blocks, Map};
@@ -26,7 +28,8 @@ pub(crate) struct Kept {
 /// The search that was asked last, and the fields of earlier ones.
 #[derive(Drop)]
 pub(crate) struct Fields {
-    /// The search, over the ground to which all fields belong.
+    /// The search, over the ground to which all fields belong. Its tolls are those of the question
+    /// that was asked last.
     pub(crate) search: Search,
     /// What its field belongs to.
     pub(crate) ask: Option<Ask>,
@@ -80,6 +83,39 @@ impl Fields {
         self.index.has(ask)
     }
 
+    /// The place of the field for this, if its label of a cell is final.
+    pub(crate) fn final_place(&mut self, ask: &Ask, from: CPos) -> Option<usize>
+        ensures same { self.new ≡ record self.old { index = self.new.index } }
+        ensures settled { IfSome result (λ place.
+            IsSomeAnd (slice_get self.old.kept.items place) (IsFinal ask.now from)) }
+    {
+        match self.index.find(ask) {
+            Some(place) => place_if_final(&self.kept, place, ask, from),
+            None => None,
+        }
+    }
+
+    /// The best direction of a cell by the field at a place, which is read where it lies.
+    pub(crate) fn best_at(&mut self, place: usize, ask: &Ask, from: CPos) -> Option<u8>
+        requires fields { AreFields self.old.search.tolls.terrain.width
+            self.old.search.tolls.terrain.height self.old }
+        requires costs { IsCheap ask.now.costs }
+        requires from { IsOn self.old.search.tolls.terrain.width
+            self.old.search.tolls.terrain.height from }
+        requires settled { IsSomeAnd (slice_get self.old.kept.items place) (IsFinal ask.now from) }
+        ensures fields { AreFields self.old.search.tolls.terrain.width
+            self.old.search.tolls.terrain.height self.new }
+        ensures ground { IsSameGround self.old self.new }
+        ensures best { IsBestDirection (land_over self.old.search.tolls.terrain
+            self.old.search.tolls.built ask.now.costs ask.now.goal) from result }
+    {
+        let Some(kept) = self.kept.get(place) else {
+            unreachable!()
+        };
+        self.search.tolls.turn_to(&ask.costs, ask.goal);
+        best_on(&self.search.tolls, &kept.field, from, ask.goal)
+    }
+
     /// Forgets all fields, and takes in another ground.
     pub(crate) fn forget(&mut self, map: &Map, blocks: &Blocks)
         requires fields { AreFields map.now.width map.now.height self.old }
@@ -106,8 +142,10 @@ impl Fields {
             self.old.search.tolls.terrain.height self.new }
         ensures ground { IsSameGround self.old self.new }
         ensures asked { self.new.ask ≡ Some ask.now }
+        ensures search { IsFor self.new.search ask.now }
     {
         if is_asked(&self.ask, ask) {
+            self.search.tolls.turn_to(&ask.costs, ask.goal);
             false
         } else {
             self.put_back();
@@ -140,6 +178,7 @@ impl Fields {
             self.old.search.tolls.terrain.height self.new }
         ensures ground { IsSameGround self.old self.new }
         ensures asked { self.new.ask ≡ Some ask.now }
+        ensures search { IsFor self.new.search ask.now }
     {
         let found = exchange(&mut self.kept, place, &mut self.search.field, None);
         let known = is_known(place, self.kept.len() - 1, &found, ask);
@@ -158,6 +197,30 @@ fn is_asked(last: &Option<Ask>, ask: &Ask) -> bool
         Some(last) => last.is_same(ask),
         None => false,
     }
+}
+
+/// The place, if the field there belongs to this and its label of a cell is final.
+fn place_if_final(kept: &[Kept], place: usize, ask: &Ask, from: CPos) -> Option<usize>
+    ensures { IfSome result (λ place.
+        IsSomeAnd (slice_get kept.now place) (IsFinal ask.now from)) }
+{
+    match kept.get(place) {
+        Some(found) => {
+            if is_final(found, ask, from) {
+                Some(place)
+            } else {
+                None
+            }
+        }
+        None => None,
+    }
+}
+
+/// Whether a field belongs to this and its label of a cell is final.
+fn is_final(kept: &Kept, ask: &Ask, from: CPos) -> bool
+    ensures { IsTrue result → IsFinal ask.now from kept.now }
+{
+    is_asked(&kept.ask, ask) && kept.field.label(from) <= kept.field.level()
 }
 
 /// Whether a field at a place below the last one belongs to this.

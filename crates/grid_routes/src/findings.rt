@@ -12,6 +12,7 @@ use crate::fields::Fields;
 use crate::index::FIELDS;
 use crate::known_walk::{AHEAD, KnownWalk};
 use crate::known_walks::{KnownWalks, Reach, WALKS};
+use crate::lead::best_on;
 use crate::search::Search;
 use base::NoMemory;
 use game_model::{Blocks, Map};
@@ -47,34 +48,54 @@ impl Findings {
         })
     }
 
-    /// The best direction of a cell: that of its known step, else what a search finds.
-    pub(crate) fn best_dir(
-        &mut self,
-        map: &Map,
-        blocks: &Blocks,
-        ask: &Ask,
-        from: CPos,
-    ) -> Option<u8>
-        requires found { AreFindings map.now.width map.now.height self.old }
-        requires terrain { HasSize map.now.width map.now.height map.now.terrain }
-        requires blocks { HasSize map.now.width map.now.height blocks.now }
+    /// The best direction of a cell: what its kept field says where it is final, else that of a
+    /// known step, else what a search finds.
+    pub(crate) fn best_dir(&mut self, ask: &Ask, from: CPos) -> Option<u8>
+        requires found { AreFindings self.old.fields.search.tolls.terrain.width
+            self.old.fields.search.tolls.terrain.height self.old }
         requires costs { IsCheap ask.now.costs }
-        requires from { IsOn map.now.width map.now.height from }
-        requires goal { IsOn map.now.width map.now.height ask.now.goal }
-        ensures found { AreFindings map.now.width map.now.height self.new }
-        ensures best { IsBestDirection
-            (land_over map.now.terrain blocks.now ask.now.costs ask.now.goal) from result }
+        requires goal { IsOn self.old.fields.search.tolls.terrain.width
+            self.old.fields.search.tolls.terrain.height ask.now.goal }
+        requires from { IsOn self.old.fields.search.tolls.terrain.width
+            self.old.fields.search.tolls.terrain.height from }
+        ensures found { AreFindings self.old.fields.search.tolls.terrain.width
+            self.old.fields.search.tolls.terrain.height self.new }
+        ensures ground { IsSameGround self.old.fields self.new.fields }
+        ensures best { IsBestDirection (land_over self.old.fields.search.tolls.terrain
+            self.old.fields.search.tolls.built ask.now.costs ask.now.goal) from result }
         ensures computed { CountsOn self.old.computed self.new.computed }
     {
-        self.turn_over(map, blocks);
+        match self.fields.final_place(ask, from) {
+            Some(place) => self.fields.best_at(place, ask, from),
+            None => self.find_near(ask, from),
+        }
+    }
+
+    /// The best direction of a cell: that of a known step that is followed nearby, else what is found
+    /// farther off.
+    fn find_near(&mut self, ask: &Ask, from: CPos) -> Option<u8>
+        requires found { AreFindings self.old.fields.search.tolls.terrain.width
+            self.old.fields.search.tolls.terrain.height self.old }
+        requires costs { IsCheap ask.now.costs }
+        requires goal { IsOn self.old.fields.search.tolls.terrain.width
+            self.old.fields.search.tolls.terrain.height ask.now.goal }
+        requires from { IsOn self.old.fields.search.tolls.terrain.width
+            self.old.fields.search.tolls.terrain.height from }
+        ensures found { AreFindings self.old.fields.search.tolls.terrain.width
+            self.old.fields.search.tolls.terrain.height self.new }
+        ensures ground { IsSameGround self.old.fields self.new.fields }
+        ensures best { IsBestDirection (land_over self.old.fields.search.tolls.terrain
+            self.old.fields.search.tolls.built ask.now.costs ask.now.goal) from result }
+        ensures computed { CountsOn self.old.computed self.new.computed }
+    {
         match self.known(ask, from, Reach::Near) {
             Some(direction) => Some(direction),
             None => self.find(ask, from),
         }
     }
 
-    /// The best direction of a cell: what its kept field says, else that of a known step that is
-    /// followed elsewhere, else what a search finds.
+    /// The best direction of a cell: what its kept field says once it is final, else that of a known
+    /// step that is followed elsewhere, else what a search finds.
     fn find(&mut self, ask: &Ask, from: CPos) -> Option<u8>
         requires found { AreFindings self.old.fields.search.tolls.terrain.width
             self.old.fields.search.tolls.terrain.height self.old }
@@ -85,6 +106,7 @@ impl Findings {
             self.old.fields.search.tolls.terrain.height from }
         ensures found { AreFindings self.old.fields.search.tolls.terrain.width
             self.old.fields.search.tolls.terrain.height self.new }
+        ensures ground { IsSameGround self.old.fields self.new.fields }
         ensures best { IsBestDirection (land_over self.old.fields.search.tolls.terrain
             self.old.fields.search.tolls.built ask.now.costs ask.now.goal) from result }
         ensures computed { CountsOn self.old.computed self.new.computed }
@@ -103,7 +125,7 @@ impl Findings {
     }
 
     /// Forgets all where it was found over another ground than this.
-    pub(crate) fn turn_over(&mut self, map: &Map, blocks: &Blocks)
+    pub(crate) fn look(&mut self, map: &Map, blocks: &Blocks)
         requires found { AreFindings map.now.width map.now.height self.old }
         requires terrain { HasSize map.now.width map.now.height map.now.terrain }
         requires blocks { HasSize map.now.width map.now.height blocks.now }
@@ -175,6 +197,7 @@ impl Findings {
         requires settled { IsSettled self.old.fields.search from }
         ensures found { AreFindings self.old.fields.search.tolls.terrain.width
             self.old.fields.search.tolls.terrain.height self.new }
+        ensures fields { self.new.fields ≡ self.old.fields }
         ensures best { IsBestDirection (land_over self.old.fields.search.tolls.terrain
             self.old.fields.search.tolls.built ask.now.costs ask.now.goal) from result }
         ensures computed { self.new.computed ≡ self.old.computed }
@@ -246,5 +269,5 @@ fn best_of(search: &Search, ask: &Ask, from: CPos) -> Option<u8>
     ensures { IsBestDirection (land_over search.now.tolls.terrain search.now.tolls.built
         ask.now.costs ask.now.goal) from result }
 {
-    search.best(from, ask.goal)
+    best_on(&search.tolls, &search.field, from, ask.goal)
 }

@@ -49,10 +49,17 @@ impl Index {
     /// The place of a field: the one that it has, else one that is not taken, else that of the
     /// field that was used longest ago. It is past the last one where memory ran out.
     pub(crate) fn place(&mut self, ask: &Ask) -> usize {
-        let key = key_of(ask);
-        match self.places.get(&key) {
-            Some(place) => *place,
-            None => self.taken(key),
+        match self.find(ask) {
+            Some(place) => place,
+            None => self.taken(key_of(ask)),
+        }
+    }
+
+    /// The place that a field has, which is used now.
+    pub(crate) fn find(&mut self, ask: &Ask) -> Option<usize> {
+        match self.places.get(&key_of(ask)) {
+            Some(place) => Some(*place),
+            None => None,
         }
     }
 

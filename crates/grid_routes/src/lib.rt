@@ -25,6 +25,8 @@ mod index;
 mod known_walk;
 mod known_walks;
 mod law;
+mod lead;
+mod offers;
 mod route;
 mod router;
 mod search;

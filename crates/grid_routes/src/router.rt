@@ -1,9 +1,10 @@
-ghost use Rattle.std.specs.Prelude.{◌≡◌, ◌≤◌, ◌+◌, ◌-◌, ◌^◌, ◌⊎◌, min, IfOk};
-ghost use Rattle.game_model.specs.Grid.{IsOn};
+ghost use Rattle.std.specs.Prelude.{◌≡◌, ◌≤◌, ◌+◌, ◌-◌, ◌^◌, ◌⊎◌, min, Bool, IfOk};
+ghost use Rattle.game_model.specs.Grid.{Grid, IsOn};
 ghost use Rattle.game_model.specs.BestDirection.{best_dir_of};
 ghost use Rattle.game_model.specs.Walks.{IsBestDirection, land_of};
-ghost use Rattle.grid_routes.specs.Tolls.{IsCheap};
-ghost use Rattle.grid_routes.specs.Routing.{AreSized, CountsOn, IsSameSize};
+ghost use Rattle.game_model.specs.declared.map.Map.{Map};
+ghost use Rattle.grid_routes.specs.Tolls.{IsCheap, land_over};
+ghost use Rattle.grid_routes.specs.Routing.{AreSized, CountsOn, IsNew, IsSameSight, IsSameSize, LooksAt};
 ghost use Rattle.grid_routes.specs.Steps.{IsRoute};
 
 use crate::ask::Ask;
@@ -31,7 +32,13 @@ impl Model for Router {
 
     ghost Value = { Routing };
 
-    ghost view = { λ r. record { width = r.width; height = r.height; computed = r.findings.computed } };
+    ghost view = { λ r. record {
+      width = r.width;
+      height = r.height;
+      terrain = r.findings.fields.search.tolls.terrain;
+      built = r.findings.fields.search.tolls.built;
+      computed = r.findings.computed;
+    } };
 
     ghost invariant = { λ r. AreFindings r.width r.height r.findings };
 }
@@ -40,8 +47,7 @@ impl Router {
     /// A router for maps of this size, which keeps [`FIELDS`] fields of distances. Out of memory is
     /// its only error.
     pub fn create(alloc: Global, w: u8, h: u8) -> Result<Router, NoMemory>
-        ensures { IfOk result (λ router. router ≡
-            (record { width = w; height = h; computed = 0 })) }
+        ensures { IfOk result (IsNew w h) }
     {
         Router::with_fields(alloc, w, h, FIELDS)
     }
@@ -51,8 +57,7 @@ impl Router {
     /// its only error.
     pub fn with_fields(alloc: Global, w: u8, h: u8, most: usize) -> Result<Router, NoMemory>
         requires { most ≤ FIELDS }
-        ensures { IfOk result (λ router. router ≡
-            (record { width = w; height = h; computed = 0 })) }
+        ensures { IfOk result (IsNew w h) }
     {
         Ok(Router {
             width: w,
@@ -66,6 +71,38 @@ impl Router {
         ensures { result ≡ self.now.computed }
     {
         self.findings.computed
+    }
+
+    /// Looks at a ground: the terrain of a map and the buildings on it. What was found over another
+    /// one is forgotten.
+    pub fn look(&mut self, map: &Map, blocks: &Blocks)
+        requires { AreSized self.old map.now blocks.now }
+        ensures looks { LooksAt self.new map.now blocks.now }
+        ensures size { IsSameSize self.old self.new }
+        ensures computed { self.new.computed ≡ self.old.computed }
+    {
+        self.findings.look(map, blocks);
+    }
+
+    /// The least direction whose allowed step begins a walk of least cost to the goal, over the
+    /// ground at which the router looks. `None` comes exactly where there is no walk or the cell is
+    /// the goal.
+    pub fn best_dir_seen(&mut self, costs: &Costs, from: CPos, goal: CPos) -> Option<u8>
+        requires costs { IsCheap costs.now }
+        requires from { IsOn self.old.width self.old.height from }
+        requires goal { IsOn self.old.width self.old.height goal }
+        ensures value { (map : Map) (built : Grid Bool) → LooksAt self.old map built →
+            result ≡ best_dir_of map (land_of map built costs.now goal) from }
+        ensures best { IsBestDirection (land_over self.old.terrain self.old.built costs.now goal)
+            from result }
+        ensures sight { IsSameSight self.old self.new }
+        ensures computed { CountsOn self.old.computed self.new.computed }
+    {
+        let ask = Ask {
+            goal,
+            costs: *costs,
+        };
+        self.findings.best_dir(&ask, from)
     }
 
     /// The least direction whose allowed step begins a walk of least cost to the goal. `None` comes
@@ -88,11 +125,8 @@ impl Router {
         ensures size { IsSameSize self.old self.new }
         ensures computed { CountsOn self.old.computed self.new.computed }
     {
-        let ask = Ask {
-            goal,
-            costs: *costs,
-        };
-        self.findings.best_dir(map, blocks, &ask, from)
+        self.look(map, blocks);
+        self.best_dir_seen(costs, from, goal)
     }
 
     /// The walk that takes the best direction at each cell. `None` comes exactly where there is no
@@ -118,7 +152,7 @@ impl Router {
             goal,
             costs: *costs,
         };
-        self.findings.turn_over(map, blocks);
+        self.findings.look(map, blocks);
         self.findings.settle(&ask, from);
         self.findings.fields.search.route(alloc, from, goal)
     }

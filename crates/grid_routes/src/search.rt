@@ -1,26 +1,27 @@
 ghost use Rattle.std.specs.Prelude.{◌≡◌, ◌≢◌, ℕ, ◌+◌, ◌*◌, ◌%◌, ◌^◌, ◌<◌, ◌≤◌, false, IfOk};
-ghost use Rattle.std.specs.Prelude.{IfSome, IsTrue, IsFalse, MatchOption, length};
+ghost use Rattle.std.specs.Prelude.{IsTrue, IsFalse, MatchOption, length};
 ghost use Rattle.world_units.specs.declared.cell.CPos.{CPos};
 ghost use Rattle.game_model.specs.Grid.{IsOn, HasSize};
-ghost use Rattle.game_model.specs.Walks.{IsBestDirection, IsStep};
+ghost use Rattle.game_model.specs.Walks.{IsBestDirection};
 ghost use Rattle.grid_routes.specs.Tolls.{IsCheap, land_over, toll_in};
-ghost use Rattle.grid_routes.specs.Beside.{IsBeside, IsPlaced};
-ghost use Rattle.grid_routes.specs.Fares.{IsFareFrom};
+ghost use Rattle.grid_routes.specs.Beside.{IsPlaced};
 ghost use Rattle.grid_routes.specs.Labels.{IsFull, label_of};
-ghost use Rattle.grid_routes.specs.Held.{IsAt};
+ghost use Rattle.grid_routes.specs.Held.{HasRows, IsAt};
 ghost use Rattle.grid_routes.specs.Steps.{AreQueued, FitsTogether, HasLabel, IsClear, IsExpanded};
-ghost use Rattle.grid_routes.specs.Steps.{IsFilled, IsGoing, IsLead, IsLeastLead, IsNext, IsOffered};
-ghost use Rattle.grid_routes.specs.Steps.{IsOnward, IsRelaxed, IsRoute, IsSearch, Lowers, rings_left};
+ghost use Rattle.grid_routes.specs.Steps.{IsFilled, IsGoing, IsNext};
+ghost use Rattle.grid_routes.specs.Steps.{IsOnward, IsRoute, IsSearch, Lowers, rings_left};
 
-use crate::beside::{Placed, above, below, left, left_of, right, right_of};
+use crate::beside::{Placed, above, below, is_inside, left, left_of, right, right_of};
 use crate::buckets::{BUCKETS, Buckets};
 use crate::field::{Field, NONE};
+use crate::lead::least_lead;
+use crate::offers::{bucket_of, offer, try_offer};
 use crate::route::Route;
-use crate::tolls::Tolls;
+use crate::tolls::{ACROSS, STRAIGHT, Tolls};
 use base::{List, NoMemory};
 use rule_traits::Costs;
 use std::alloc::Global;
-use world_units::{CPos, DIRECTIONS, step};
+use world_units::{CPos, step};
 
 /// A search of distances from a goal, which may stop at any level and go on later.
 #[derive(Drop)]
@@ -125,15 +126,148 @@ impl Search {
             self.old.buckets self.new.field.labels self.new.buckets }
         ensures done { IsExpanded (toll_in self.old.tolls) self.new.field.labels level q }
     {
-        if self.tolls.toll(q) > 0 {
-            let (width, height) = (self.field.width(), self.field.height());
-            let at = self.field.place(q);
-            self.spread(Placed { cell: q, at }, level, width, height);
+        let (width, height) = (self.field.width(), self.field.height());
+        let at = self.field.place(q);
+        let here = Placed { cell: q, at };
+        if is_inside(here, width, height) && self.tolls.has_size(width, height) {
+            self.expand_inside(here, level, width, height);
+        } else if self.tolls.toll(q) > 0 {
+            self.spread(here, level, width, height);
         }
     }
 
-    /// The same, for a cell at its place on a map of this size.
+    /// The same, for a cell at its place, where the tolls have this size too.
     #[inline(always)]
+    fn expand_inside(&mut self, q: Placed, level: u32, width: u8, height: u8)
+        requires full { IsFull self.old.field.labels }
+        requires size { HasSize width height self.old.field.labels }
+        requires terrain { HasSize width height self.old.tolls.terrain }
+        requires here { IsPlaced width height q }
+        requires from { label_of self.old.field.labels q.cell ≡ level }
+        requires low { level < 2 ^ 31 }
+        ensures tolls { self.new.tolls ≡ self.old.tolls }
+        ensures level { self.new.field.level ≡ self.old.field.level }
+        ensures lowers { Lowers (toll_in self.old.tolls) level self.old.field.labels
+            self.old.buckets self.new.field.labels self.new.buckets }
+        ensures done { IsExpanded (toll_in self.old.tolls) self.new.field.labels level q.cell }
+    {
+        let toll = u32::from(self.tolls.toll_at(q, width, height));
+        if toll > 0 {
+            if self.has_rows(level, toll) {
+                self.spread_inside(q, toll, level, width, height);
+            } else {
+                self.spread(q, level, width, height);
+            }
+        }
+    }
+
+    /// Whether the two buckets of the steps into a cell of this toll have rows for all of them.
+    #[inline(always)]
+    fn has_rows(&self, level: u32, toll: u32) -> bool
+        requires low { level < 2 ^ 31 }
+        requires cheap { toll ≤ 10 }
+        ensures straight { IsTrue result →
+            HasRows self.now.buckets ((level + 5 * toll) % 71) 8 }
+        ensures across { IsTrue result →
+            HasRows self.now.buckets ((level + 7 * toll) % 71) 8 }
+    {
+        self.buckets.has_rows(bucket_of(level + STRAIGHT * toll))
+            && self.buckets.has_rows(bucket_of(level + ACROSS * toll))
+    }
+
+    /// Offers each neighbour of a cell the walk that enters the cell, where the buckets have rows
+    /// for all. A neighbour's label and the end of its bucket are written in any case, so that
+    /// nothing has to be decided by a jump.
+    #[inline(always)]
+    fn spread_inside(&mut self, q: Placed, toll: u32, level: u32, width: u8, height: u8)
+        requires full { IsFull self.old.field.labels }
+        requires size { HasSize width height self.old.field.labels }
+        requires terrain { HasSize width height self.old.tolls.terrain }
+        requires here { IsPlaced width height q }
+        requires from { label_of self.old.field.labels q.cell ≡ level }
+        requires low { level < 2 ^ 31 }
+        requires toll { toll ≡ toll_in self.old.tolls q.cell }
+        requires some { 0 < toll }
+        requires cheap { toll ≤ 10 }
+        requires straight { HasRows self.old.buckets ((level + 5 * toll) % 71) 8 }
+        requires across { HasRows self.old.buckets ((level + 7 * toll) % 71) 8 }
+        ensures tolls { self.new.tolls ≡ self.old.tolls }
+        ensures level { self.new.field.level ≡ self.old.field.level }
+        ensures lowers { Lowers (toll_in self.old.tolls) level self.old.field.labels
+            self.old.buckets self.new.field.labels self.new.buckets }
+        ensures done { IsExpanded (toll_in self.old.tolls) self.new.field.labels level q.cell }
+    {
+        let corners = self.tolls.corners(q, toll, width, height);
+        let (straight, across) = (STRAIGHT * toll, ACROSS * toll);
+        let north = above(q, width, height);
+        let south = below(q, width, height);
+        let (field, buckets) = (&mut self.field, &mut self.buckets);
+        try_offer(
+            field, buckets, q, north, true, straight, level, width, height,
+        );
+        let north_east = right_of(q, north, width, height);
+        try_offer(
+            field,
+            buckets,
+            q,
+            north_east,
+            corners.north_east,
+            across,
+            level,
+            width,
+            height,
+        );
+        let east = right(q, width, height);
+        try_offer(
+            field, buckets, q, east, true, straight, level, width, height,
+        );
+        let south_east = right_of(q, south, width, height);
+        try_offer(
+            field,
+            buckets,
+            q,
+            south_east,
+            corners.south_east,
+            across,
+            level,
+            width,
+            height,
+        );
+        try_offer(
+            field, buckets, q, south, true, straight, level, width, height,
+        );
+        let south_west = left_of(q, south, width, height);
+        try_offer(
+            field,
+            buckets,
+            q,
+            south_west,
+            corners.south_west,
+            across,
+            level,
+            width,
+            height,
+        );
+        let west = left(q, width, height);
+        try_offer(
+            field, buckets, q, west, true, straight, level, width, height,
+        );
+        let north_west = left_of(q, north, width, height);
+        try_offer(
+            field,
+            buckets,
+            q,
+            north_west,
+            corners.north_west,
+            across,
+            level,
+            width,
+            height,
+        );
+    }
+
+    /// Offers each neighbour of a cell the walk that enters the cell, at its place on a map of this
+    /// size.
     fn spread(&mut self, q: Placed, level: u32, width: u8, height: u8)
         requires full { IsFull self.old.field.labels }
         requires size { HasSize width height self.old.field.labels }
@@ -407,56 +541,6 @@ impl Search {
         }
     }
 
-    /// The least direction whose step begins a walk of least cost.
-    pub(crate) fn best(&self, from: CPos, goal: CPos) -> Option<u8>
-        requires search { IsSearch (record { toll = toll_in self.now.tolls; goal = goal })
-            self.now.field self.now.buckets }
-        requires on { IsOn self.now.field.labels.width self.now.field.labels.height from }
-        requires settled { label_of self.now.field.labels from ≤ self.now.field.level }
-        ensures { IsBestDirection (record { toll = toll_in self.now.tolls; goal = goal }) from
-            result }
-    {
-        let distance = self.field.label(from);
-        if distance == NONE {
-            None
-        } else {
-            self.least_lead(from, distance)
-        }
-    }
-
-    /// The least direction whose step leads to a label that is less by the step's cost.
-    fn least_lead(&self, from: CPos, distance: u32) -> Option<u8>
-        requires { distance < NONE }
-        ensures { MatchOption result ((d : ℕ) →
-            IsLead (toll_in self.now.tolls) self.now.field.labels from distance d →
-            ⊥) (λ d. IsLeastLead (toll_in self.now.tolls) self.now.field.labels from distance d) }
-    {
-        for d in 0..DIRECTIONS {
-            if self.leads(from, d, distance) {
-                return Some(d);
-            }
-        }
-        None
-    }
-
-    /// Whether the step in direction `d` leads to a label that is less by the step's cost.
-    fn leads(&self, from: CPos, d: u8, distance: u32) -> bool
-        requires direction { d < 8 }
-        requires distance { distance < NONE }
-        ensures yes { IsTrue result →
-            IsLead (toll_in self.now.tolls) self.now.field.labels from distance d }
-        ensures no { IsFalse result →
-            IsLead (toll_in self.now.tolls) self.now.field.labels from distance d → ⊥ }
-    {
-        match step(from, d) {
-            Some(q) => {
-                let label = self.field.label(q);
-                label < distance && self.tolls.fare(from, d, q) == distance - label
-            }
-            None => false,
-        }
-    }
-
     /// The walk that takes the best direction at each cell. `None` comes exactly where there is no
     /// walk or the cell is the goal. Out of memory is its only error.
     pub(crate) fn route(
@@ -500,56 +584,12 @@ impl Search {
         ensures { IsOnward (record { toll = toll_in self.now.tolls; goal = goal })
             self.now.field.labels at result }
     {
-        match self.least_lead(at, self.field.label(at)) {
+        match least_lead(&self.tolls, &self.field, at, self.field.label(at)) {
             Some(d) => match step(at, d) {
                 Some(q) => q,
                 None => unreachable!(),
             },
             None => unreachable!(),
         }
-    }
-}
-
-/// Offers a neighbour of a cell of this level the walk that enters the cell, by a step of this
-/// cost. No step is allowed where it is 0.
-#[inline(always)]
-fn offer(
-    field: &mut Field,
-    buckets: &mut Buckets,
-    q: Placed,
-    n: Option<Placed>,
-    fare: u32,
-    level: u32,
-    width: u8,
-    height: u8,
-)
-    requires size { HasSize width height field.old.labels }
-    requires there { IfSome n (IsPlaced width height) }
-    requires from { label_of field.old.labels q.cell ≡ level }
-    requires low { level < 2 ^ 31 }
-    requires cheap { fare ≤ 70 }
-    ensures size { HasSize width height field.new.labels }
-    ensures stays { label_of field.new.labels q.cell ≡ level }
-    ensures offers { (toll : CPos → ℕ) (d : ℕ) → d < 8 → IsFareFrom toll q.cell d fare →
-        IsBeside width height q.cell d n →
-        IsOffered toll q.cell d level field.old buckets.old field.new buckets.new }
-{
-    if fare > 0 {
-        if let Some(n) = n {
-            relax(field, buckets, n, level + fare);
-        }
-    }
-}
-
-/// Lowers the label of a cell of the map, if it is above this, and puts the cell into its bucket.
-#[inline(always)]
-fn relax(field: &mut Field, buckets: &mut Buckets, n: Placed, label: u32)
-    requires { IsPlaced field.old.labels.width field.old.labels.height n }
-    ensures relaxed { IsRelaxed field.old buckets.old field.new buckets.new n.cell label }
-    ensures size { HasSize field.old.labels.width field.old.labels.height field.new.labels }
-{
-    if label < field.label_at(n) {
-        field.lower_at(n, label);
-        buckets.push((label % BUCKETS) as usize, n.cell);
     }
 }

@@ -1,4 +1,4 @@
-ghost use Rattle.std.specs.Prelude.{◌≡◌, ℕ, ◌+◌, ◌<◌, IfOk, IfSome};
+ghost use Rattle.std.specs.Prelude.{◌≡◌, ℕ, ◌+◌, ◌<◌, IfOk, IfSome, IsTrue};
 ghost use Rattle.world_units.specs.declared.cell.CPos.{CPos};
 ghost use Rattle.world_units.specs.Directions.{step_of};
 ghost use Rattle.game_model.specs.Grid.{HasSize, IsOn, with_cell};
@@ -78,6 +78,24 @@ impl Surface {
         }
     }
 
+    /// Whether it is of a map of this size.
+    #[inline(always)]
+    pub(crate) fn has_size(&self, width: u8, height: u8) -> bool
+        ensures { IsTrue result → HasSize width height self.now }
+    {
+        self.width == width && self.height == height
+    }
+
+    /// The number of a cell at its place on the map.
+    #[inline(always)]
+    pub(crate) fn at_placed(&self, q: Placed, width: u8, height: u8) -> u8
+        requires size { HasSize width height self.now }
+        requires here { IsPlaced width height q }
+        ensures { result ≡ value_in ROCK self.now q.cell }
+    {
+        self.numbers[q.at]
+    }
+
     /// The numbers of a cell's neighbours that share a side with it.
     #[inline(always)]
     pub(crate) fn around(&self, q: CPos) -> Around
@@ -93,7 +111,7 @@ impl Surface {
 
     /// The same, for a cell at its place on the map.
     #[inline(always)]
-    fn around_placed(&self, q: Placed, width: u8, height: u8) -> Around
+    pub(crate) fn around_placed(&self, q: Placed, width: u8, height: u8) -> Around
         requires size { HasSize width height self.now }
         requires here { IsPlaced width height q }
         ensures { AreAround self.now q.cell result }

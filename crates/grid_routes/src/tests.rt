@@ -155,6 +155,16 @@ fn ask_often(router: &mut Router, map: &Map, blocks: &Blocks, costs: &Costs, fro
     }
 }
 
+/// Asks for a direction over even ground.
+fn ask(router: &mut Router, map: &Map, blocks: &Blocks, from: CPos, goal: CPos)
+    requires sizes { AreSized router.old map.now blocks.now }
+    requires from { IsOn map.now.width map.now.height from }
+    requires goal { IsOn map.now.width map.now.height goal }
+    ensures { IsSameSize router.old router.new }
+{
+    let _direction = router.best_dir(map, blocks, &EVEN, from, goal);
+}
+
 /// Asks from a cell for a goal after the other, from the first column on.
 fn ask_for_goals(router: &mut Router, map: &Map, blocks: &Blocks, from: u8, count: u8)
     requires sizes { AreSized router.old map.now blocks.now }
@@ -165,13 +175,8 @@ fn ask_for_goals(router: &mut Router, map: &Map, blocks: &Blocks, from: u8, coun
     ensures { IsSameSize router.old router.new }
 {
     for x in 0..count {
-        let _direction = router.best_dir(
-            map,
-            blocks,
-            &EVEN,
-            CPos { x: from, y: 0 },
-            CPos { x, y: 0 },
-        );
+        let (from, goal) = (CPos { x: from, y: 0 }, CPos { x, y: 0 });
+        ask(router, map, blocks, from, goal);
     }
 }
 
@@ -222,9 +227,9 @@ fn ask_on_rows(router: &mut Router, map: &Map, blocks: &Blocks, taken: u8)
 {
     for y in 0..150 {
         let (from, goal) = (CPos { x: taken, y }, CPos { x: 19, y });
-        let _first = router.best_dir(map, blocks, &EVEN, from, goal);
+        ask(router, map, blocks, from, goal);
         let (from, goal) = (CPos { x: 20 + taken, y }, CPos { x: 39, y });
-        let _second = router.best_dir(map, blocks, &EVEN, from, goal);
+        ask(router, map, blocks, from, goal);
     }
 }
 
@@ -257,9 +262,9 @@ fn ask_across(router: &mut Router, map: &Map, blocks: &Blocks, taken: u8)
             },
             CPos { x: 39, y: 20 + i },
         );
-        let _on_row = router.best_dir(map, blocks, &EVEN, from, goal);
+        ask(router, map, blocks, from, goal);
         let (from, goal) = (CPos { x: i, y: taken }, CPos { x: i, y: 39 });
-        let _on_column = router.best_dir(map, blocks, &EVEN, from, goal);
+        ask(router, map, blocks, from, goal);
     }
 }
 

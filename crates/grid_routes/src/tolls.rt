@@ -3,11 +3,13 @@ ghost use Rattle.std.specs.Prelude.{nat_lt, slice_index_or};
 ghost use Rattle.world_units.specs.Directions.{step_of};
 ghost use Rattle.game_model.specs.Grid.{HasSize};
 ghost use Rattle.game_model.specs.Walks.{fare_of, is_free};
-ghost use Rattle.grid_routes.specs.Fares.{AreFares};
+ghost use Rattle.grid_routes.specs.Beside.{IsPlaced};
+ghost use Rattle.grid_routes.specs.Fares.{AreFares, fares_by};
 ghost use Rattle.grid_routes.specs.Footing.{charges_of};
 ghost use Rattle.grid_routes.specs.Tolls.{IsCheap, IsGround, toll_in};
 
-use crate::fares::Fares;
+use crate::beside::Placed;
+use crate::fares::{Corners, Fares};
 use crate::surface::Surface;
 use base::NoMemory;
 use game_model::{Blocks, Map, Tiles};
@@ -17,10 +19,10 @@ use std::marker::Model;
 use world_units::{CPos, DIRECTIONS, step};
 
 /// What a step straight on costs on ground of cost 1.
-const STRAIGHT: u32 = 5;
+pub(crate) const STRAIGHT: u32 = 5;
 
 /// What a step across a corner costs on ground of cost 1.
-const ACROSS: u32 = 7;
+pub(crate) const ACROSS: u32 = 7;
 
 /// How many terrains there are.
 const TERRAINS: usize = 5;
@@ -162,6 +164,48 @@ impl Tolls {
             0
         }
     }
+
+    /// Whether they are over ground of this size.
+    #[inline(always)]
+    pub(crate) fn has_size(&self, width: u8, height: u8) -> bool
+        ensures { IsTrue result → HasSize width height self.now.terrain }
+    {
+        self.surface.has_size(width, height)
+    }
+
+    /// What it costs to enter a cell at its place on the map, 0 where it can't be entered.
+    #[inline(always)]
+    pub(crate) fn toll_at(&self, q: Placed, width: u8, height: u8) -> u8
+        requires size { HasSize width height self.now.terrain }
+        requires here { IsPlaced width height q }
+        ensures value { result ≡ toll_in self.now q.cell }
+        ensures cheap { result ≤ 10 }
+    {
+        charge(&self.charges, self.surface.at_placed(q, width, height))
+    }
+
+    /// Across which corners the cell at a place of the map, of this toll, can be entered.
+    #[inline(always)]
+    pub(crate) fn corners(&self, q: Placed, toll: u32, width: u8, height: u8) -> Corners
+        requires size { HasSize width height self.now.terrain }
+        requires here { IsPlaced width height q }
+        requires toll { toll ≡ toll_in self.now q.cell }
+        requires cheap { toll ≤ 10 }
+        ensures { AreFares (toll_in self.now) q.cell (fares_by toll result) }
+    {
+        let around = self.surface.around_placed(q, width, height);
+        let north = is_open(&self.charges, around.north);
+        let east = is_open(&self.charges, around.east);
+        let south = is_open(&self.charges, around.south);
+        let west = is_open(&self.charges, around.west);
+        Corners {
+            north_east: are_both(north, east),
+            south_east: are_both(east, south),
+            south_west: are_both(south, west),
+            north_west: are_both(west, north),
+        }
+    }
+
     /// What the steps into a cell cost from its neighbours.
     #[inline(always)]
     pub(crate) fn fares(&self, q: CPos) -> Fares
@@ -182,6 +226,14 @@ impl Tolls {
             north_west: fare_between(west, north, across),
         }
     }
+}
+
+/// Whether both cells beside a step are free.
+#[inline(always)]
+fn are_both(left: bool, right: bool) -> bool
+    ensures { result ≡ left && right }
+{
+    left && right
 }
 
 /// What a step across a corner costs, 0 where a cell beside it isn't free.

@@ -4,5 +4,5 @@ use Rattle.grid_routes.proofs.findings.best_of.Goals as goal
 
 pub returns : goal.returns
 returns c =
-    asked-land (λ (land : Land). IsBestDirection land c.args.from c.best.result) c.args.search.now c.args.ask.now
-    c.requires.search c.best.ensures
+    asked-land (λ (land : Land). IsBestDirection land c.args.from c.best_on.result) c.args.search.now c.args.ask.now
+    c.requires.search c.best_on.ensures

@@ -1,4 +1,4 @@
-use Rattle.std.proofs.Common.{◌≡◌, rules, refl, replicate, arith}
+use Rattle.std.proofs.Common.{◌≡◌, rules, replicate}
 use Rattle.grid_routes.proofs.Shelves.{none-held}
 use Rattle.grid_routes.proofs.buckets.Buckets.create.Goals as goal
 

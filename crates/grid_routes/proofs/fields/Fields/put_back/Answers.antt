@@ -2,7 +2,7 @@ use Rattle.std.proofs.Common.{sym, subst, length-set}
 use Rattle.game_model.specs.Grid.{HasSize}
 use Rattle.grid_routes.specs.Labels.{Distances}
 use Rattle.grid_routes.specs.declared.fields.Kept.{Kept}
-use Rattle.grid_routes.proofs.Keeping.{for-going, kept-set}
+use Rattle.grid_routes.proofs.Keeping.{own-going, kept-set}
 use Rattle.grid_routes.proofs.fields.Fields.put_back.Goals as goal
 
 pub returns-clause-fields : goal.returns-clause-fields
@@ -19,7 +19,7 @@ returns-clause-fields c =
       room = f.room;
       search = tt;
       kept = kept-set w h old.search.tolls.terrain old.search.tolls.built old.kept.items c.exchange-self.new.kept.items
-          old.place mine f.kept (record { size = f.size; going = for-going old.search old.ask f.search })
+          old.place mine f.kept (record { size = f.size; going = own-going old.search old.ask f.search })
           c.exchange-self.ensures.kept;
       place = rw (c.exchange-self.ensures.kept, length-set old.kept.items old.place mine) f.place;
     }

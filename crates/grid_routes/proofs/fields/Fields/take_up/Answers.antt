@@ -5,7 +5,7 @@ use Rattle.grid_routes.specs.Tolls.{Ground}
 use Rattle.grid_routes.specs.Labels.{Distances}
 use Rattle.grid_routes.specs.Kept.{IsKept}
 use Rattle.grid_routes.specs.declared.fields.Kept.{Kept}
-use Rattle.grid_routes.proofs.Keeping.{found-going, kept-set, turned}
+use Rattle.grid_routes.proofs.Keeping.{for-own, found-going, kept-set, turned}
 use Rattle.grid_routes.proofs.fields.Fields.take_up.Goals as goal
 
 pub set_out-requires-clause-size : goal.set_out-requires-clause-size
@@ -39,12 +39,19 @@ returns-clause-fields c =
       terrain = subst (λ (g : Ground). HasSize w h g.terrain) (sym c.set_out.ensures.tolls) f.terrain;
       size = c.set_out.ensures.size;
       room = c.set_out.ensures.room ∙ f.room;
-      search = record {
+      search = for-own new c.args.ask.now (record {
         tolls = turned new.tolls old.search.tolls c.args.ask.now.costs c.args.ask.now.goal c.set_out.ensures.tolls;
         going = c.set_out.ensures.search;
-      };
+      });
       kept = subst (λ (g : Ground). All (IsKept w h g.terrain g.built) c.exchange-found.new.kept.items) (sym c.set_out.ensures.tolls)
           (kept-set w h old.search.tolls.terrain old.search.tolls.built old.kept.items c.exchange-found.new.kept.items
           c.args.place room f.kept (record { size = f.size; going = tt }) c.exchange-found.ensures.kept);
       place = rw (c.exchange-found.ensures.kept, length-set old.kept.items c.args.place room) c.requires.place;
     }
+
+pub returns-clause-search : goal.returns-clause-search
+returns-clause-search c = record {
+  tolls = turned c.set_out.new.self.tolls c.args.self.now.search.tolls c.args.ask.now.costs c.args.ask.now.goal
+      c.set_out.ensures.tolls;
+  going = c.set_out.ensures.search;
+}

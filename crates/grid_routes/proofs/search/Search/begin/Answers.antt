@@ -1,6 +1,5 @@
-use Rattle.std.proofs.Common.{refl, sym, ap, ◌∙◌}
-use Rattle.world_units.specs.declared.cell.CPos.{CPos}
-use Rattle.grid_routes.specs.Tolls.{Ground, land_over}
+use Rattle.std.proofs.Common.{refl, ◌∙◌}
+use Rattle.grid_routes.specs.Tolls.{land_over}
 use Rattle.grid_routes.proofs.Beginning.{begins}
 use Rattle.grid_routes.proofs.StepCosts.{fair-map}
 use Rattle.grid_routes.proofs.search.Search.begin.Goals as goal

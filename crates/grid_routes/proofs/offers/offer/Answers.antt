@@ -1,7 +1,7 @@
 use Rattle.std.proofs.Common.{arith}
 use Rattle.grid_routes.proofs.Directions.{opposite-low, step-back}
 use Rattle.grid_routes.proofs.Lowering.{offered}
-use Rattle.grid_routes.proofs.search.offer.Goals as goal
+use Rattle.grid_routes.proofs.offers.offer.Goals as goal
 
 pub returns-in-Some-clause-offers : goal.returns-in-Some-clause-offers
 returns-in-Some-clause-offers c = λ toll d low is beside.

@@ -1,0 +1,17 @@
+use Rattle.std.proofs.Common.{sym, subst}
+use Rattle.grid_routes.specs.Routing.{LooksAt, Routing}
+use Rattle.grid_routes.proofs.Looking.{seen-value}
+use Rattle.grid_routes.proofs.router.Router.best_dir_seen.Goals as goal
+
+pub returns-clause-value : goal.returns-clause-value
+returns-clause-value c = λ map built looks.
+    let r = c.self.inside in
+    let seen : Routing = record {
+      width = r.width;
+      height = r.height;
+      terrain = r.findings.fields.search.tolls.terrain;
+      built = r.findings.fields.search.tolls.built;
+      computed = r.findings.computed;
+    } in
+    seen-value seen map built c.args.costs.now c.args.goal c.args.from c.best_dir.result
+    (subst (λ (x : Routing). LooksAt x map built) (sym c.self.view_is) looks) c.requires.costs c.best_dir.ensures.best
