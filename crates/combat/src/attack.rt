@@ -3,8 +3,8 @@ ghost use Rattle.game_model.specs.declared.actor.Actor.{Actor};
 ghost use Rattle.game_model.specs.World.{actor_of};
 ghost use Rattle.game_model.specs.Setup.{setup_in};
 ghost use Rattle.game_tick.specs.Attacking.{after_attack};
-ghost use Rattle.grid_routes.specs.Routing.{IsSameSize};
-ghost use Rattle.motion.specs.Ground.{FitsMap, built_in};
+ghost use Rattle.grid_routes.specs.Routing.{IsSameSight, IsSameSize};
+ghost use Rattle.motion.specs.Ground.{FitsMap, SeesMap, built_in};
 ghost use Rattle.combat.specs.Attacks.{IsFought, after_first, fought_by_id};
 
 use crate::fields::{is_in_range, moves};
@@ -13,7 +13,7 @@ use activities::Activity;
 use actor_table::ActorTable;
 use game_model::Ground;
 use grid_routes::Router;
-use motion::{go_towards, pop_head};
+use motion::{go_towards_seen, pop_head};
 use twister::Twister;
 
 /// The step of an attack of the actor of an id on a target, after so many waits in a row. The first
@@ -29,11 +29,11 @@ fn attack(
     target: u32,
     waits: u8,
 )
-    requires fits { FitsMap g.now.map.now (built_in g.now) t.old r.old }
+    requires fits { SeesMap g.now.map.now (built_in g.now) t.old r.old }
     requires drawn { dice.old.drawn < 2 ^ 64 - 1 }
     ensures fought { (a : Actor) → actor_of t.old.actors id ≡ Some a → IsFought t.old t.new dice.new
         (after_attack (setup_in g.now) (built_in g.now) dice.old t.old.actors a target waits) }
-    ensures router { IsSameSize r.old r.new }
+    ensures router { IsSameSight r.old r.new }
 {
     let _on_map = t.len();
     let Some(a) = t.get(id) else {
@@ -50,7 +50,7 @@ fn attack(
             fire(t, g.rules, dice, id, kind, target);
         }
     } else if moves(g.rules, kind) {
-        go_towards(t, r, g, id, to, Activity::Attack { target, waits });
+        go_towards_seen(t, r, g, id, to, Activity::Attack { target, waits });
     } else {
         pop_head(t, id);
     }
@@ -65,11 +65,11 @@ fn attack_by(
     id: u32,
     first: Activity,
 )
-    requires fits { FitsMap g.now.map.now (built_in g.now) t.old r.old }
+    requires fits { SeesMap g.now.map.now (built_in g.now) t.old r.old }
     requires drawn { dice.old.drawn < 2 ^ 64 - 1 }
     ensures fought { (a : Actor) → actor_of t.old.actors id ≡ Some a → IsFought t.old t.new dice.new
         (after_first (setup_in g.now) (built_in g.now) dice.old t.old.actors a (Some first)) }
-    ensures router { IsSameSize r.old r.new }
+    ensures router { IsSameSight r.old r.new }
 {
     match first {
         Activity::Attack { target, waits } => attack(t, r, g, dice, id, target, waits),
@@ -85,6 +85,18 @@ pub fn attack_step(t: &mut ActorTable, r: &mut Router, g: &Ground, dice: &mut Tw
     ensures fought { IsFought t.old t.new dice.new (fought_by_id (setup_in g.now) (built_in g.now)
         dice.old t.old.actors (actor_of t.old.actors id)) }
     ensures router { IsSameSize r.old r.new }
+{
+    r.look(g.map, g.blocks);
+    attack_step_seen(t, r, g, dice, id);
+}
+
+/// [`attack_step`] with a router that looks at the ground.
+pub fn attack_step_seen(t: &mut ActorTable, r: &mut Router, g: &Ground, dice: &mut Twister, id: u32)
+    requires fits { SeesMap g.now.map.now (built_in g.now) t.old r.old }
+    requires drawn { dice.old.drawn < 2 ^ 64 - 1 }
+    ensures fought { IsFought t.old t.new dice.new (fought_by_id (setup_in g.now) (built_in g.now)
+        dice.old t.old.actors (actor_of t.old.actors id)) }
+    ensures router { IsSameSight r.old r.new }
 {
     let Some(a) = t.get(id) else {
         return;

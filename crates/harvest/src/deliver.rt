@@ -3,8 +3,8 @@ ghost use Rattle.game_model.specs.declared.actor.Actor.{Actor};
 ghost use Rattle.game_model.specs.Grid.{Grid};
 ghost use Rattle.game_model.specs.World.{actor_of};
 ghost use Rattle.game_tick.specs.Harvesting.{after_deliver, after_unloading};
-ghost use Rattle.grid_routes.specs.Routing.{IsSameSize};
-ghost use Rattle.motion.specs.Ground.{FitsMap, built_in};
+ghost use Rattle.grid_routes.specs.Routing.{IsSameSight};
+ghost use Rattle.motion.specs.Ground.{SeesMap, built_in};
 ghost use Rattle.game_model.specs.Kinds.{kind_of};
 ghost use Rattle.game_model.specs.Setup.{setup_in};
 ghost use Rattle.harvest.specs.Steps.{IsHarvested};
@@ -16,7 +16,7 @@ use activities::Activity;
 use actor_table::ActorTable;
 use game_model::{Ground, Purse};
 use grid_routes::Router;
-use motion::{go_towards, pop_head, set_head};
+use motion::{go_towards_seen, pop_head, set_head};
 use production::pay;
 use rule_traits::Rules;
 use world_units::CPos;
@@ -72,11 +72,11 @@ pub(crate) fn deliver(
     timer: u16,
     waits: u8,
 )
-    requires fits { FitsMap g.now.map.now (built_in g.now) t.old r.old }
+    requires fits { SeesMap g.now.map.now (built_in g.now) t.old r.old }
     ensures delivered { (ore : Grid ℕ) (a : Actor) → actor_of t.old.actors id ≡ Some a →
         IsHarvested t.old t.new ore purse.new (after_deliver (setup_in g.now) (built_in g.now)
         (record { actors = t.old.actors; ore = ore; cash = purse.old }) a home timer waits) }
-    ensures router { IsSameSize r.old r.new }
+    ensures router { IsSameSight r.old r.new }
 {
     let _on_map = t.len();
     let Some(a) = t.get(id) else {
@@ -104,6 +104,6 @@ pub(crate) fn deliver(
     if is_beside(from, to) {
         unload_turn(t, g.rules, purse, id, value, home, timer, waits);
     } else {
-        go_towards(t, r, g, id, to, Activity::Deliver { home, timer, waits });
+        go_towards_seen(t, r, g, id, to, Activity::Deliver { home, timer, waits });
     }
 }

@@ -4,8 +4,8 @@ ghost use Rattle.game_model.specs.Grid.{HasSize, IsOn};
 ghost use Rattle.game_model.specs.World.{actor_of};
 ghost use Rattle.game_tick.specs.Harvesting.{after_harvest, after_loading, after_search};
 ghost use Rattle.game_tick.specs.Nearest.{nearest_ore};
-ghost use Rattle.grid_routes.specs.Routing.{IsSameSize};
-ghost use Rattle.motion.specs.Ground.{FitsMap, built_in};
+ghost use Rattle.grid_routes.specs.Routing.{IsSameSight};
+ghost use Rattle.motion.specs.Ground.{SeesMap, built_in};
 ghost use Rattle.game_model.specs.Kinds.{kind_of};
 ghost use Rattle.game_model.specs.Setup.{setup_in};
 ghost use Rattle.harvest.specs.Steps.{IsHarvested};
@@ -17,7 +17,7 @@ use activities::Activity;
 use actor_table::ActorTable;
 use game_model::{Ground, Ore};
 use grid_routes::Router;
-use motion::{go_towards, pop_head, set_head};
+use motion::{go_towards_seen, pop_head, set_head};
 use rule_traits::Rules;
 use world_units::CPos;
 
@@ -116,14 +116,14 @@ pub(crate) fn harvest(
     timer: u16,
     waits: u8,
 )
-    requires fits { FitsMap g.now.map.now (built_in g.now) t.old r.old }
+    requires fits { SeesMap g.now.map.now (built_in g.now) t.old r.old }
     requires ore { HasSize g.now.map.now.width g.now.map.now.height ore.old }
     requires cell { IsOn g.now.map.now.width g.now.map.now.height cell }
     ensures harvested { (cash : List ℕ) (a : Actor) → actor_of t.old.actors id ≡ Some a →
         IsHarvested t.old t.new ore.new cash (after_harvest (setup_in g.now) (built_in g.now)
         (record { actors = t.old.actors; ore = ore.old; cash = cash }) a cell timer waits) }
     ensures size { HasSize g.now.map.now.width g.now.map.now.height ore.new }
-    ensures router { IsSameSize r.old r.new }
+    ensures router { IsSameSight r.old r.new }
 {
     let Some(a) = t.get(id) else {
         return;
@@ -145,6 +145,6 @@ pub(crate) fn harvest(
     } else if at == cell {
         load_turn(t, g.rules, ore, id, cell, timer, waits);
     } else {
-        go_towards(t, r, g, id, cell, Activity::Harvest { cell, timer, waits });
+        go_towards_seen(t, r, g, id, cell, Activity::Harvest { cell, timer, waits });
     }
 }

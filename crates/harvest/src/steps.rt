@@ -3,8 +3,8 @@ ghost use Rattle.game_model.specs.declared.actor.Actor.{Actor};
 ghost use Rattle.game_model.specs.Grid.{HasSize};
 ghost use Rattle.game_model.specs.World.{actor_of};
 ghost use Rattle.game_model.specs.Setup.{setup_in};
-ghost use Rattle.grid_routes.specs.Routing.{IsSameSize};
-ghost use Rattle.motion.specs.Ground.{FitsMap, built_in};
+ghost use Rattle.grid_routes.specs.Routing.{IsSameSight, IsSameSize};
+ghost use Rattle.motion.specs.Ground.{FitsMap, SeesMap, built_in};
 ghost use Rattle.harvest.specs.Steps.{HasWay, IsHarvested, LeadsOnMap, after_first};
 ghost use Rattle.harvest.specs.Steps.{harvested_by_id};
 
@@ -25,14 +25,14 @@ fn harvest_by(
     id: u32,
     first: Activity,
 )
-    requires fits { FitsMap g.now.map.now (built_in g.now) t.old r.old }
+    requires fits { SeesMap g.now.map.now (built_in g.now) t.old r.old }
     requires ore { HasSize g.now.map.now.width g.now.map.now.height ore.old }
     requires way { LeadsOnMap g.now.map.now first }
     ensures harvested { (a : Actor) → actor_of t.old.actors id ≡ Some a →
         IsHarvested t.old t.new ore.new purse.new (after_first (setup_in g.now) (built_in g.now)
         (record { actors = t.old.actors; ore = ore.old; cash = purse.old }) a (Some first)) }
     ensures size { HasSize g.now.map.now.width g.now.map.now.height ore.new }
-    ensures router { IsSameSize r.old r.new }
+    ensures router { IsSameSight r.old r.new }
 {
     match first {
         Activity::Harvest { cell, timer, waits } => {
@@ -64,6 +64,29 @@ pub fn harvest_step(
         (actor_of t.old.actors id)) }
     ensures size { HasSize g.now.map.now.width g.now.map.now.height ore.new }
     ensures router { IsSameSize r.old r.new }
+{
+    r.look(g.map, g.blocks);
+    harvest_step_seen(t, r, g, ore, purse, id);
+}
+
+/// [`harvest_step`] with a router that looks at the ground.
+pub fn harvest_step_seen(
+    t: &mut ActorTable,
+    r: &mut Router,
+    g: &Ground,
+    ore: &mut Ore,
+    purse: &mut Purse,
+    id: u32,
+)
+    requires fits { SeesMap g.now.map.now (built_in g.now) t.old r.old }
+    requires ore { HasSize g.now.map.now.width g.now.map.now.height ore.old }
+    requires way { IfSome (actor_of t.old.actors id) (HasWay g.now.map.now) }
+    ensures harvested { IsHarvested t.old t.new ore.new purse.new
+        (harvested_by_id (setup_in g.now) (built_in g.now)
+        (record { actors = t.old.actors; ore = ore.old; cash = purse.old })
+        (actor_of t.old.actors id)) }
+    ensures size { HasSize g.now.map.now.width g.now.map.now.height ore.new }
+    ensures router { IsSameSight r.old r.new }
 {
     let Some(a) = t.get(id) else {
         return;

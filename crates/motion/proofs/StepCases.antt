@@ -26,7 +26,8 @@ use Rattle.game_tick.specs.Acts.{popped}
 use Rattle.game_model.specs.FoundLemmas.{changed_none, found_id}
 use Rattle.actor_table.specs.Table.{Table}
 use Rattle.grid_routes.specs.Routing.{Routing}
-use Rattle.motion.specs.Ground.{FitsMap}
+use Rattle.grid_routes.specs.Tolls.{land_over}
+use Rattle.motion.specs.Ground.{SeesMap}
 use Rattle.motion.specs.Steps.{IsMoved, waits_of, with_waits, gone_by_id, after_move_by_id}
 
 -- The step of the actor that is found, by its best direction.
@@ -73,11 +74,13 @@ entered_on map built costs goal from next d best enters =
     let on = and_first (is_on map.terrain.width map.terrain.height best.leads.entered) _ (fare_on _ _ _ _ some) in
     rw (← is) (on_map map.terrain.width map.terrain.height best.leads.entered on)
 
-pub entered_on_table : (map : Map) (built : Grid Bool) (t : Table) (r : Routing) (costs : Costs) (goal from next : CPos) (d : ℕ) → FitsMap map built t r → IsBestDirection (land_of map built costs goal) from (Some d) → Some next ≡ step_of from d → IsOn t.width t.height next
+pub entered_on_table : (map : Map) (built : Grid Bool) (t : Table) (r : Routing) (costs : Costs) (goal from next : CPos) (d : ℕ) → SeesMap map built t r → IsBestDirection (land_over r.terrain r.built costs goal) from (Some d) → Some next ≡ step_of from d → IsOn t.width t.height next
 entered_on_table map built t r costs goal from next d fits best enters =
-    let on = entered_on map built costs goal from next d best enters in
-    let wide : t.width ≡ map.terrain.width = fits.wide ∙ sym fits.routes.terrain.width in
-    let high : t.height ≡ map.terrain.height = fits.high ∙ sym fits.routes.terrain.height in
+    let here : IsBestDirection (land_of map built costs goal) from (Some d) =
+    rw (← fits.routes.terrain, ← fits.routes.blocks) best in
+    let on = entered_on map built costs goal from next d here enters in
+    let wide : t.width ≡ map.terrain.width = fits.wide ∙ sym fits.routes.sizes.terrain.width in
+    let high : t.height ≡ map.terrain.height = fits.high ∙ sym fits.routes.sizes.terrain.height in
     rw (wide, high) on
 
 -- After the step the activity goes on, or is dropped.

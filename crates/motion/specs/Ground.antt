@@ -6,7 +6,7 @@ use Rattle.game_model.specs.declared.ground.Ground.{Ground}
 use Rattle.game_model.specs.declared.map.Map.{Map}
 use Rattle.game_model.specs.Grid.{Grid}
 use Rattle.actor_table.specs.Table.{Table}
-use Rattle.grid_routes.specs.Routing.{Routing, AreSized}
+use Rattle.grid_routes.specs.Routing.{Routing, AreSized, LooksAt}
 
 -- The cells of a ground on which a building stands.
 abbrev pub built_in : Ground → Grid Bool
@@ -17,6 +17,12 @@ pub record FitsMap (map : Map) (built : Grid Bool) (table : Table) (router : Rou
   pub wide : table.width ≡ map.width
   pub high : table.height ≡ map.height
   pub routes : AreSized router map built
+
+-- The same, and the router looks at the map and the blocks.
+pub record SeesMap (map : Map) (built : Grid Bool) (table : Table) (router : Routing) : Type 0 where
+  pub wide : table.width ≡ map.width
+  pub high : table.height ≡ map.height
+  pub routes : LooksAt router map built
 
 -- The leg of the actor, if it is on one, has one of the eight directions.
 abbrev pub HasDirection : Actor → Type 0

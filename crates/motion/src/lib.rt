@@ -6,6 +6,9 @@
 //! where that cell is occupied. [`go_towards`] also keeps the activity that leads there, and
 //! [`move_activity`] is the whole step of a Move.
 //!
+//! Each of these three has the router look at the ground first. Its form with `_seen` in its name
+//! wants a router that looks at it already, and spares the comparison.
+//!
 //! Each call says in its clause exactly what it makes of the list of actors
 //! (`game_tick/specs/Moving.antt`); none takes memory of its own or fails. A step takes logarithmic
 //! time beside the search for a route.
@@ -19,7 +22,9 @@ mod towards;
 pub use acts::{go_on, pop_head, set_head};
 pub use game_tick::Moving;
 pub use leg::advance_leg;
-pub use towards::{go_towards, move_activity, move_step};
+pub use towards::{
+    go_towards, go_towards_seen, move_activity, move_activity_seen, move_step, move_step_seen,
+};
 
 #[cfg(test)]
 mod tests;

@@ -8,8 +8,8 @@ ghost use Rattle.game_model.specs.World.{actor_of, is_occupied};
 ghost use Rattle.game_model.specs.Kinds.{kind_of, turning_in};
 ghost use Rattle.game_model.specs.Setup.{setup_in};
 ghost use Rattle.game_tick.specs.Moving.{moved_by_id, moved_into, set_out, waiting_after};
-ghost use Rattle.grid_routes.specs.Routing.{IsSameSize};
-ghost use Rattle.motion.specs.Ground.{FitsMap, built_in};
+ghost use Rattle.grid_routes.specs.Routing.{IsSameSight, IsSameSize};
+ghost use Rattle.motion.specs.Ground.{FitsMap, SeesMap, built_in};
 ghost use Rattle.motion.specs.Steps.{IsMoved, gone_by_id, after_move_by_id};
 
 use crate::acts::{go_on, pop_head, waits_of};
@@ -115,13 +115,32 @@ pub fn move_step(
         t.old.actors goal waits (actor_of t.old.actors id)) }
     ensures router { IsSameSize r.old r.new }
 {
+    r.look(g.map, g.blocks);
+    move_step_seen(t, r, g, id, goal, waits)
+}
+
+/// [`move_step`] with a router that looks at the ground.
+pub fn move_step_seen(
+    t: &mut ActorTable,
+    r: &mut Router,
+    g: &Ground,
+    id: u32,
+    goal: CPos,
+    waits: u8,
+) -> Moving
+    requires fits { SeesMap g.now.map.now (built_in g.now) t.old r.old }
+    requires goal { IsOn g.now.map.now.width g.now.map.now.height goal }
+    ensures moved { IsMoved t.old t.new result (moved_by_id (setup_in g.now) (built_in g.now)
+        t.old.actors goal waits (actor_of t.old.actors id)) }
+    ensures router { IsSameSight r.old r.new }
+{
     let _on_map = t.len();
     let Some(a) = t.get(id) else {
         return Moving::GivenUp;
     };
     let (cell, facing) = (a.cell, a.body.facing);
     let costs = costs_of(g.rules, a.kind);
-    let Some(d) = r.best_dir(g.map, g.blocks, &costs, cell, goal) else {
+    let Some(d) = r.best_dir_seen(&costs, cell, goal) else {
         return Moving::GivenUp;
     };
     if facing.units() != dir_angle(d).units() {
@@ -153,7 +172,28 @@ pub fn go_towards(
     } }
     ensures router { IsSameSize r.old r.new }
 {
-    let moving = move_step(t, r, g, id, goal, waits_of(&activity));
+    r.look(g.map, g.blocks);
+    go_towards_seen(t, r, g, id, goal, activity);
+}
+
+/// [`go_towards`] with a router that looks at the ground.
+pub fn go_towards_seen(
+    t: &mut ActorTable,
+    r: &mut Router,
+    g: &Ground,
+    id: u32,
+    goal: CPos,
+    activity: Activity,
+)
+    requires fits { SeesMap g.now.map.now (built_in g.now) t.old r.old }
+    requires goal { IsOn g.now.map.now.width g.now.map.now.height goal }
+    ensures actors { t.new ≡ record t.old {
+      actors = gone_by_id (setup_in g.now) (built_in g.now)
+          t.old.actors goal activity (actor_of t.old.actors id);
+    } }
+    ensures router { IsSameSight r.old r.new }
+{
+    let moving = move_step_seen(t, r, g, id, goal, waits_of(&activity));
     go_on(t, id, moving, activity);
 }
 
@@ -168,12 +208,33 @@ pub fn move_activity(t: &mut ActorTable, r: &mut Router, g: &Ground, id: u32, go
     } }
     ensures router { IsSameSize r.old r.new }
 {
+    r.look(g.map, g.blocks);
+    move_activity_seen(t, r, g, id, goal, waits);
+}
+
+/// [`move_activity`] with a router that looks at the ground.
+pub fn move_activity_seen(
+    t: &mut ActorTable,
+    r: &mut Router,
+    g: &Ground,
+    id: u32,
+    goal: CPos,
+    waits: u8,
+)
+    requires fits { SeesMap g.now.map.now (built_in g.now) t.old r.old }
+    requires goal { IsOn g.now.map.now.width g.now.map.now.height goal }
+    ensures actors { t.new ≡ record t.old {
+      actors = after_move_by_id (setup_in g.now)
+          (built_in g.now) t.old.actors goal waits (actor_of t.old.actors id);
+    } }
+    ensures router { IsSameSight r.old r.new }
+{
     let Some(a) = t.get(id) else {
         return;
     };
     if a.cell == goal {
         pop_head(t, id);
     } else {
-        go_towards(t, r, g, id, goal, Activity::Move { goal, waits });
+        go_towards_seen(t, r, g, id, goal, Activity::Move { goal, waits });
     }
 }

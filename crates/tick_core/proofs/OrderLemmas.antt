@@ -37,7 +37,7 @@ use Rattle.tick_core.specs.Scene.{IsScene}
 use Rattle.tick_core.specs.Touched.{KeptBut, SameBut, is_among}
 use Rattle.tick_core.specs.Telling.{with_some}
 use Rattle.tick_core.proofs.ChoiceLemmas.{by_if}
-use Rattle.tick_core.proofs.SceneLemmas.{same_size, scene_with}
+use Rattle.tick_core.proofs.SceneLemmas.{same_sight, scene_with}
 use Rattle.tick_core.proofs.TouchedLemmas.{kept_from, same_all, same_changed, same_grows}
 
 own_id :
@@ -185,7 +185,7 @@ order_scene setup w new table after built router dice client order is ready same
     let next : World = after_order setup w client order in
     subst (λ n. IsScene setup n after built router dice) (sym same)
     (scene_with setup 0 w.tick w.drawn w next table after built router router dice dice is
-    (mid_from_valid setup 0 w.tick w.drawn next (order_valid setup 0 w.tick w.drawn w client order ready)) wide high (same_size router)
+    (mid_from_valid setup 0 w.tick w.drawn next (order_valid setup 0 w.tick w.drawn w client order ready)) wide high (same_sight router)
     (change_blocks setup (subject_of order) w.actors next.actors (order_change setup w client order))
     (is.thrown ∙ sym (order_dice setup w client order)))
 

@@ -31,12 +31,12 @@ use Rattle.game_tick.specs.Turn.{after_activity, after_first, after_way, blocks_
 use Rattle.game_tick.specs.TurnLemmas.{build_mid, living_steps, reload_mid, way_mid}
 use Rattle.game_model.specs.LivingLemmas.{living_actor}
 use Rattle.actor_table.specs.Table.{Table}
-use Rattle.grid_routes.specs.Routing.{IsSameSize, Routing}
+use Rattle.grid_routes.specs.Routing.{AreSized, IsSameSight, LooksAt, Routing}
 use Rattle.combat.specs.Attacks as combat
 use Rattle.combat.specs.Attacks.{IsFought, fought_by_id}
 use Rattle.harvest.specs.Steps as gathering
 use Rattle.harvest.specs.Steps.{HasWay, IsHarvested, LeadsOnMap, harvested_by_id}
-use Rattle.motion.specs.Ground.{FitsMap, HasDirection}
+use Rattle.motion.specs.Ground.{HasDirection}
 use Rattle.motion.specs.Steps.{after_move_by_id}
 use Rattle.production.specs.Steps.{built_by_id}
 use Rattle.tick_core.specs.Scene.{DoesFirst, IsActing, IsGathering, IsScene}
@@ -61,7 +61,7 @@ tight setup least most draws w mid =
 pub scene_with :
     (setup : Setup) (least most draws : ℕ) (w new : World) (table after : Table) (built : Grid Bool) (router routed : Routing) (dice rolled : Place) →
     IsScene setup w table built router dice → IsMidTurn setup least most draws new →
-    after.width ≡ table.width → after.height ≡ table.height → IsSameSize router routed →
+    after.width ≡ table.width → after.height ≡ table.height → IsSameSight router routed →
     blocks_of setup new.actors ≡ blocks_of setup w.actors → rolled ≡ dice_of new →
     IsScene setup new after built routed rolled
 scene_with setup least most draws w new table after built router routed dice rolled is mid wide high same same_blocks rolled_is =
@@ -74,18 +74,23 @@ scene_with setup least most draws w new table after built router routed dice rol
             high = high ∙ is.fits.high;
             routes =
                 record {
-                  wide = same.wide ∙ is.fits.routes.wide;
-                  high = same.high ∙ is.fits.routes.high;
-                  terrain = is.fits.routes.terrain;
-                  blocks = is.fits.routes.blocks;
+                  sizes =
+                      record {
+                        wide = same.size.wide ∙ is.fits.routes.sizes.wide;
+                        high = same.size.high ∙ is.fits.routes.sizes.high;
+                        terrain = is.fits.routes.sizes.terrain;
+                        blocks = is.fits.routes.sizes.blocks;
+                      };
+                  terrain = same.terrain ∙ is.fits.routes.terrain;
+                  blocks = same.built ∙ is.fits.routes.blocks;
                 };
           };
       blocks = is.blocks ∙ sym same_blocks;
       thrown = rolled_is;
     }
 
-pub same_size : (router : Routing) → IsSameSize router router
-same_size router = record { wide = refl; high = refl }
+pub same_sight : (router : Routing) → IsSameSight router router
+same_sight router = record { size = record { wide = refl; high = refl }; terrain = refl; built = refl }
 
 -- The actor reloads.
 pub reload_scene :
@@ -98,7 +103,7 @@ reload_scene setup w new table after built router dice id None found lives is sa
 reload_scene setup w new table after built router dice id (Some a) found lives is same wide high =
     subst (λ n. IsScene setup n after built router dice) (sym same)
     (scene_with setup 0 w.tick w.drawn w (with_reload w id) table after built router router dice dice is
-    (reload_mid setup 0 w.tick w.drawn w id a is.acting found) wide high (same_size router)
+    (reload_mid setup 0 w.tick w.drawn w id a is.acting found) wide high (same_sight router)
     (reload_blocks setup 0 w.tick w.drawn w id a found is.acting) is.thrown)
 
 -- The build goes on.
@@ -115,7 +120,7 @@ build_scene setup w new table after built router dice id is same wide high =
     let found : Option Actor = living_of w.actors id in
     subst (λ n. IsScene setup n after built router dice) (sym same)
     (scene_with setup 0 w.tick w.drawn w (with_build setup w found) table after built router router dice dice is
-    (build_mid setup 0 w.tick w.drawn w id found refl is.acting) wide high (same_size router)
+    (build_mid setup 0 w.tick w.drawn w id found refl is.acting) wide high (same_sight router)
     (build_blocks setup 0 w.tick w.drawn w id found refl is.acting) (is.thrown ∙ sym (built_dice setup w found)))
 
 abbrev with_new : World → List Actor → ℕ → World
@@ -138,7 +143,7 @@ build_is setup w table after next id a lives found here is next_is =
 pub way_scene :
     (setup : Setup) (w new : World) (table after : Table) (built : Grid Bool) (router routed : Routing) (dice rolled : Place) (id : ℕ) →
     IsScene setup w table built router dice → new ≡ with_way setup w (living_of w.actors id) →
-    after.width ≡ table.width → after.height ≡ table.height → IsSameSize router routed →
+    after.width ≡ table.width → after.height ≡ table.height → IsSameSight router routed →
     rolled ≡ dice_of new → IsScene setup new after built routed rolled
 way_scene setup w new table after built router routed dice rolled id is same wide high sized thrown =
     let found : Option Actor = living_of w.actors id in
@@ -405,12 +410,29 @@ fight_dice setup w table after built dice rolled id thrown is =
     ∙ ap (λ (p : Place). p.seed) thrown in
     ap (λ n. record { seed = n; drawn = rolled.drawn }) seed
 
--- The burial, where the blocks of the dead are cleared.
+-- The burial, where the blocks of the dead are cleared, and the router looks at what is left.
+pub sized_left :
+    (setup : Setup) (w : World) (table : Table) (built left : Grid Bool) (router : Routing) (dice : Place) →
+    IsScene setup w table built router dice → left ≡ blocks_of setup (filter is_alive w.actors) →
+    AreSized router setup.map left
+sized_left setup w table built left router dice is cleared = record {
+  wide = is.fits.routes.sizes.wide;
+  high = is.fits.routes.sizes.high;
+  terrain = is.fits.routes.sizes.terrain;
+  blocks =
+      record {
+        width = ap (λ (g : Grid Bool). g.width) cleared;
+        height = ap (λ (g : Grid Bool). g.height) cleared;
+      };
+}
+
 bury_by :
-    (setup : Setup) (w : World) (table after : Table) (built left : Grid Bool) (router : Routing) (dice : Place) →
+    (setup : Setup) (w : World) (table after : Table) (built left : Grid Bool) (router routed : Routing) (dice : Place) →
     IsScene setup w table built router dice → after.width ≡ table.width → after.height ≡ table.height →
-    left ≡ blocks_of setup (filter is_alive w.actors) → IsScene setup (buried w) after left router dice
-bury_by setup w table after built left router dice is wide high cleared =
+    left ≡ blocks_of setup (filter is_alive w.actors) →
+    LooksAt routed setup.map left →
+    IsScene setup (buried w) after left routed dice
+bury_by setup w table after built left router routed dice is wide high cleared looks =
     let mid = is.acting in
     record {
       stands = is.stands;
@@ -433,27 +455,18 @@ bury_by setup w table after built left router dice is wide high cleared =
           record {
             wide = wide ∙ is.fits.wide;
             high = high ∙ is.fits.high;
-            routes =
-                record {
-                  wide = is.fits.routes.wide;
-                  high = is.fits.routes.high;
-                  terrain = is.fits.routes.terrain;
-                  blocks =
-                      record {
-                        width = ap (λ (g : Grid Bool). g.width) cleared;
-                        height = ap (λ (g : Grid Bool). g.height) cleared;
-                      };
-                };
+            routes = looks;
           };
       blocks = cleared;
       thrown = is.thrown;
     }
 
 pub bury_scene :
-    (setup : Setup) (w new : World) (table after : Table) (built left : Grid Bool) (router : Routing) (dice : Place) →
+    (setup : Setup) (w new : World) (table after : Table) (built left : Grid Bool) (router routed : Routing) (dice : Place) →
     IsScene setup w table built router dice → new ≡ buried w → after.width ≡ table.width →
     after.height ≡ table.height → left ≡ blocks_of setup (filter is_alive w.actors) →
-    IsScene setup new after left router dice
-bury_scene setup w new table after built left router dice is same wide high cleared =
-    subst (λ n. IsScene setup n after left router dice) (sym same)
-    (bury_by setup w table after built left router dice is wide high cleared)
+    LooksAt routed setup.map left →
+    IsScene setup new after left routed dice
+bury_scene setup w new table after built left router routed dice is same wide high cleared looks =
+    subst (λ n. IsScene setup n after left routed dice) (sym same)
+    (bury_by setup w table after built left router routed dice is wide high cleared looks)

@@ -14,18 +14,18 @@ use Rattle.game_model.specs.World.{living_of}
 use Rattle.game_tick.specs.MidTurn.{IsMidTurn}
 use Rattle.game_tick.specs.Turn.{blocks_of, dice_of, with_build, with_reload}
 use Rattle.grid_routes.specs.Routing.{Routing}
-use Rattle.motion.specs.Ground.{FitsMap}
+use Rattle.motion.specs.Ground.{SeesMap}
 
 -- Within a turn: all that a valid world says, but that actors may have no health left.
 abbrev pub IsActing : Setup → World → Type 0
 IsActing setup w = IsMidTurn setup 0 w.tick w.drawn w
 
--- The parts are those of the world.
+-- The parts are those of the world, and the router looks at its map and its blocks.
 pub record IsScene (setup : Setup) (w : World) (table : Table) (built : Grid Bool) (router : Routing) (dice : Place)
     : Type 0 where
   pub stands : IsSetup setup
   pub acting : IsActing setup w
-  pub fits : FitsMap setup.map built table router
+  pub fits : SeesMap setup.map built table router
   pub blocks : built ≡ blocks_of setup w.actors
   pub thrown : dice ≡ dice_of w
 

@@ -67,7 +67,8 @@ impl Scene {
         let (width, height) = (map.width, map.height);
         let table = filled_table(alloc, width, height, world.actors.as_slice())?;
         let blocks = blocks_of(alloc, &rules, &map, world.actors.as_slice())?;
-        let router = Router::create(alloc, width, height)?;
+        let mut router = Router::create(alloc, width, height)?;
+        router.look(&map, &blocks);
         let dice = Twister::seeded(world.seed);
         Ok(Scene {
             rules,
@@ -164,6 +165,7 @@ impl Scene {
         ensures { self.new ≡ (record self.old { world = buried self.old.world }) }
     {
         clear_dead(&self.table, &self.rules, &self.map, &mut self.blocks);
+        self.router.look(&self.map, &self.blocks);
         self.table.bury();
     }
 }

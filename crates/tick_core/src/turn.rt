@@ -1,4 +1,4 @@
-ghost use Rattle.std.specs.Prelude.{◌≡◌, ◌==◌, ◌+◌, ◌-◌, ◌≤◌, ◌<◌, ◌^◌, [], true, false, if◌then◌else◌, length, map, slice_get, IfSome, None, Some};
+ghost use Rattle.std.specs.Prelude.{◌≡◌, ℕ, ◌==◌, ◌+◌, ◌-◌, ◌≤◌, ◌<◌, ◌^◌, [], true, false, if◌then◌else◌, length, map, slice_get, IfSome, None, Some};
 ghost use Rattle.actor_table.specs.Idle.{IsIdle};
 ghost use Rattle.game_model.specs.Grid.{IsOn};
 ghost use Rattle.game_model.specs.ValidMap.{IsSetup};
@@ -27,15 +27,21 @@ pub(crate) struct Aim {
     pub(crate) cell: Option<CPos>,
 }
 
-/// Whether the actor at a place of the table, which has this id, lives and a step may change it.
-fn is_busy_at(table: &ActorTable, i: usize, id: u32) -> bool
+/// Whether it is known that a step leaves the actor at a place of the table as it is.
+fn is_idle_at(table: &ActorTable, i: usize) -> bool
+    ensures { (id : ℕ) → result ≡ true → slice_get (ids_of table.now.actors) i ≡ Some id →
+        IfSome (living_of table.now.actors id) IsIdle }
+{
+    let _ids_rise = table.len();
+    table.is_idle_at(i)
+}
+
+/// Whether the actor at a place of the table, which has this id, lives.
+fn lives_at(table: &ActorTable, i: usize, id: u32) -> bool
     requires { slice_get (ids_of table.now.actors) i ≡ Some id }
     ensures { result ≡ false → IfSome (living_of table.now.actors id) IsIdle }
 {
     let _ids_rise = table.len();
-    if table.is_idle_at(i) {
-        return false;
-    }
     match table.nth_actor(i) {
         Some(a) => a.body.health > 0,
         None => false,
@@ -143,13 +149,22 @@ impl Scene {
         aim_of(&self.table, id)
     }
 
-    /// Whether the actor at a place, which has this id, lives and a step may change it. It is found
-    /// at once, where an id would be searched.
-    fn is_busy(&self, i: usize, id: u32) -> bool
+    /// Whether it is known that a step leaves the actor at a place as it is. It takes no look at the
+    /// actor.
+    fn is_idle_at(&self, i: usize) -> bool
+        ensures { (id : ℕ) → result ≡ true → slice_get (ids_of self.now.world.actors) i ≡ Some id →
+            IfSome (living_of self.now.world.actors id) IsIdle }
+    {
+        is_idle_at(&self.table, i)
+    }
+
+    /// Whether the actor at a place, which has this id, lives. It is found at once, where an id would
+    /// be searched.
+    fn lives_at(&self, i: usize, id: u32) -> bool
         requires { slice_get (ids_of self.now.world.actors) i ≡ Some id }
         ensures { result ≡ false → IfSome (living_of self.now.world.actors id) IsIdle }
     {
-        is_busy_at(&self.table, i, id)
+        lives_at(&self.table, i, id)
     }
 
     /// Tells the hasher of the actors of these ids, as far as they are there: the numbers of all
@@ -202,9 +217,7 @@ impl LiveWorld {
         ensures few { length self.old.world.actors ≤ MAX_ACTORS }
     {
         for i in 0..self.scene.actors() {
-            if let Some(id) = self.scene.nth(i) {
-                self.step_actor(i, id);
-            }
+            self.step_at(i);
         }
     }
 
@@ -216,16 +229,23 @@ impl LiveWorld {
         self.scene.count_turn();
     }
 
-    /// The step of the actor at a place, which has this id, of which the hasher is told.
-    fn step_actor(&mut self, i: usize, id: u32)
-        requires place { slice_get (ids_of self.old.world.actors) i ≡ Some id }
+    /// The step of the actor at a place, of which the hasher is told. One that is known to be idle
+    /// costs the look at its mark.
+    fn step_at(&mut self, i: usize)
         requires draws { self.old.world.drawn < 2 ^ 64 - 1 }
-        ensures world { self.new ≡ (record self.old { world = after_step self.old.setup self.old.world id }) }
+        ensures world { (id : ℕ) → slice_get (ids_of self.old.world.actors) i ≡ Some id →
+            self.new ≡ (record self.old { world = after_step self.old.setup self.old.world id }) }
         ensures stands { IsSetup self.old.setup }
         ensures acting { IsActing self.old.setup self.old.world }
     {
         self.scene.known();
-        if self.scene.is_busy(i, id) {
+        if self.scene.is_idle_at(i) {
+            return;
+        }
+        let Some(id) = self.scene.nth(i) else {
+            return;
+        };
+        if self.scene.lives_at(i, id) {
             self.step_busy(id);
         }
     }

@@ -5,8 +5,8 @@ use Rattle.motion.specs.Ground.{built_in}
 use Rattle.harvest.proofs.StepCases.{deliver_empty, deliver_ends, deliver_unloads, deliver_goes, refinery_on}
 use Rattle.harvest.proofs.deliver.deliver.Goals as goal
 
-pub go_towards-requires-clause-goal : goal.go_towards-requires-clause-goal
-go_towards-requires-clause-goal c =
+pub go_towards_seen-requires-clause-goal : goal.go_towards_seen-requires-clause-goal
+go_towards_seen-requires-clause-goal c =
     let on : IsOn c.args.t.now.width c.args.t.now.height c.in-Some-nearest_refinery.refinery.now.cell = refinery_on c.args.g.now.rules.now c.args.t.now c.in-Some.a.now c.in-Some-nearest_refinery.refinery.now c.len-on_map.ensures.list c.in-Some-nearest_refinery.ensures in
     rw (← c.requires.fits.wide, ← c.requires.fits.high) on
 
@@ -33,4 +33,4 @@ pub returns-else-is_beside-clause-delivered : goal.returns-else-is_beside-clause
 returns-else-is_beside-clause-delivered c ore a found =
     let same : Some a ≡ Some c.in-Some.a.now = sym found ∙ sym c.in-Some.ensures in
     let is : a ≡ c.in-Some.a.now = cc in
-    rw is (deliver_goes c.args.t.now c.go_towards.new.t ore c.args.purse.now c.args.id c.in-Some.a.now (sym c.in-Some.ensures) (setup_in c.args.g.now) (built_in c.args.g.now) c.args.home c.args.timer c.args.waits c.in-Some-nearest_refinery.refinery.now c.in-Some-nearest_refinery.ensures c.if-a-eq0.false (sym c.is_beside.ensures ∙ c.if-is_beside.false) c.go_towards.ensures.actors)
+    rw is (deliver_goes c.args.t.now c.go_towards_seen.new.t ore c.args.purse.now c.args.id c.in-Some.a.now (sym c.in-Some.ensures) (setup_in c.args.g.now) (built_in c.args.g.now) c.args.home c.args.timer c.args.waits c.in-Some-nearest_refinery.refinery.now c.in-Some-nearest_refinery.ensures c.if-a-eq0.false (sym c.is_beside.ensures ∙ c.if-is_beside.false) c.go_towards_seen.ensures.actors)

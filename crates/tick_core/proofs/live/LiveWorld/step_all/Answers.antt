@@ -1,29 +1,24 @@
-use Rattle.std.proofs.Common.{◌≡◌, ◌<◌, ◌≤◌, Some, None, length, ap, arith, refl, subst, sym, ◌∙◌}
+use Rattle.std.proofs.Common.{◌≡◌, ◌<◌, ℕ, Some, length, get_or, ap, arith, ◌∙◌}
 use Rattle.std.specs.Prelude.{slice_get}
+use Rattle.std.proofs.lemmas.Option.{slice_get-get_or}
 use Rattle.game_model.specs.World.{ids_of}
 use Rattle.game_tick.specs.TurnLemmas.{length-ids_of}
 use Rattle.tick_core.specs.Live.{Standing}
-use Rattle.tick_core.proofs.BusyLemmas.{slice_none, stepped_all, stepped_next}
+use Rattle.tick_core.proofs.BusyLemmas.{stepped_all, stepped_next}
 use Rattle.tick_core.proofs.live.LiveWorld.step_all.Goals as goal
-use Rattle.tick_core.proofs.live.LiveWorld.step_all.Goals.{in-Some, in_default}
 
 -- The next actor makes its step; there is one, since all stay at their places.
 pub loop-i-preserved : goal.loop-i-preserved
 loop-i-preserved c =
-    let many : length c.self.inside.scene.world.actors ≡ length c.args.self.now.world.actors = ap (λ (s : Standing). length s.world.actors) c.self.view_is in
-    let within : c.loop-i.i < length c.args.self.now.world.actors = omega (arith, c.loop-i-test.true, c.actors-i-end.ensures.value, many) in
-    elim c.match-nth.branch [
-      | in-Some w ↦ rw w.self-is
-          (stepped_next c.args.self.now c.loop-i.self _ c.loop-i.i w.in-Some.id within
-          (subst (λ (s : Standing). slice_get (ids_of s.world.actors) c.loop-i.i ≡ Some w.in-Some.id) c.self-in-loop-i.view_is (sym w.in-Some.ensures))
-          w.step_actor.ensures.stands w.step_actor.ensures.acting w.step_actor.ensures.world c.loop-i.invariant)
-      | in_default w ↦
-          let none : slice_get (ids_of c.loop-i.self.world.actors) c.loop-i.i ≡ None =
-          subst (λ (s : Standing). slice_get (ids_of s.world.actors) c.loop-i.i ≡ None) c.self-in-loop-i.view_is (sym w.in_default.ensures) in
-          let past : length (ids_of c.args.self.now.world.actors) ≤ c.loop-i.i =
-          slice_none (ids_of c.args.self.now.world.actors) c.loop-i.i (sym (c.loop-i.invariant.ids c.loop-i.i within) ∙ none) in
-          absurd (omega (arith, past, within, length-ids_of c.args.self.now.world.actors))
-    ]
+    let first = c.args.self.now.world.actors in
+    let many : length c.self.inside.scene.world.actors ≡ length first = ap (λ (s : Standing). length s.world.actors) c.self.view_is in
+    let within : c.loop-i.i < length first = omega (arith, c.loop-i-test.true, c.actors-i-end.ensures.value, many) in
+    let id : ℕ = get_or (ids_of first) c.loop-i.i 0 in
+    let at : slice_get (ids_of first) c.loop-i.i ≡ Some id =
+    slice_get-get_or (ids_of first) c.loop-i.i 0 (omega (arith, within, length-ids_of first)) in
+    let here : slice_get (ids_of c.loop-i.self.world.actors) c.loop-i.i ≡ Some id = c.loop-i.invariant.ids c.loop-i.i within ∙ at in
+    stepped_next c.args.self.now c.loop-i.self _ c.loop-i.i id within here c.step_at.ensures.stands c.step_at.ensures.acting
+    (c.step_at.ensures.world id here) c.loop-i.invariant
 
 pub returns-clause-world : goal.returns-clause-world
 returns-clause-world c =

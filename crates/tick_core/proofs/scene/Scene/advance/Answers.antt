@@ -6,7 +6,7 @@ use Rattle.game_model.specs.Setup.{Setup}
 use Rattle.game_model.specs.World.{living_of, world_with}
 use Rattle.actor_table.specs.Table.{Table}
 use Rattle.tick_core.specs.Live.{Standing}
-use Rattle.tick_core.proofs.SceneLemmas.{advance_is, leg_on, same_size, way_scene}
+use Rattle.tick_core.proofs.SceneLemmas.{advance_is, leg_on, same_sight, way_scene}
 use Rattle.tick_core.proofs.scene.Scene.advance.Goals as goal
 
 pub advance_leg-requires : goal.advance_leg-requires
@@ -28,7 +28,7 @@ invariant_of-self c =
     let moved = rw c.deref.ensures at c.advance_leg.ensures in
     way_scene setup w _ s.table c.advance_leg.new.t s.blocks s.router s.router s.dice s.dice c.args.id c.self.invariant
     (advance_is setup w s.table c.advance_leg.new.t c.args.id does refl moved)
-    (ap (λ (t : Table). t.width) moved) (ap (λ (t : Table). t.height) moved) (same_size s.router) c.self.invariant.thrown
+    (ap (λ (t : Table). t.width) moved) (ap (λ (t : Table). t.height) moved) (same_sight s.router) c.self.invariant.thrown
 
 pub returns : goal.returns
 returns c =

@@ -1,12 +1,6 @@
 use Rattle.std.proofs.Common.{◌≡◌, true, false, sym, ◌∙◌}
-use Rattle.tick_core.proofs.BusyLemmas.{idle_at, idle_marked, nobody_at}
-use Rattle.tick_core.proofs.turn.is_busy_at.Goals as goal
-
--- It is known to be idle.
-pub returns-then-is_idle_at : goal.returns-then-is_idle_at
-returns-then-is_idle_at c = λ denied.
-    idle_marked c.args.table.now.actors c.args.i c.args.id c.len-ids_rise.ensures.list.rise c.requires
-    (c.is_idle_at.ensures c.if-is_idle_at.true)
+use Rattle.tick_core.proofs.BusyLemmas.{idle_at, nobody_at}
+use Rattle.tick_core.proofs.turn.lives_at.Goals as goal
 
 -- It does not live.
 pub returns-in-Some : goal.returns-in-Some
