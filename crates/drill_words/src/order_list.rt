@@ -1,5 +1,5 @@
 //! Reads the orders at the end of a line.
-ghost use Rattle.std.specs.Prelude.{◌≡◌, true, IfOk};
+ghost use Rattle.std.specs.Prelude.{◌≡◌, [], MatchResult, Ok, Err};
 ghost use Rattle.drill_words.specs.Read.{Takes};
 ghost use Rattle.drill_words.specs.OrderList.{order_word_at, order_at, orders_at};
 ghost use Rattle.drill_words.specs.OrderList.{cell_at, u32_at, u8_at};
@@ -11,20 +11,33 @@ use game_orders::{MAX_ORDERS, Order, Orders};
 use world_units::CPos;
 
 /// Takes orders with the word `;` between them, or none, to the end of the line.
-#[tactic(auto, using(crate::proofs::OrderListLemmas::order_steps))]
 pub(crate) fn take_orders(cursor: &mut WordCursor<'_>) -> Result<Orders, WordFault>
     ensures { Takes result cursor.new (orders_at cursor.old) }
 {
     let mut orders = Orders::empty();
+    take_orders_into(cursor, &mut orders)?;
+    Ok(orders)
+}
+
+/// Takes orders as [`take_orders`] does, and puts them where there are none.
+#[tactic(auto, using(crate::proofs::OrderListLemmas::order_steps))]
+pub(crate) fn take_orders_into(
+    cursor: &mut WordCursor<'_>,
+    orders: &mut Orders,
+) -> Result<(), WordFault>
+    requires { orders.old ≡ [] }
+    ensures { MatchResult result (λ _. orders_at cursor.old ≡ Ok (orders.new, cursor.new))
+        (λ fault. orders_at cursor.old ≡ Err fault) }
+{
     if cursor.is_done() {
-        return Ok(orders);
+        return Ok(());
     }
     for _room in 0..MAX_ORDERS {
         let word = take_order_word(cursor)?;
         let order = take_order(word, cursor)?;
         let _ = orders.try_push(order);
         match cursor.next() {
-            None => return Ok(orders),
+            None => return Ok(()),
             Some(word) if word == b";".as_slice() => {}
             Some(_) => return Err(WordFault::BadWord),
         }

@@ -1,13 +1,13 @@
 //! Reads the lines of a script.
-ghost use Rattle.std.specs.Prelude.{◌≡◌, ◌<◌, ◌≤◌, true, IfOk};
+ghost use Rattle.std.specs.Prelude.{◌≡◌, ◌<◌, ◌≤◌, true, [], IfOk, MatchResult, Ok, Err};
 ghost use Rattle.drill_words.specs.ScriptLine.{script_head_of, script_play_of};
 ghost use Rattle.game_orders.specs.declared.limits.TheConstants.{MAX_CLIENTS};
 
-use crate::order_list::take_orders;
-use crate::script_words::{ScriptHead, ScriptPlay};
+use crate::order_list::take_orders_into;
+use crate::script_words::ScriptHead;
 use crate::word_cursor::WordCursor;
 use crate::word_fault::WordFault;
-use game_orders::MAX_CLIENTS;
+use game_orders::{MAX_CLIENTS, Orders};
 
 /// The head that the words of a script's first line write. A solo script has one client.
 #[tactic(auto, unfolding(crate::specs::ScriptLine::script_head_of))]
@@ -31,17 +31,22 @@ pub(crate) fn read_script_head(
     })
 }
 
-/// The play that the words of a line write, in a match of so many clients.
+/// The play that the words of a line write, in a match of so many clients: who plays, and the
+/// orders, which are put where there are none.
 #[tactic(auto, unfolding(crate::specs::ScriptLine::script_play_of))]
 pub(crate) fn read_script_play(
     clients: u8,
     cursor: &mut WordCursor<'_>,
-) -> Result<ScriptPlay, WordFault>
-    ensures line { result ≡ script_play_of clients cursor.old }
-    ensures below { IfOk result (λ play. play.client < clients) }
+    orders: &mut Orders,
+) -> Result<u8, WordFault>
+    requires { orders.old ≡ [] }
+    ensures line { MatchResult result (λ client. script_play_of clients cursor.old
+        ≡ Ok (record { client = client; orders = orders.new }))
+        (λ fault. script_play_of clients cursor.old ≡ Err fault) }
+    ensures below { IfOk result (λ client. client < clients) }
 {
     let client = cursor.client(clients)?;
-    let orders = take_orders(cursor)?;
+    take_orders_into(cursor, orders)?;
     cursor.end()?;
-    Ok(ScriptPlay { client, orders })
+    Ok(client)
 }

@@ -1,5 +1,6 @@
 //! Reads scripts.
-ghost use Rattle.std.specs.Prelude.{◌≡◌, ◌≢◌, ◌<◌, ◌≤◌, true, length, IfOk};
+ghost use Rattle.std.specs.Prelude.{◌≡◌, ◌≢◌, ◌<◌, ◌≤◌, true, [], length, IfOk, MatchResult};
+ghost use Rattle.std.specs.Prelude.{Ok, Err};
 ghost use Rattle.drill_words.specs.Drill.{ReturnsRead};
 ghost use Rattle.drill_words.specs.Script.{play_on, scripts_on, script_plain, read_script_of};
 ghost use Rattle.game_orders.specs.declared.limits.TheConstants.{MAX_CLIENTS};
@@ -9,9 +10,9 @@ use crate::kept_lines::KeptLines;
 use crate::limits::{MAX_DRILL_BYTES, MAX_EVENTS};
 use crate::reading::fault_at;
 use crate::script_line::{read_script_head, read_script_play};
-use crate::script_words::ScriptPlay;
 use crate::scripts::Scripts;
 use crate::word_cursor::WordCursor;
+use game_orders::Orders;
 use std::alloc::Global;
 
 /// Reads a script from at most [`MAX_DRILL_BYTES`] bytes: the seed of a match, and what each client
@@ -52,10 +53,11 @@ fn read_plays(alloc: Global, clients: u8, lines: &mut KeptLines<'_>) -> Result<S
         return Err(DrillFault::NoMemory);
     };
     let mut before: u32 = 0;
+    let mut orders = Orders::empty();
     while let Some((number, cursor)) = lines.next() {
-        let play = read_play_on(clients, before, number, cursor)?;
-        let ScriptPlay { client, orders } = play;
-        let Ok(()) = scripts.push(client, orders) else {
+        clear(&mut orders);
+        let client = read_play_on(clients, before, number, cursor, &mut orders)?;
+        let Ok(()) = scripts.push_lent(client, &orders) else {
             return Err(DrillFault::NoMemory);
         };
         before += 1;
@@ -63,21 +65,36 @@ fn read_plays(alloc: Global, clients: u8, lines: &mut KeptLines<'_>) -> Result<S
     Ok(scripts)
 }
 
-/// The play of a line that follows so many others.
+/// Drops all orders.
+fn clear(orders: &mut Orders)
+    ensures { orders.new ≡ [] }
+{
+    if !orders.is_empty() {
+        *orders = Orders::empty();
+    }
+}
+
+/// The play of a line that follows so many others: who plays, and the orders, which are put where
+/// there are none.
 #[tactic(auto, unfolding(crate::specs::Script::play_on))]
 fn read_play_on(
     clients: u8,
     before: u32,
     number: u32,
     mut cursor: WordCursor<'_>,
-) -> Result<ScriptPlay, DrillFault>
-    ensures line { result
-        ≡ play_on clients before (record { number = number; words = cursor.entry }) }
+    orders: &mut Orders,
+) -> Result<u8, DrillFault>
+    requires { orders.old ≡ [] }
+    ensures line { MatchResult result (λ client.
+        play_on clients before (record { number = number; words = cursor.entry })
+        ≡ Ok (record { client = client; orders = orders.new }))
+        (λ fault. play_on clients before (record { number = number; words = cursor.entry })
+        ≡ Err fault) }
     ensures room { IfOk result (λ _. before ≢ MAX_EVENTS) }
-    ensures below { IfOk result (λ play. play.client < clients) }
+    ensures below { IfOk result (λ client. client < clients) }
 {
     if before == MAX_EVENTS {
         return Err(DrillFault::TooManyEvents { line: number });
     }
-    read_script_play(clients, &mut cursor).map_err(|fault| fault_at(fault, number))
+    read_script_play(clients, &mut cursor, orders).map_err(|fault| fault_at(fault, number))
 }

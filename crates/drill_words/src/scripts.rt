@@ -63,7 +63,17 @@ impl Scripts {
         ensures ok { OnOk result (self.new ≡ with_play self.old c orders) }
         ensures err { OnErr result (self.new ≡ self.old) }
     {
-        self.each[c as usize].push(&orders)
+        self.push_lent(c, &orders)
+    }
+
+    /// Adds a play as `push` does, of orders that are lent.
+    pub(crate) fn push_lent(&mut self, c: u8, orders: &Orders) -> Result<(), NoMemory>
+        requires client { c < length self.old }
+        requires room { length (plays_of self.old c) < MAX_FRAMES }
+        ensures ok { OnOk result (self.new ≡ with_play self.old c orders.now) }
+        ensures err { OnErr result (self.new ≡ self.old) }
+    {
+        self.each[c as usize].push(orders)
     }
 
     /// What client `c`, which is below the number of clients, plays, frame by frame from 0.

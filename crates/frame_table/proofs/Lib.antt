@@ -9,3 +9,4 @@ pub mod Calls
 pub mod Becoming
 pub mod Looking
 pub mod TestPasses
+pub mod Copied

@@ -1,7 +1,7 @@
 -- What the calls of the table ask of a pass, and what they leave.
 use Rattle.std.specs.Prelude.{◌≡◌, ℕ, ◌<◌, ◌≤◌, ◌⊎◌, nat_lt, Bool, true, false, if◌then◌else◌}
-use Rattle.std.specs.Prelude.{List, [], ◌∷◌, ◌++◌, length, map, take, Some, None, slice_get}
-use Rattle.std.specs.Prelude.{slice_set}
+use Rattle.std.specs.Prelude.{List, [], ◌∷◌, ◌++◌, length, map, take, drop, Some, None}
+use Rattle.std.specs.Prelude.{slice_get, slice_set}
 use Rattle.atomic_table.specs.Table.{Me}
 use Rattle.game_orders.specs.declared.order.Order.{Order}
 use Rattle.game_orders.specs.declared.limits.TheConstants.{MAX_FRAMES}
@@ -94,6 +94,12 @@ LeavesSo c old new answer =
 -- A take found the column, which it left as it was, and answers what stands for frame n.
 abbrev pub TakesSo : ℕ → View → View → ℕ → Entry → Type 0
 TakesSo c old new n e = (K : Column) × Acted c old new K K × (has_at K n ≡ Some e)
+
+-- A take of many plays found the column, which it left as it was, and gives its plays from frame n
+-- on, at most so many.
+abbrev pub TakesPlays : ℕ → View → View → ℕ → ℕ → List (List Order) → Type 0
+TakesPlays c old new n most plays =
+    (K : Column) × Acted c old new K K × (plays ≡ take most (drop n K.plays))
 
 -- Nothing has changed for the pass.
 pub record Unchanged (old new : View) : Type 0 where

@@ -13,6 +13,7 @@
 //! grow, each pass has seen and knows a beginning of each, a departure is fixed once, by one pass.
 #![tactic(auto)]
 
+mod batches;
 mod entries;
 mod locking;
 mod looks;

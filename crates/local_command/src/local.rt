@@ -1,4 +1,4 @@
-ghost use Rattle.std.specs.Prelude.{◌≡◌, ◌≤◌, ◌++◌, length, max, IfOk, OnOk, string_bytes};
+ghost use Rattle.std.specs.Prelude.{◌≡◌, ◌≤◌, ◌++◌, length, IfOk, OnOk, string_bytes};
 ghost use Rattle.drill.specs.Report.{column_lines};
 ghost use Rattle.drill.specs.Text.{world_text, end_line};
 ghost use Rattle.drill_words.specs.declared.limits.TheConstants.{MAX_DRILL_BYTES};
@@ -12,7 +12,7 @@ use drill::{add_columns, add_end_line, add_world};
 use drill_words::{MAX_DRILL_BYTES, Scripts, read_script};
 use frame_core::{Columns, Maker, Sim};
 use game_io::Gate;
-use match_run::{LocalRun, closed_columns_are_the_scripts, run_local};
+use match_run::{LocalRun, closed_columns_are_the_scripts, longest, run_local};
 use std::alloc::Global;
 use std::fmt::Write;
 use std::sync::Wait;
@@ -81,15 +81,4 @@ fn add_local_head(text: &mut String, frames: u32) -> Result<(), NoMemory>
     ensures { OnOk result (string_bytes text.new ≡ string_bytes text.old ++ local_head frames) }
 {
     write!(text, "local frames {frames}")
-}
-
-/// The greatest number of plays of a column.
-fn longest(columns: &Columns) -> u32
-    ensures { result ≡ longest columns.now }
-{
-    let mut most: u32 = 0;
-    for c in 0..columns.clients() {
-        most = most.max(columns.plays(c));
-    }
-    most
 }

@@ -1,3 +1,4 @@
 pub mod Columns
 pub mod LocalPasses
 pub mod LocalTicks
+pub mod Taking

@@ -1,8 +1,8 @@
 -- The ticking thread.
-use Rattle.std.proofs.Common.{◌≡◌, ℕ, zero, suc, ◌+◌, ◌<◌, ◌≤◌, ◌⊎◌, List, [], ◌∷◌, ◌++◌, length, take, refl, sym, ap, ap₂, ◌∙◌, subst, inl, inr, ⊎_elim, arith, Some}
+use Rattle.std.proofs.Common.{◌≡◌, ℕ, zero, suc, ◌+◌, ◌<◌, ◌≤◌, ◌⊎◌, List, [], ◌∷◌, ◌++◌, length, take, refl, sym, ap, ap₂, ◌∙◌, subst, inl, inr, ⊎_elim, arith}
 use Rattle.game_orders.specs.declared.order.Order.{Order}
 use Rattle.game_orders.specs.declared.entry.Entry.{Entry}
-use Rattle.frame_core.specs.Column.{Column, has_at}
+use Rattle.frame_core.specs.Column.{has_at}
 use Rattle.frame_core.specs.Ready.{or_leave, frame_at}
 use Rattle.frame_core.specs.FoldLemmas.{folded_step}
 use Rattle.frame_core.specs.declared.ready.Ready.{Ready}
@@ -10,14 +10,13 @@ use Rattle.frame_core.specs.declared.ready.Ready.TheVariants.{Yes, Over}
 use Rattle.drill_words.specs.Scripts.{plays_of}
 use Rattle.frame_table.specs.declared.pass.Pass.{Pass}
 use Rattle.frame_table.specs.declared.table.FrameTable.{FrameTable}
-use Rattle.frame_table.specs.Part.{Part}
 use Rattle.frame_table.specs.Word.{whole_of}
-use Rattle.frame_table.specs.Steps.{IsFound}
-use Rattle.frame_table.specs.Calls.{view_of, standing, IsPassOf, HasSeen, TakesSo, MeansReadySeen}
+use Rattle.frame_table.specs.Calls.{view_of, standing, HasSeen, MeansReadySeen}
 use Rattle.match_run.specs.Local.{script_column, script_columns, frames_of, IsAll}
-use Rattle.match_run.specs.Passes.{FollowsScript, IsLocalPass, KnowsAllSeen, IsStepped}
-use Rattle.match_run.proofs.Columns.{has_script}
-use Rattle.match_run.proofs.LocalPasses.{Scripts, found_follows, acted_local, acted_knows}
+use Rattle.match_run.specs.Passes.{IsLocalPass, KnowsAllSeen, IsStepped}
+use Rattle.match_run.specs.declared.taken.Taken.{Taken}
+use Rattle.match_run.specs.Taken.{AreTaken}
+use Rattle.match_run.proofs.LocalPasses.{Scripts}
 
 -- The agreed frame, client by client.
 frame_next : (scripts : Scripts) (n c : ℕ) → c < length scripts →
@@ -39,12 +38,6 @@ pub frame_none : (scripts : Scripts) (n : ℕ) → [] ≡ take 0 (frame_at (scri
 frame_none [] n = refl
 frame_none (s ∷ scripts) n = refl
 
--- The entry that was taken is the agreed one.
-pub entry_taken : (plays : List (List Order)) (part : Part) (n : ℕ) (e : Entry) (K : Column) → FollowsScript plays part → HasSeen part.reach n →
-    IsFound part K → has_at K n ≡ Some e → or_leave (has_at (script_column plays) n) ≡ e
-entry_taken plays part n e K so seen found has =
-    ap or_leave (sym (has_script plays K part.reach n (found_follows plays part K so found) found.reach seen) ∙ has)
-
 pub frame_more : (scripts : Scripts) (n c : ℕ) (frame after : List Entry) (e : Entry) → c < length scripts → frame ≡ take c (frame_at (script_columns scripts) n) →
     or_leave (has_at (script_column (plays_of scripts c)) n) ≡ e → after ≡ frame ++ e ∷ [] → after ≡ take (c + 1) (frame_at (script_columns scripts) n)
 frame_more scripts n c frame after e below is entry pushed =
@@ -53,41 +46,17 @@ frame_more scripts n c frame after e below is entry pushed =
     ∙ sym (frame_next scripts n c below)
     ∙ ap (λ k. take k (frame_at (script_columns scripts) n)) (let one : suc c ≡ c + 1 = omega arith in one)
 
--- The frame up to client c was taken.
-pub record TakenSoFar (scripts : Scripts) (table : FrameTable) (start pass : Pass) (n c : ℕ) (frame : List Entry) : Type 0 where
-  pub local : IsLocalPass scripts table pass
-  pub knows : KnowsAllSeen scripts pass
-  pub share : (view_of pass).share ≡ (view_of start).share
-  pub seen : (d : ℕ) → c ≤ d → d < length scripts → HasSeen (standing pass d).reach n
-  pub frame_is : frame ≡ take c (frame_at (script_columns scripts) n)
-
-pub take_none : (scripts : Scripts) (table : FrameTable) (pass : Pass) (n : ℕ) → IsLocalPass scripts table pass → KnowsAllSeen scripts pass → ((c : ℕ) → c < length scripts → HasSeen (standing pass c).reach n) → TakenSoFar scripts table pass pass n 0 []
-take_none scripts table pass n local knows seen =
-    record { local = local; knows = knows; share = refl; seen = λ d from below. seen d below; frame_is = frame_none scripts n }
-
-pub take_more : (scripts : Scripts) (table : FrameTable) (start p q : Pass) (n c : ℕ) (frame after : List Entry) (e : Entry) → c < length scripts → TakenSoFar scripts table start p n c frame → IsPassOf table q →
-    TakesSo c (view_of p) (view_of q) n e → after ≡ frame ++ e ∷ [] → TakenSoFar scripts table start q n (c + 1) after
-take_more scripts table start p q n c frame after e here far is (K, acted, has) pushed =
-    let so = far.local.columns c here in
-    let follows = found_follows (plays_of scripts c) (standing p c) K so acted.found in
-    record {
-      local = acted_local scripts table p q far.local is c here K K acted follows;
-      knows = acted_knows scripts table p q far.local is c here K K acted follows far.knows;
-      share = acted.others.0 ∙ far.share;
-      seen = λ d from below. subst (λ (r : Part). HasSeen r.reach n) (sym (acted.others.2 d (λ same. absurd (omega arith)))) (far.seen d (omega arith) below);
-      frame_is = frame_more scripts n c frame after e here far.frame_is (entry_taken (plays_of scripts c) (standing p c) n e K so (far.seen c (omega arith) here) acted.found has) pushed;
-    }
-
 pub frame_length : (scripts : Scripts) (n : ℕ) → length (frame_at (script_columns scripts) n) ≡ length scripts
 frame_length [] n = refl
 frame_length (s ∷ scripts) n = ap suc (frame_length scripts n)
 
 -- n frames were ticked.
-pub record TickedSoFar {W : Type 0} (after : W → List Entry → W) (clients_of steps : W → ℕ) (scripts : Scripts) (table : FrameTable) (start pass : Pass) (opening world : W) (n : ℕ) : Type 0 where
+pub record TickedSoFar {W : Type 0} (after : W → List Entry → W) (clients_of steps : W → ℕ) (scripts : Scripts) (table : FrameTable) (start pass : Pass) (opening world : W) (taken : List Taken) (n : ℕ) : Type 0 where
   pub local : IsLocalPass scripts table pass
   pub knows : KnowsAllSeen scripts pass
   pub share : (view_of pass).share ≡ (view_of start).share
   pub stepped : IsStepped after clients_of steps scripts opening world n
+  pub held : AreTaken scripts taken n
 
 -- Whether all clients have something for the frame, and all that was seen at the end.
 pub yes_seen : (scripts : Scripts) (table : FrameTable) (pass : Pass) (n : ℕ) (answer : Ready) → IsLocalPass scripts table pass → answer ≡ Yes → MeansReadySeen (view_of pass) n answer →

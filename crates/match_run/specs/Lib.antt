@@ -1,3 +1,4 @@
 pub mod Local
 pub mod Passes
+pub mod Taken
 pub mod LocalLemmas

@@ -10,13 +10,16 @@
 #![tactic(auto)]
 
 mod client_pass;
+mod frames;
 mod law;
 mod local_run;
 mod passing;
 mod playing;
 mod running;
+mod taken;
 mod ticking;
 
+pub use frames::longest;
 pub use law::closed_columns_are_the_scripts;
 pub use local_run::LocalRun;
 pub use running::run_local;

@@ -17,6 +17,9 @@ use std::sync::atomic::{AtomicBool, Ordering};
 use std::thread;
 use std::thread::Threads;
 
+/// How many plays a client's thread puts before it lets others run.
+const PLAYS_IN_A_ROW: u32 = 128;
+
 /// Plays the script of each of these clients, in a thread of its own. A thread that is out of
 /// memory raises the flag, and ends.
 pub(crate) fn play_all<R: Threads + Wait + Sync, G: Gate + Sync>(
@@ -80,7 +83,16 @@ fn play_script<R: Wait, G: Gate>(
         gate.before(c, n);
         let _answer = table.put(rt, pass, c, n, Entry::Play(plays.get(n as usize)))?;
         gate.after(c, n);
+        give_way(n);
     }
     let _left = table.leave(rt, pass, c);
     Ok(())
+}
+
+/// After every so many plays, lets other threads run. With fewer processors than clients they all
+/// come on together, and the ticking thread needs plays of each.
+fn give_way(n: u32) {
+    if n % PLAYS_IN_A_ROW == PLAYS_IN_A_ROW - 1 {
+        thread::yield_now();
+    }
 }

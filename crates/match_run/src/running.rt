@@ -50,6 +50,7 @@ pub fn run_local<S: Sim, G: Gate + Sync, R: Threads + Wait + Sync>(
     let mut passes = split_passes(alloc, &table, scripts, &mut pass)?;
     run_threads(
         rt,
+        alloc,
         &table,
         scripts,
         gate,
@@ -64,6 +65,7 @@ pub fn run_local<S: Sim, G: Gate + Sync, R: Threads + Wait + Sync>(
 /// Plays all scripts, and ticks all frames beside it.
 fn run_threads<S: Sim, G: Gate + Sync, R: Threads + Wait + Sync>(
     rt: &R,
+    alloc: Global,
     table: &FrameTable,
     scripts: &Scripts,
     gate: &G,
@@ -93,7 +95,7 @@ fn run_threads<S: Sim, G: Gate + Sync, R: Threads + Wait + Sync>(
         ensures { All (λ f. IsClientPass scripts.entry.now table.entry.now f) passes.exit.now ×
             (shares_of passes.exit.now ≡ shares_of passes.entry.now) }
     { play_all(rt, table, scripts, gate, flag, passes) };
-    let mut tick = || tick_all(rt, table, scripts, flag, pass, sim);
+    let mut tick = || tick_all(rt, alloc, table, scripts, flag, pass, sim);
     let (_played, ticked) = join_mut(rt, &mut play, &mut tick);
     ticked
 }

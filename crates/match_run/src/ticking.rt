@@ -1,26 +1,34 @@
 //! The thread that ticks.
-ghost use Rattle.std.specs.Prelude.{◌≡◌, ◌+◌, ◌<◌, ℕ, length, OnOk};
+ghost use Rattle.std.specs.Prelude.{◌≡◌, ◌+◌, ◌<◌, ◌≤◌, ℕ, length, IfOk, OnOk};
+ghost use Rattle.std.specs.Bool.{OnTrue};
 ghost use Rattle.game_orders.specs.declared.limits.TheConstants.{MAX_FRAMES};
 ghost use Rattle.frame_core.specs.Ready.{frame_at};
 ghost use Rattle.drill_words.specs.Scripts.{plays_of};
+ghost use Rattle.frame_table.specs.Part.{OthersStay};
 ghost use Rattle.frame_table.specs.Calls.{view_of, standing, HasSeen};
 ghost use Rattle.match_run.specs.Local.{IsAll, script_column, script_columns, frames_of};
 ghost use Rattle.match_run.specs.Passes.{IsLocalPass, KnowsAllSeen, IsStepped};
+ghost use Rattle.match_run.specs.Taken.{IsTaken, AreTaken, HasFrame};
 
+use crate::taken::Taken;
 use base::NoMemory;
 use drill_words::Scripts;
 use frame_core::{Ready, Sim};
 use frame_table::{FrameTable, Pass};
 use game_orders::Frame;
-use std::alloc::AllocError;
+use std::alloc::{AllocError, Global};
 use std::sync::Wait;
 use std::sync::atomic::{AtomicBool, Ordering};
 use std::thread;
 
-/// Ticks each frame that is ready, until the match is over. It fails only where a client's thread
-/// has raised the flag.
+/// The most plays that are taken of a column at a time.
+const MOST_AT_ONCE: u32 = 256;
+
+/// Ticks each frame that is ready, until the match is over. Out of memory is its one error: a
+/// client's thread has raised the flag, or there is no room for what is taken.
 pub(crate) fn tick_all<S: Sim, R: Wait>(
     rt: &R,
+    alloc: Global,
     table: &FrameTable,
     scripts: &Scripts,
     out_of_memory: &AtomicBool,
@@ -38,16 +46,19 @@ pub(crate) fn tick_all<S: Sim, R: Wait>(
     ensures world { OnOk result (IsStepped S.after S.clients_of S.steps scripts.now sim.old sim.new
         (frames_of scripts.now)) }
 {
+    let mut taken = nothing_taken(alloc, scripts)?;
     let mut n: u32 = 0;
     for _turn in rt.forever() {
+        if has_frame(scripts, taken.as_slice(), n) {
+            tick(scripts, taken.as_slice(), n, sim);
+            n += 1;
+            continue;
+        }
         if out_of_memory.load(Ordering::SeqCst) {
             return Err(AllocError);
         }
         match table.ready(pass, n) {
-            Ready::Yes => {
-                tick(rt, table, scripts, pass, n, sim);
-                n += 1;
-            }
+            Ready::Yes => take_more(rt, alloc, table, scripts, pass, n, taken.as_mut_slice())?,
             Ready::NotYet(_) => thread::yield_now(),
             Ready::Over => return Ok(()),
         }
@@ -55,51 +66,121 @@ pub(crate) fn tick_all<S: Sim, R: Wait>(
     unreachable!()
 }
 
-/// Steps the world by frame `n`, which the pass has seen of each client.
-fn tick<S: Sim, R: Wait>(
-    rt: &R,
-    table: &FrameTable,
-    scripts: &Scripts,
-    pass: &mut Pass,
-    n: u32,
-    sim: &mut S,
-)
-    requires pass { IsLocalPass scripts.now table.now pass.old }
-    requires knows { KnowsAllSeen scripts.now pass.old }
+/// Nothing, of each client.
+fn nothing_taken(alloc: Global, scripts: &Scripts) -> Result<Vec<Taken>, NoMemory>
+    ensures { IfOk result (λ taken. AreTaken scripts.now taken.items 0) }
+{
+    let mut taken = Vec::new(alloc);
+    for _client in 0..scripts.clients() {
+        taken.push(Taken::new(alloc))?;
+    }
+    Ok(taken)
+}
+
+/// Whether frame `n` was taken: the entry of each client, and a play of one.
+#[tactic(auto, using(crate::proofs::Taking::had_none, crate::proofs::Taking::had_play, crate::proofs::Taking::had_left, crate::proofs::Taking::had_all))]
+fn has_frame(scripts: &Scripts, taken: &[Taken], n: u32) -> bool
+    requires { AreTaken scripts.now taken.now n }
+    ensures { OnTrue result (HasFrame taken.now n) }
+{
+    let _clients = scripts.clients();
+    let mut played = false;
+    for own in taken {
+        if own.has_play(n) {
+            played = true;
+        } else if !own.left {
+            return false;
+        }
+    }
+    played
+}
+
+/// Steps the world by frame `n`, which was taken.
+fn tick<S: Sim>(scripts: &Scripts, taken: &[Taken], n: u32, sim: &mut S)
+    requires taken { AreTaken scripts.now taken.now n }
+    requires has { HasFrame taken.now n }
     requires clients { S.clients_of sim.old ≡ length scripts.now }
     requires steps { S.steps sim.old ≡ n }
     requires limit { n < MAX_FRAMES }
-    requires seen { (c : ℕ) → c < length scripts.now → HasSeen (standing pass.old c).reach n }
-    ensures pass { IsLocalPass scripts.now table.now pass.new }
-    ensures knows { KnowsAllSeen scripts.now pass.new }
-    ensures share { (view_of pass.new).share ≡ (view_of pass.old).share }
     ensures world { sim.new ≡ S.after sim.old (frame_at (script_columns scripts.now) n) }
     ensures clients { S.clients_of sim.new ≡ length scripts.now }
     ensures steps { S.steps sim.new ≡ S.steps sim.old + 1 }
 {
-    let frame = take_frame(rt, table, scripts, pass, n);
+    let _clients = scripts.clients();
+    let mut frame = Frame::empty();
+    for own in taken {
+        frame.push(own.entry(n));
+    }
     sim.step(&frame);
 }
 
-/// Frame `n`, which the pass has seen of each client: the agreed one.
-fn take_frame<R: Wait>(
+/// Takes more plays of each client of whom frame `n` wasn't taken. The pass has seen it of each.
+fn take_more<R: Wait>(
     rt: &R,
+    alloc: Global,
     table: &FrameTable,
     scripts: &Scripts,
     pass: &mut Pass,
     n: u32,
-) -> Frame
+    taken: &mut [Taken],
+) -> Result<(), NoMemory>
     requires pass { IsLocalPass scripts.now table.now pass.old }
     requires knows { KnowsAllSeen scripts.now pass.old }
     requires seen { (c : ℕ) → c < length scripts.now → HasSeen (standing pass.old c).reach n }
+    requires taken { AreTaken scripts.now taken.old n }
     ensures pass { IsLocalPass scripts.now table.now pass.new }
-    ensures knows { KnowsAllSeen scripts.now pass.new }
     ensures share { (view_of pass.new).share ≡ (view_of pass.old).share }
-    ensures frame { result ≡ frame_at (script_columns scripts.now) n }
+    ensures knows { OnOk result (KnowsAllSeen scripts.now pass.new) }
+    ensures taken { OnOk result (AreTaken scripts.now taken.new n) }
 {
-    let mut frame = Frame::empty();
     for c in 0..scripts.clients() {
-        frame.push(table.take(rt, pass, c, n));
+        take_client(
+            rt,
+            alloc,
+            table,
+            scripts,
+            pass,
+            c,
+            n,
+            &mut taken[c as usize],
+        )?;
     }
-    frame
+    Ok(())
+}
+
+/// Takes more plays of client `c`, if frame `n` wasn't taken, which the pass has seen.
+fn take_client<R: Wait>(
+    rt: &R,
+    alloc: Global,
+    table: &FrameTable,
+    scripts: &Scripts,
+    pass: &mut Pass,
+    c: u8,
+    n: u32,
+    own: &mut Taken,
+) -> Result<(), NoMemory>
+    requires pass { IsLocalPass scripts.now table.now pass.old }
+    requires knows { KnowsAllSeen scripts.now pass.old }
+    requires client { c < length scripts.now }
+    requires seen { HasSeen (standing pass.old c).reach n }
+    requires own { IsTaken (plays_of scripts.now c) own.old }
+    requires from { own.old.from ≤ n }
+    ensures pass { IsLocalPass scripts.now table.now pass.new }
+    ensures knows { OnOk result (KnowsAllSeen scripts.now pass.new) }
+    ensures others { OnOk result (OthersStay c (view_of pass.old) (view_of pass.new)) }
+    ensures share { (view_of pass.new).share ≡ (view_of pass.old).share }
+    ensures own { OnOk result (IsTaken (plays_of scripts.now c) own.new) }
+    ensures from { OnOk result (own.new.from ≤ n) }
+{
+    if own.left || own.has_play(n) {
+        return Ok(());
+    }
+    let plays = table.take_plays(rt, alloc, pass, c, n, MOST_AT_ONCE)?;
+    let left = plays.len() == 0;
+    *own = Taken {
+        from: n,
+        plays,
+        left,
+    };
+    Ok(())
 }

@@ -4,7 +4,7 @@ use Rattle.std.proofs.lemmas.List.{length_push}
 use Rattle.game_orders.specs.declared.limits.TheConstants.{MAX_ORDERS}
 use Rattle.drill_words.specs.EventLineLemmas.{orders_at-some}
 use Rattle.drill_words.proofs.OrderListLemmas.{read-more, read-last, read-separator, pushed}
-use Rattle.drill_words.proofs.order_list.take_orders.Goals as goal
+use Rattle.drill_words.proofs.order_list.take_orders_into.Goals as goal
 
 -- The line ends after an order.
 pub returns-in-None : goal.returns-in-None
