@@ -1,6 +1,5 @@
 pub mod TakingLemmas
 pub mod GreetingLemmas
-pub mod ReportLemmas
 pub mod PutLemmas
 pub mod ReadingLemmas
 pub mod TurnLemmas
@@ -13,3 +12,4 @@ pub mod WholeSession
 pub mod DownLemmas
 pub mod TickLemmas
 pub mod PlayLemmas
+pub mod OpeningLemmas

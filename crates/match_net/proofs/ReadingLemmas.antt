@@ -11,7 +11,7 @@ use Rattle.frame_table.specs.Part.{Part, part_of}
 use Rattle.frame_table.specs.Word.{one_if, whole_of}
 use Rattle.frame_table.specs.Steps.{published}
 use Rattle.frame_table.specs.Calls.{PutsSo, Unchanged}
-use Rattle.match_net.specs.declared.heard.Heard.{Heard}
+use Rattle.report_line.specs.declared.heard.Heard.{Heard}
 use Rattle.match_net.specs.declared.read_cause.ReadCause.TheVariants as cause
 use Rattle.match_net.specs.declared.reader_end.ReaderEnd.{ReaderEnd}
 use Rattle.match_net.specs.declared.reader_end.ReaderEnd.TheVariants as end

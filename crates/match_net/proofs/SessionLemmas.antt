@@ -11,7 +11,7 @@ use Rattle.frame_table.specs.Part.{Part, part_of, OthersStay}
 use Rattle.frame_table.specs.Word.{one_if, whole_of}
 use Rattle.frame_table.specs.Steps.{IsFound, published}
 use Rattle.frame_table.specs.Calls.{LeavesSo}
-use Rattle.match_net.specs.declared.heard.Heard.{Heard}
+use Rattle.report_line.specs.declared.heard.Heard.{Heard}
 use Rattle.match_net.specs.declared.greeting.Greeting.{Greeting}
 use Rattle.match_net.specs.declared.greeting.Greeting.TheVariants as greeting
 use Rattle.match_net.specs.declared.reader_end.ReaderEnd.{ReaderEnd}

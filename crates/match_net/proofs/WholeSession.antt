@@ -6,7 +6,7 @@ use Rattle.game_io.specs.SourceState.{SourceState}
 use Rattle.order_packets.specs.PacketReading.{packet_at, up_at}
 use Rattle.frame_table.specs.declared.view.View.{View}
 use Rattle.match_net.specs.declared.limits.TheConstants.{MAX_LINK_BYTES}
-use Rattle.match_net.specs.declared.heard.Heard.{Heard}
+use Rattle.report_line.specs.declared.heard.Heard.{Heard}
 use Rattle.match_net.specs.declared.ending.Ending.{Ending}
 use Rattle.match_net.specs.declared.ending.Ending.TheVariants as ending
 use Rattle.match_net.specs.declared.read_cause.ReadCause.{ReadCause}

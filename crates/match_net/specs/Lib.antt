@@ -1,6 +1,5 @@
 pub mod Taking
 pub mod Greeting
-pub mod Reports
 pub mod Session
 pub mod Heeding
 pub mod Reading

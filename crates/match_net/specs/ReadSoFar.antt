@@ -10,7 +10,7 @@ use Rattle.order_packets.specs.Feed.{Fed, more_fed, HasGiven}
 use Rattle.frame_table.specs.declared.view.View.{View}
 use Rattle.frame_table.specs.Part.{part_of, OthersStay}
 use Rattle.match_net.specs.declared.limits.TheConstants.{MAX_LINK_BYTES}
-use Rattle.match_net.specs.declared.heard.Heard.{Heard}
+use Rattle.report_line.specs.declared.heard.Heard.{Heard}
 use Rattle.match_net.specs.declared.read_cause.ReadCause.TheVariants as cause
 use Rattle.match_net.specs.declared.reader_end.ReaderEnd.{ReaderEnd}
 use Rattle.match_net.specs.declared.reader_end.ReaderEnd.TheVariants as end

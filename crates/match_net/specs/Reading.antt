@@ -12,7 +12,7 @@ use Rattle.frame_table.specs.declared.planned.Planned.TheVariants.{Free}
 use Rattle.frame_table.specs.declared.view.View.{View}
 use Rattle.frame_table.specs.Part.{Part, part_of, OthersStay}
 use Rattle.match_net.specs.declared.limits.TheConstants.{MAX_LINK_BYTES}
-use Rattle.match_net.specs.declared.heard.Heard.{Heard}
+use Rattle.report_line.specs.declared.heard.Heard.{Heard}
 use Rattle.match_net.specs.declared.ending.Ending.TheVariants as ending
 use Rattle.match_net.specs.declared.reader_end.ReaderEnd.{ReaderEnd}
 use Rattle.match_net.specs.declared.reader_end.ReaderEnd.TheVariants as end

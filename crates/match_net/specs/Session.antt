@@ -15,7 +15,7 @@ use Rattle.order_packets.specs.PacketReading.{FirstPacket, packet_at, up_at}
 use Rattle.order_packets.specs.Feed.{ReadsAll}
 use Rattle.match_net.specs.declared.limits.TheConstants.{MAX_LINK_BYTES, OTHER_VERSION}
 use Rattle.match_net.specs.declared.limits.TheConstants.{OTHER_RULES}
-use Rattle.match_net.specs.declared.heard.Heard.{Heard}
+use Rattle.report_line.specs.declared.heard.Heard.{Heard}
 use Rattle.match_net.specs.declared.greeting.Greeting.{Greeting}
 use Rattle.match_net.specs.declared.greeting.Greeting.TheVariants as greeting
 use Rattle.match_net.specs.declared.read_cause.ReadCause.{ReadCause}

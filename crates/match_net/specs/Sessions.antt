@@ -7,7 +7,7 @@ use Rattle.frame_core.specs.declared.leaving.Leaving.TheVariants as leaving
 use Rattle.frame_table.specs.declared.view.View.{View}
 use Rattle.frame_table.specs.Part.{part_of, OthersStay}
 use Rattle.match_net.specs.declared.limits.TheConstants.{MAX_LINK_BYTES}
-use Rattle.match_net.specs.declared.heard.Heard.{Heard}
+use Rattle.report_line.specs.declared.heard.Heard.{Heard}
 use Rattle.match_net.specs.declared.greeting.Greeting.{Greeting}
 use Rattle.match_net.specs.declared.greeting.Greeting.TheVariants as greeting
 use Rattle.match_net.specs.declared.read_cause.ReadCause.TheVariants as cause

@@ -1,7 +1,7 @@
 ghost use Rattle.std.specs.Prelude.{◌≡◌, ◌++◌, ℕ, List, length, take};
 ghost use Rattle.game_io.specs.SourceState.{SourceState};
 ghost use Rattle.frame_table.specs.declared.view.View.{View};
-ghost use Rattle.match_net.specs.declared.heard.Heard.{Heard};
+ghost use Rattle.report_line.specs.declared.heard.Heard.{Heard};
 ghost use Rattle.match_net.specs.declared.read_cause.ReadCause.{ReadCause};
 ghost use Rattle.match_net.specs.Sessions.{ReadsLink, IsWholeSession};
 ghost use Rattle.game_orders.specs.declared.order.Order.{Order};

@@ -3,7 +3,7 @@
 //! A link joins the server and one client, both ways. At the server [`greet`] takes what the client
 //! sends first and decides whether it is in the match (`specs/Greeting.antt`). Then two threads
 //! serve the link. [`reader_session`] puts the client's plays into its column of a `frame_table`
-//! and its reports into a queue of [`report_queue`], up to the end that the bytes have
+//! and its reports into an end of the queue of `report_line`, up to the end that the bytes have
 //! (`specs/Session.antt`, `specs/Sessions.antt`). [`sender_session`] writes what the greeting says:
 //! the welcome and all columns, a refusal, or nothing (`specs/Sending.antt`,
 //! `specs/SenderSession.antt`). Each leaves no column but its client's. At the client
@@ -19,11 +19,9 @@ mod first_packet;
 mod following;
 mod greeting;
 mod halt;
-mod heard;
 mod invite;
 mod law;
 mod limits;
-mod line;
 mod next;
 mod piece;
 mod play_cause;
@@ -32,14 +30,10 @@ mod played;
 mod player;
 mod playing;
 mod playthrough;
-mod queue_rule;
 mod read_cause;
 mod reader;
 mod reader_end;
 mod reading;
-mod report_ends;
-mod reporting;
-mod reports;
 mod rounds;
 mod sender;
 mod sender_end;
@@ -49,7 +43,6 @@ mod turns;
 
 pub use first_packet::greet;
 pub use greeting::Greeting;
-pub use heard::Heard;
 pub use invite::Invite;
 pub use law::{
     a_links_bytes_have_one_session, a_session_begins_that_of_its_bytes,
@@ -63,9 +56,9 @@ pub use playthrough::play_match;
 pub use read_cause::ReadCause;
 pub use reader::reader_session;
 pub use reader_end::ReaderEnd;
-pub use report_ends::ReportEnds;
-pub use reporting::report_queue;
-pub use reports::Reports;
+pub use report_line::{
+    Heard, Hearer, ReportEnds, Reports, report_queue, reports_of_each_client_are_heard,
+};
 pub use sender::sender_session;
 pub use sender_end::SenderEnd;
 

@@ -1,6 +1,6 @@
 ghost use Rattle.std.specs.Prelude.{◌≡◌, ◌<◌, [], length};
 ghost use Rattle.frame_table.specs.Calls.{plan_of, view_of, standing, IsPassOf};
-ghost use Rattle.match_net.specs.Reports.{pushed};
+ghost use Rattle.report_line.specs.Reports.{pushed, StaysOf};
 ghost use Rattle.match_net.specs.Greeting.{IsGreeted};
 ghost use Rattle.match_net.specs.Session.{cause_of};
 ghost use Rattle.match_net.specs.Reading.{MayPlay};
@@ -11,12 +11,12 @@ use crate::invite::Invite;
 use crate::limits::{OTHER_RULES, OTHER_VERSION};
 use crate::read_cause::ReadCause;
 use crate::reader_end::ReaderEnd;
-use crate::reports::Reports;
 use crate::turns::read_packets;
 use frame_core::Leaving;
 use frame_table::{FrameTable, Pass};
 use game_io::Source;
 use order_packets::UpFeeder;
+use report_line::Reports;
 use std::sync::Wait;
 
 /// Reads the link of an invited client after its greeting, to the end, and lets the client leave:
@@ -56,6 +56,7 @@ pub fn reader_session<I: Source, R: Wait>(
     ensures reads { ReadsAs greeting invite.now.client invite.now.rules feeder.old.rest
         (I.state link.old) (I.state link.new) (view_of pass.old) (view_of pass.new)
         (pushed reports.old) (pushed reports.new) result }
+    ensures end { StaysOf invite.now.client reports.old reports.new }
 {
     let end = read_as_greeted(rt, table, pass, invite, greeting, feeder, link, reports);
     let leaving = table.leave(rt, pass, invite.client);
@@ -82,6 +83,7 @@ fn read_as_greeted<I: Source, R: Wait>(
     ensures reads { ReadBy greeting invite.now.client invite.now.rules feeder.old.rest
         (I.state link.old) (I.state link.new) (view_of pass.old) (view_of pass.new)
         (pushed reports.old) (pushed reports.new) result }
+    ensures end { StaysOf invite.now.client reports.old reports.new }
 {
     match greeting {
         Greeting::Welcome => read_packets(rt, table, pass, invite, feeder, link, reports),

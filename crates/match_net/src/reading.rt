@@ -1,18 +1,17 @@
 //! What a client's packets do to its column and to the queue of reports.
 ghost use Rattle.std.specs.Prelude.{◌≡◌, ◌<◌, ◌∷◌, [], length, Some};
 ghost use Rattle.frame_table.specs.Calls.{plan_of, view_of, standing, IsPassOf};
-ghost use Rattle.match_net.specs.Reports.{pushed};
+ghost use Rattle.report_line.specs.Reports.{pushed, StaysOf};
 ghost use Rattle.match_net.specs.Heeding.{end_by_put};
 ghost use Rattle.match_net.specs.Reading.{MayPlay, PutsOrders, Heeds, PushMeans};
 
-use crate::heard::Heard;
 use crate::read_cause::ReadCause;
 use crate::reader_end::ReaderEnd;
-use crate::reports::Reports;
 use frame_core::Put;
 use frame_table::{FrameTable, Pass};
 use game_orders::{Entry, Orders};
 use order_packets::Up;
+use report_line::{Heard, Reports};
 use std::sync::Wait;
 
 /// Does what a packet of client `c` asks, and answers how the reading ends with it, if it does.
@@ -30,6 +29,7 @@ pub(crate) fn heed<R: Wait>(
     ensures pass { IsPassOf table.now pass.new }
     ensures heeds { Heeds c (view_of pass.old) (view_of pass.new) (pushed reports.old)
         (pushed reports.new) packet result }
+    ensures end { StaysOf c reports.old reports.new }
 {
     match packet {
         Up::Hello {
@@ -52,7 +52,8 @@ pub(crate) fn heed<R: Wait>(
 
 /// Pushes a report, and answers that the reading ends where memory runs out.
 fn push_report<R: Wait>(rt: &R, reports: &mut Reports, heard: Heard) -> Option<ReaderEnd>
-    ensures { PushMeans (pushed reports.old) (pushed reports.new) (heard ∷ []) result }
+    ensures means { PushMeans (pushed reports.old) (pushed reports.new) (heard ∷ []) result }
+    ensures end { StaysOf heard.client reports.old reports.new }
 {
     match reports.push(rt, heard) {
         Ok(()) => None,

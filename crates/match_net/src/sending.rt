@@ -10,9 +10,9 @@ ghost use Rattle.match_net.specs.Sending.{AfterSend, EndsIfAll, SendsTo, nothing
 use crate::sender_end::SenderEnd;
 use frame_table::{FrameTable, Pass, Seen};
 use game_io::Sink;
+use idle_pause::Pause;
 use order_packets::{Down, write_down};
 use std::sync::Wait;
-use std::thread;
 
 /// Writes a packet to a link, by way of `bytes`, and answers how the sending ends by that, if it
 /// does.
@@ -109,14 +109,12 @@ fn send_next<O: Sink, R: Wait>(
     }
 }
 
-/// The end of the sending, where the departure of each column was sent. Else another thread may run
-/// before it goes on.
+/// The end of the sending, where the departure of each column was sent.
 fn end_if_all(counts: &[Seen]) -> Option<SenderEnd>
     ensures { EndsIfAll counts.now result }
 {
     for count in counts {
         if !count.left {
-            thread::yield_now();
             return None;
         }
     }
@@ -124,7 +122,7 @@ fn end_if_all(counts: &[Seen]) -> Option<SenderEnd>
 }
 
 /// Sends the next entry of client `c`, if there is one, and answers how the sending ends by that,
-/// if it does.
+/// if it does. Where there is none it pauses.
 fn send_turn<O: Sink, R: Wait>(
     rt: &R,
     table: &FrameTable,
@@ -133,6 +131,7 @@ fn send_turn<O: Sink, R: Wait>(
     bytes: &mut Vec<u8>,
     c: u8,
     counts: &mut [Seen],
+    pause: &mut Pause,
 ) -> Option<SenderEnd>
     requires pass { IsPassOf table.now pass.old }
     requires clients { length counts.old ≡ length (plan_of table.now) }
@@ -145,8 +144,14 @@ fn send_turn<O: Sink, R: Wait>(
         counts.new result }
 {
     match send_next(rt, table, pass, link, bytes, c, &mut counts[c as usize]) {
-        Ok(true) => None,
-        Ok(false) => end_if_all(counts),
+        Ok(true) => {
+            pause.end();
+            None
+        }
+        Ok(false) => {
+            pause.rest(rt);
+            end_if_all(counts)
+        }
         Err(end) => Some(end),
     }
 }
@@ -180,8 +185,9 @@ pub(crate) fn send_all<O: Sink, R: Wait>(
         (view_of pass.new) result }
 {
     let mut c = 0;
+    let mut pause = Pause::new();
     for _ in rt.forever() {
-        if let Some(end) = send_turn(rt, table, pass, link, bytes, c, counts) {
+        if let Some(end) = send_turn(rt, table, pass, link, bytes, c, counts, &mut pause) {
             return end;
         }
         c = client_after(c, clients);

@@ -3,10 +3,10 @@ ghost use Rattle.std.specs.Prelude.{◌≡◌, ◌<◌, ◌≤◌, ◌+◌, ◌-
 ghost use Rattle.frame_table.specs.Calls.{plan_of, view_of, standing, IsPassOf};
 ghost use Rattle.frame_table.specs.declared.view.View.{View};
 ghost use Rattle.game_io.specs.SourceState.{SourceState};
-ghost use Rattle.match_net.specs.declared.heard.Heard.{Heard};
+ghost use Rattle.report_line.specs.declared.heard.Heard.{Heard};
 ghost use Rattle.match_net.specs.declared.limits.TheConstants.{MAX_LINK_BYTES};
 ghost use Rattle.match_net.specs.Greeting.{hello_bytes};
-ghost use Rattle.match_net.specs.Reports.{pushed};
+ghost use Rattle.report_line.specs.Reports.{pushed, StaysOf};
 ghost use Rattle.match_net.specs.Reading.{MayPlay, ReadsTo};
 ghost use Rattle.match_net.specs.ReadSoFar.{ReadSoFar, AfterTurn, TakesMore};
 
@@ -16,11 +16,11 @@ use crate::piece::Piece;
 use crate::read_cause::ReadCause;
 use crate::reader_end::ReaderEnd;
 use crate::reading::heed;
-use crate::reports::Reports;
 use crate::taking::take_piece;
 use frame_table::{FrameTable, Pass};
 use game_io::Source;
 use order_packets::UpFeeder;
+use report_line::Reports;
 use std::sync::Wait;
 
 /// Takes a piece from a link, and feeds it, or answers how the reading ends with that.
@@ -64,6 +64,7 @@ fn turn<I: Source, R: Wait>(
         (pushed reports.old) feeder.old →
         AfterTurn c here given first (I.state link.new) before (view_of pass.new) start
         (pushed reports.new) feeder.new result }
+    ensures end { StaysOf c reports.old reports.new }
 {
     match feeder.next() {
         Ok(Some(packet)) => heed(rt, table, pass, c, packet, reports),
@@ -93,6 +94,7 @@ pub(crate) fn read_packets<I: Source, R: Wait>(
     ensures reads { ReadsTo invite.now.client invite.now.rules
         (hello_bytes invite.now.rules ++ feeder.old.rest) (I.state link.old) (I.state link.new)
         (view_of pass.old) (view_of pass.new) (pushed reports.old) (pushed reports.new) result }
+    ensures end { StaysOf invite.now.client reports.old reports.new }
 {
     let _rules = invite.rules;
     for _ in rt.forever() {

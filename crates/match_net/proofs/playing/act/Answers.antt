@@ -1,4 +1,4 @@
-use Rattle.match_net.proofs.PlayLemmas.{act_fails, act_goes, act_ends}
+use Rattle.match_net.proofs.OpeningLemmas.{act_fails, act_goes, act_ends}
 use Rattle.match_net.proofs.playing.act.Goals as goal
 
 pub returns-in-Some-clause-acts : goal.returns-in-Some-clause-acts

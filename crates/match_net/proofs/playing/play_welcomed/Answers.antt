@@ -1,4 +1,4 @@
-use Rattle.match_net.proofs.PlayLemmas.{shown}
+use Rattle.match_net.proofs.OpeningLemmas.{shown}
 use Rattle.match_net.proofs.playing.play_welcomed.Goals as goal
 
 pub returns-in-Ok-clause-ok : goal.returns-in-Ok-clause-ok

@@ -1,4 +1,4 @@
-use Rattle.match_net.proofs.PlayLemmas.{await_packet, await_bad, await_lost, await_out}
+use Rattle.match_net.proofs.OpeningLemmas.{await_packet, await_bad, await_lost, await_out}
 use Rattle.match_net.proofs.playthrough.await_welcome.Goals as goal
 
 pub returns-in-Ok-Packet-clause-ok : goal.returns-in-Ok-Packet-clause-ok

@@ -1,5 +1,5 @@
 use Rattle.std.proofs.Common.{refl}
-use Rattle.match_net.proofs.PlayLemmas.{first_ends, entry_first}
+use Rattle.match_net.proofs.OpeningLemmas.{first_ends, entry_first}
 use Rattle.match_net.proofs.playthrough.begin.Goals as goal
 
 pub returns-in-Welcome-clause-ok : goal.returns-in-Welcome-clause-ok

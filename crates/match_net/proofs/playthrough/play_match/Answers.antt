@@ -1,5 +1,5 @@
 use Rattle.std.proofs.Common.{refl}
-use Rattle.match_net.proofs.PlayLemmas.{greeting_fails, greets, on_any, out_at_once}
+use Rattle.match_net.proofs.OpeningLemmas.{greeting_fails, greets, on_any, out_at_once}
 use Rattle.match_net.proofs.playthrough.play_match.Goals as goal
 
 pub returns-in_err-feeder-clause-err : goal.returns-in_err-feeder-clause-err

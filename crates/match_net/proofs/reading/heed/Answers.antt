@@ -6,4 +6,4 @@ returns-in-Orders-clause-heeds g c =
     rw c.in-Orders.is (heeds_orders _ _ _ _ _ _ _ c.put_orders.ensures.puts)
 
 pub returns-in-Sync-clause-heeds : goal.returns-in-Sync-clause-heeds
-returns-in-Sync-clause-heeds g c = rw c.in-Sync.is (heeds_sync _ _ _ _ _ _ _ c.push_report.ensures)
+returns-in-Sync-clause-heeds g c = rw c.in-Sync.is (heeds_sync _ _ _ _ _ _ _ c.push_report.ensures.means)

@@ -1,7 +1,7 @@
 use Rattle.std.proofs.Common.{◌++◌}
 use Rattle.frame_table.specs.Calls.{view_of, IsPassOf}
 use Rattle.match_net.specs.Greeting.{hello_bytes}
-use Rattle.match_net.specs.Reports.{pushed}
+use Rattle.report_line.specs.Reports.{pushed, StaysOf}
 use Rattle.match_net.specs.ReadSoFar.{ReadSoFar}
 use Rattle.match_net.proofs.turns.read_packets.Given as goal
 
@@ -10,3 +10,4 @@ invariant-loop g l =
     IsPassOf l.table l.pass
     × ReadSoFar l.invite.client l.invite.rules (hello_bytes l.invite.rules ++ l.fn.feeder.rest) (g.I.Source.state l.fn.link) (g.I.Source.state l.link)
     (view_of l.fn.pass) (view_of l.pass) (pushed l.fn.reports) (pushed l.reports) l.feeder
+    × StaysOf l.invite.client l.fn.reports l.reports

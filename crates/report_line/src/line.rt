@@ -1,10 +1,11 @@
 use crate::heard::Heard;
-use crate::queue_rule::{History, OwnHistory};
+use crate::known::Known;
+use crate::queue_rule::HeardInOrder;
 use crossbeam_queue::RuledSegQueue;
 
-/// The queue of reports, which all ends share.
+/// The queue of reports, which the ends and the hearer share.
 pub struct Line {
-    pub(crate) queue: RuledSegQueue<Heard, History, OwnHistory>,
+    pub(crate) queue: RuledSegQueue<Heard, Known, HeardInOrder>,
 }
 
 impl Drop for Line {

@@ -1,0 +1,58 @@
+ghost use Rattle.std.specs.Prelude.{◌≡◌, ◌+◌, ◌≤◌, min};
+
+use std::marker::Model;
+use std::sync::Wait;
+use std::thread::{self, Parker};
+use std::time::Duration;
+
+/// After so many looks in a row that found nothing a pause is a sleep.
+pub const PATIENCE: u32 = 1_024;
+
+/// How long such a sleep is, in millionths of a second.
+pub const NAP_MICROS: u64 = 500;
+
+/// How many looks in a row have found nothing, at most [`PATIENCE`].
+#[derive(Drop)]
+pub struct Pause {
+    looks: u32,
+}
+
+impl Model for Pause {
+    ghost use Rattle.std.specs.Prelude.{ℕ, ◌≤◌};
+    ghost use Rattle.idle_pause.specs.declared.pause.TheConstants.{PATIENCE};
+
+    ghost Value = { ℕ };
+
+    ghost view = { λ pause. pause.looks };
+
+    ghost invariant = { λ pause. pause.looks ≤ PATIENCE };
+}
+
+impl Pause {
+    /// No look has found nothing yet.
+    pub fn new() -> Pause
+        ensures { result ≡ 0 }
+    {
+        Pause { looks: 0 }
+    }
+
+    /// A look has found something.
+    pub fn end(&mut self)
+        ensures { self.new ≡ 0 }
+    {
+        self.looks = 0;
+    }
+
+    /// A look has found nothing: other threads may run before the next one, and from the look
+    /// [`PATIENCE`] on the thread sleeps.
+    pub fn rest<R: Wait>(&mut self, rt: &R)
+        ensures count { self.new ≡ min (self.old + 1) PATIENCE }
+    {
+        if self.looks < PATIENCE {
+            self.looks += 1;
+            thread::yield_now();
+        } else {
+            Parker::new().park_timeout(rt, Duration::from_micros(NAP_MICROS));
+        }
+    }
+}
