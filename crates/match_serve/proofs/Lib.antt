@@ -1,0 +1,13 @@
+pub mod PassLemmas
+pub mod TickLemmas
+pub mod SplitLemmas
+pub mod SessionLemmas
+pub mod SeatLemmas
+pub mod PieceLemmas
+pub mod LeaveLemmas
+pub mod HeardLemmas
+pub mod AcceptLemmas
+pub mod CloseLemmas
+pub mod ConsoleLemmas
+pub mod HandLemmas
+pub mod MatchLemmas

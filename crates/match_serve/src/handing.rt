@@ -1,0 +1,62 @@
+//! How all links of a match are handed back.
+ghost use Rattle.std.specs.Prelude.{◌≡◌, ◌+◌, ◌<◌, ◌≤◌, ℕ, List, Option, [], true, length};
+ghost use Rattle.std.specs.Prelude.{slice_get, slice_index_or};
+ghost use Rattle.frame_table.specs.Calls.{view_of, standing};
+ghost use Rattle.report_line.specs.Reports.{heard, joined, IsSameHearer};
+ghost use Rattle.match_serve.specs.declared.link_end.LinkEnd.TheVariants as end;
+ghost use Rattle.match_serve.specs.Passes.{IsServePass};
+ghost use Rattle.match_serve.specs.Seats.{AreDone, shares_of};
+ghost use Rattle.match_serve.specs.Closed.{LinkClosed};
+
+use crate::closing::{close_link, link_end};
+use crate::link_end::LinkEnd;
+use crate::link_piece::LinkPiece;
+use frame_table::{FrameTable, Pass};
+use game_io::Net;
+use match_net::{Hearer, Invite};
+
+/// Hands all links back to the net, joins what they were served with, and notes how each ended.
+pub(crate) fn close_links<N: Net>(
+    net: &mut N,
+    table: &FrameTable,
+    pass: &mut Pass,
+    hearer: &mut Hearer,
+    invite: &Invite,
+    pieces: Vec<LinkPiece<N::In, N::Out>>,
+    kicked: &[bool],
+    ends: &mut [LinkEnd],
+)
+    requires pass { IsServePass invite.now.clients table.now pass.old }
+    requires left { (c : ℕ) → c < invite.now.clients → (standing pass.old c).known.left ≡ true }
+    requires done { (coming : Option (List (List ℕ))) × AreDone invite.now.clients table.now
+        invite.now hearer.old coming 0 pieces.items }
+    requires count { length pieces.items ≡ invite.now.clients }
+    requires given { length (N.state net.old).given ≡ invite.now.clients }
+    requires unjoined { joined hearer.old ≡ [] }
+    requires kicked { length kicked.now ≡ invite.now.clients }
+    requires ends { length ends.old ≡ invite.now.clients }
+    ensures pass { IsServePass invite.now.clients table.now pass.new }
+    ensures share { (view_of pass.new).share
+        ≡ (view_of pass.old).share + shares_of pieces.items }
+    ensures known { (c : ℕ) → c < invite.now.clients →
+        (standing pass.new c).known ≡ (standing pass.old c).known }
+    ensures links { (coming : Option (List (List ℕ))) → AreDone invite.now.clients table.now
+        invite.now hearer.old coming 0 pieces.items → (c : ℕ) → c < invite.now.clients →
+        LinkClosed c invite.now (standing pass.old c).known
+        (slice_index_or (joined hearer.new) c []) coming (slice_get (N.state net.new).given c)
+        (slice_index_or ends.new c end.Memory) }
+    ensures given { length (N.state net.new).given ≡ invite.now.clients }
+    ensures coming { (N.state net.new).coming ≡ (N.state net.old).coming }
+    ensures joined { length (joined hearer.new) ≡ invite.now.clients }
+    ensures heard { heard hearer.new ≡ heard hearer.old }
+    ensures same { IsSameHearer hearer.old hearer.new }
+    ensures ends { length ends.new ≡ invite.now.clients }
+{
+    let mut left = pieces;
+    for c in 0..invite.clients {
+        let piece = left.remove(0);
+        let at = c as usize;
+        ends[at] = link_end(piece.seat.ends, kicked[at]);
+        close_link(net, table, pass, hearer, c as u32, invite.clients, piece);
+    }
+}

@@ -1,0 +1,29 @@
+//! Clients that are let go by the server.
+ghost use Rattle.std.specs.Prelude.{◌<◌};
+ghost use Rattle.frame_table.specs.Calls.{view_of};
+ghost use Rattle.match_serve.specs.Passes.{IsServePass, IsTakenOut, AllGone};
+
+use frame_table::{FrameTable, Pass};
+use std::sync::Wait;
+
+/// Lets client `c`, which is below this number, leave.
+#[tactic(auto, using(crate::proofs::LeaveLemmas::may_leave))]
+pub(crate) fn let_go<R: Wait>(rt: &R, table: &FrameTable, pass: &mut Pass, clients: u8, c: u8)
+    requires pass { IsServePass clients table.now pass.old }
+    requires client { c < clients }
+    ensures pass { IsServePass clients table.now pass.new }
+    ensures leaves { IsTakenOut c (view_of pass.old) (view_of pass.new) }
+{
+    let _left = table.leave(rt, pass, c);
+}
+
+/// Lets each client leave. Then the pass has seen and knows each whole column.
+pub(crate) fn leave_all<R: Wait>(rt: &R, table: &FrameTable, pass: &mut Pass, clients: u8)
+    requires { IsServePass clients table.now pass.old }
+    ensures pass { IsServePass clients table.now pass.new }
+    ensures gone { AllGone clients (view_of pass.old) (view_of pass.new) }
+{
+    for c in 0..clients {
+        let_go(rt, table, pass, clients, c);
+    }
+}

@@ -1,0 +1,24 @@
+use crate::counted::Counted;
+use crate::link_seat::LinkSeat;
+use game_io::{Sink, Source};
+use std::marker::Model;
+
+/// A link that is served: its halves, and what it is served with.
+#[derive(Drop)]
+pub(crate) struct LinkPiece<I: Source + Drop, O: Sink + Drop> {
+    pub input: Counted<I>,
+    pub output: O,
+    pub seat: LinkSeat,
+}
+
+impl<I: Source + Drop, O: Sink + Drop> Model for LinkPiece<I, O> {
+    ghost use Rattle.match_serve.specs.Seats.{PieceState};
+
+    ghost Value = { PieceState };
+
+    ghost view = { λ piece. record {
+      seat = piece.seat;
+      input = I.state piece.input.link;
+      output = O.state piece.output;
+    } };
+}

@@ -1,0 +1,169 @@
+//! The match as a whole: it is opened, run on threads, and closed.
+ghost use Rattle.std.specs.Prelude.{◌≡◌, ◌+◌, ◌^◌, ◌<◌, ◌≤◌, [], length, All, OnOk, IfOk, IfErr};
+ghost use denote.Param.Send.{IsSync, IsSend};
+ghost use Rattle.base.specs.Cause.{Rose};
+ghost use Rattle.game_orders.specs.declared.limits.TheConstants.{MAX_CLIENTS};
+ghost use Rattle.frame_table.specs.Calls.{view_of};
+ghost use Rattle.report_line.specs.Reports.{heard, joined, IsSameHearer};
+ghost use Rattle.match_serve.specs.Passes.{IsServePass, IsKicking};
+ghost use Rattle.match_serve.specs.Heard.{HasHeard};
+ghost use Rattle.match_serve.specs.Seats.{IsNewSeat, AreServed};
+ghost use Rattle.match_serve.specs.Ticks.{TicksAll};
+
+use crate::console::watch_console;
+use crate::kicks::Kicks;
+use crate::link_piece::LinkPiece;
+use crate::serving::serve_links;
+use crate::ticking::tick_all;
+use base::NoMemory;
+use frame_core::Sim;
+use frame_table::{FrameTable, Pass};
+use game_io::{Sink, Source};
+use match_net::Hearer;
+use server_core::Board;
+use std::alloc::Global;
+use std::sync::Wait;
+use std::thread::{Threads, join_mut};
+
+/// Reads the console and ticks all frames, at once.
+fn watch_and_tick<S: Sim, C: Source + Send, R: Threads + Wait + Sync>(
+    rt: &R,
+    table: &FrameTable,
+    clients: u8,
+    watching: &mut Pass,
+    console: &mut C,
+    kicks: &mut Kicks,
+    pass: &mut Pass,
+    hearer: &mut Hearer,
+    board: &mut Board,
+    sim: &mut S,
+) -> Result<(), NoMemory>
+    requires watching { IsServePass clients table.now watching.old }
+    requires kicked { length kicks.old.kicked.items ≡ clients }
+    requires pass { IsServePass clients table.now pass.old }
+    requires unwanted { board.old.wanted ≡ [] }
+    requires boards { length board.old.reports ≡ clients }
+    requires clients { S.clients_of sim.old ≡ clients }
+    requires most { clients ≤ MAX_CLIENTS }
+    requires fresh { S.steps sim.old ≡ 0 }
+    requires heard { HasHeard clients board.old.reports (heard hearer.old) }
+    ensures pass { IsServePass clients table.now pass.new }
+    ensures share { (view_of pass.new).share ≡ (view_of pass.old).share }
+    ensures boards { length board.new.reports ≡ clients }
+    ensures ticked { OnOk result (TicksAll (record {
+      start = sim.old;
+      after = S.after;
+      hash = S.hash_of;
+      summary = S.summary_of;
+      clients = clients;
+      lag = 0;
+    }) clients (view_of pass.old) (view_of pass.new) board.new.wanted
+        (S.steps sim.new) sim.new) }
+    ensures clients { OnOk result (S.clients_of sim.new ≡ S.clients_of sim.old) }
+    ensures heard { OnOk result (HasHeard clients board.new.reports (heard hearer.new)) }
+    ensures joined { joined hearer.new ≡ joined hearer.old }
+    ensures same { IsSameHearer hearer.old hearer.new }
+    ensures watching { IsKicking clients table.now watching.old watching.new }
+    ensures kicked { length kicks.new.kicked.items ≡ clients }
+{
+    let mut watch = ||
+        requires { IsServePass clients table.now watching.now
+            × (length kicks.now.kicked.items ≡ clients) }
+        ensures { IsKicking clients table.entry.now watching.entry.now watching.exit.now
+            × (length kicks.exit.now.kicked.items ≡ clients) }
+    { watch_console(rt, table, watching, clients, console, kicks) };
+    let mut tick = || tick_all(rt, table, pass, clients, hearer, board, sim);
+    let (_watched, ticked) = join_mut(rt, &mut watch, &mut tick);
+    ticked
+}
+
+/// Serves all links, reads the console and ticks all frames, at once.
+pub(crate) fn run_threads<
+    S: Sim,
+    C: Source + Send,
+    R: Threads + Wait + Sync,
+    I: Source + Send + Drop,
+    O: Sink + Send + Drop,
+>(
+    rt: &R,
+    alloc: Global,
+    table: &FrameTable,
+    clients: u8,
+    pieces: &mut [LinkPiece<I, O>],
+    watching: &mut Pass,
+    console: &mut C,
+    kicks: &mut Kicks,
+    pass: &mut Pass,
+    hearer: &mut Hearer,
+    board: &mut Board,
+    sim: &mut S,
+) -> Result<(), NoMemory>
+    requires pieces { All (λ piece. IsNewSeat piece.seat.invite.clients table.now piece.seat)
+        pieces.old }
+    requires watching { IsServePass clients table.now watching.old }
+    requires kicked { length kicks.old.kicked.items ≡ clients }
+    requires pass { IsServePass clients table.now pass.old }
+    requires unwanted { board.old.wanted ≡ [] }
+    requires boards { length board.old.reports ≡ clients }
+    requires clients { S.clients_of sim.old ≡ clients }
+    requires most { clients ≤ MAX_CLIENTS }
+    requires fresh { S.steps sim.old ≡ 0 }
+    requires heard { HasHeard clients board.old.reports (heard hearer.old) }
+    ensures pass { IsServePass clients table.now pass.new }
+    ensures share { (view_of pass.new).share ≡ (view_of pass.old).share }
+    ensures boards { length board.new.reports ≡ clients }
+    ensures ticked { OnOk result (TicksAll (record {
+      start = sim.old;
+      after = S.after;
+      hash = S.hash_of;
+      summary = S.summary_of;
+      clients = clients;
+      lag = 0;
+    }) clients (view_of pass.old) (view_of pass.new) board.new.wanted
+        (S.steps sim.new) sim.new) }
+    ensures clients { OnOk result (S.clients_of sim.new ≡ S.clients_of sim.old) }
+    ensures heard { OnOk result (HasHeard clients board.new.reports (heard hearer.new)) }
+    ensures joined { joined hearer.new ≡ joined hearer.old }
+    ensures same { IsSameHearer hearer.old hearer.new }
+    ensures pieces { AreServed table.now pieces.old pieces.new }
+    ensures watching { IsKicking clients table.now watching.old watching.new }
+    ensures kicked { length kicks.new.kicked.items ≡ clients }
+{
+    let mut serve = ||
+        requires { IsSync R.row × All (λ piece. IsNewSeat piece.seat.invite.clients table.now
+            piece.seat) pieces.now }
+        ensures { AreServed table.entry.now pieces.entry.now pieces.exit.now }
+    { serve_links(rt, alloc, table, pieces) };
+    let mut run = || -> Result<(), NoMemory>
+        requires { IsSync R.row × IsSend C.row × IsServePass clients table.now watching.now
+            × (length kicks.now.kicked.items ≡ clients) × IsServePass clients table.now pass.now
+            × (board.now.wanted ≡ []) × (length board.now.reports ≡ clients)
+            × (S.clients_of sim.now ≡ clients) × (clients ≤ MAX_CLIENTS)
+            × (S.steps sim.now ≡ 0) × HasHeard clients board.now.reports (heard hearer.now) }
+        ensures { IsServePass clients table.entry.now pass.exit.now
+            × ((view_of pass.exit.now).share ≡ (view_of pass.entry.now).share)
+            × (length board.exit.now.reports ≡ clients)
+            × OnOk result (TicksAll (record {
+              start = sim.entry.now;
+              after = S.after;
+              hash = S.hash_of;
+              summary = S.summary_of;
+              clients = clients;
+              lag = 0;
+            }) clients
+            (view_of pass.entry.now) (view_of pass.exit.now) board.exit.now.wanted
+            (S.steps sim.exit.now) sim.exit.now)
+            × OnOk result (S.clients_of sim.exit.now ≡ S.clients_of sim.entry.now)
+            × OnOk result (HasHeard clients board.exit.now.reports (heard hearer.exit.now))
+            × (joined hearer.exit.now ≡ joined hearer.entry.now)
+            × IsSameHearer hearer.entry.now hearer.exit.now
+            × IsKicking clients table.entry.now watching.entry.now watching.exit.now
+            × (length kicks.exit.now.kicked.items ≡ clients) }
+    {
+        watch_and_tick(
+            rt, table, clients, watching, console, kicks, pass, hearer, board, sim,
+        )
+    };
+    let (_served, ticked) = join_mut(rt, &mut serve, &mut run);
+    ticked
+}

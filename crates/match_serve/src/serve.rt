@@ -1,0 +1,222 @@
+//! The whole match: it is opened, run on threads, and closed.
+ghost use Rattle.std.specs.Prelude.{◌≡◌, ◌+◌, ◌^◌, ◌<◌, ◌≤◌, ℕ, List, Option, [], length, replicate, drop};
+ghost use Rattle.std.specs.Prelude.{IfOk, IfErr};
+ghost use Rattle.std.specs.Option.{option_map};
+ghost use Rattle.base.specs.Cause.{Rose};
+ghost use Rattle.game_orders.specs.declared.limits.TheConstants.{MAX_CLIENTS};
+ghost use Rattle.frame_table.specs.Calls.{view_of};
+ghost use Rattle.report_line.specs.Reports.{heard, joined, ends_of};
+ghost use Rattle.match_serve.specs.Passes.{IsOpening};
+ghost use Rattle.match_serve.specs.Heard.{HasHeard};
+ghost use Rattle.match_serve.specs.Seats.{AreNewPieces, shares_of};
+ghost use Rattle.match_serve.specs.Serve.{ServesMatch};
+
+use crate::accepting::accept_links;
+use crate::handing::close_links;
+use crate::hearing::take_reports;
+use crate::kicks::Kicks;
+use crate::leaving::leave_all;
+use crate::link_end::LinkEnd;
+use crate::link_piece::LinkPiece;
+use crate::opening::free_table;
+use crate::running::run_threads;
+use crate::serve_fault::ServeFault;
+use crate::served::Served;
+use arrayvec::ArrayVec;
+use base::{List, NoMemory};
+use frame_core::Sim;
+use frame_table::{FrameTable, Pass};
+use game_io::{Net, Source};
+use match_net::{Hearer, Invite, ReportEnds, report_queue, reports_of_each_client_are_heard};
+use server_core::Board;
+use std::alloc::Global;
+use std::sync::Wait;
+use std::thread::Threads;
+
+/// Serves a match over links. It listens at `at` and accepts as many links as the invite has
+/// clients, the first for client 0; each is told the invite with its own number. The world is that of
+/// as many clients, and has made no step; the net has given no link.
+///
+/// All links are served at once: each is greeted, its client's plays go into the client's column and
+/// its reports to the board, and it is sent all columns. The calling thread ticks every frame that
+/// is ready and notes the world's hash after it. A line `kick C` of the console, `C` a client's
+/// number in decimal without leading zeros, lets that client leave; other lines have no effect, and a
+/// console that fails counts as ended. The call returns once every client has left and the console
+/// has ended or given one more line, and only if its threads do.
+///
+/// The match has the table that the links filled. Its pass has the whole share, and has seen and
+/// knows each whole column: the plays that the link's bytes put, and then the departure. Its world is
+/// the one that was given, stepped by the frames of these columns, as many as the longest has. Each
+/// link was handed back to the net. A link that fails, is refused or finds no memory ends alone.
+///
+/// `Net` only where the net's count of faults rose in this call.
+pub fn serve_match<S: Sim, N: Net, C: Source + Send, R: Threads + Wait + Sync>(
+    rt: &R,
+    alloc: Global,
+    invite: &Invite,
+    at: &str,
+    sim: S,
+    net: &mut N,
+    console: &mut C,
+) -> Result<Served<S>, ServeFault>
+    requires least { 1 ≤ invite.now.clients }
+    requires most { invite.now.clients ≤ MAX_CLIENTS }
+    requires clients { S.clients_of sim ≡ invite.now.clients }
+    requires fresh { S.steps sim ≡ 0 }
+    requires no_links { (N.state net.old).given ≡ [] }
+    ensures served { IfOk result (λ served. ServesMatch (record {
+      start = sim;
+      after = S.after;
+      hash = S.hash_of;
+      summary = S.summary_of;
+      clients = invite.now.clients;
+      lag = 0;
+    })
+        invite.now (N.state net.old).coming (N.state net.new) served.sim (S.steps served.sim)
+        served.table served.pass served.board served.ends) }
+    ensures clients { IfOk result (λ served. S.clients_of served.sim ≡ S.clients_of sim) }
+    ensures net { IfErr result (λ fault. fault ≡ ServeFault.Net →
+        Rose (N.state net.old).faults (N.state net.new).faults) }
+{
+    let board = Board::create(alloc, invite.clients)?;
+    let kicks = no_kicks(alloc, invite.clients)?;
+    let ends = no_ends(alloc, invite.clients)?;
+    let (table, mut pass) = free_table(alloc, invite.clients)?;
+    let ReportEnds {
+        ends: reports,
+        hearer,
+    } = report_queue(alloc, invite.clients)?;
+    if net.listen(at).is_err() {
+        return Err(ServeFault::Net);
+    }
+    let pieces = accept_links(alloc, net, &table, &mut pass, invite, reports.into_vec())?;
+    let served = serve_opened(
+        rt,
+        alloc,
+        invite,
+        table,
+        pass,
+        hearer,
+        pieces.into_vec(),
+        board,
+        kicks,
+        ends,
+        sim,
+        net,
+        console,
+    )?;
+    Ok(served)
+}
+
+/// Nothing was read of the console, and nobody was kicked.
+fn no_kicks(alloc: Global, clients: u8) -> Result<Kicks, NoMemory>
+    ensures { IfOk result (λ kicks. length kicks.kicked.items ≡ clients) }
+{
+    let mut kicked = Vec::new(alloc);
+    for _client in 0..clients {
+        kicked.push(false)?;
+    }
+    Ok(Kicks {
+        line: ArrayVec::new(),
+        kicked,
+    })
+}
+
+/// A place for the end of each link.
+fn no_ends(alloc: Global, clients: u8) -> Result<Vec<LinkEnd>, NoMemory>
+    ensures { IfOk result (λ ends. length ends.items ≡ clients) }
+{
+    let mut ends = Vec::new(alloc);
+    for _client in 0..clients {
+        ends.push(LinkEnd::Memory)?;
+    }
+    Ok(ends)
+}
+
+/// Serves the accepted links of a match to its end, and hands them back.
+fn serve_opened<S: Sim, N: Net, C: Source + Send, R: Threads + Wait + Sync>(
+    rt: &R,
+    alloc: Global,
+    invite: &Invite,
+    table: FrameTable,
+    pass: Pass,
+    hearer: Hearer,
+    pieces: Vec<LinkPiece<N::In, N::Out>>,
+    board: Board,
+    kicks: Kicks,
+    ends: Vec<LinkEnd>,
+    sim: S,
+    net: &mut N,
+    console: &mut C,
+) -> Result<Served<S>, NoMemory>
+    requires most { invite.now.clients ≤ MAX_CLIENTS }
+    requires opening { IsOpening invite.now.clients table invite.now.clients pass }
+    requires enough { 2 ≤ (view_of pass).share }
+    requires shares { (view_of pass).share + shares_of pieces.items ≡ 2 ^ 62 }
+    requires pieces { (coming : Option (List (List ℕ))) × AreNewPieces invite.now.clients table
+        invite.now hearer coming 0 pieces.items }
+    requires count { length pieces.items ≡ invite.now.clients }
+    requires given { length (N.state net.old).given ≡ invite.now.clients }
+    requires ends_of { ends_of hearer ≡ invite.now.clients }
+    requires unheard { heard hearer ≡ [] }
+    requires unjoined { joined hearer ≡ [] }
+    requires board { board.reports ≡ replicate invite.now.clients [] }
+    requires unwanted { board.wanted ≡ [] }
+    requires kicked { length kicks.kicked.items ≡ invite.now.clients }
+    requires ends { length ends.items ≡ invite.now.clients }
+    requires clients { S.clients_of sim ≡ invite.now.clients }
+    requires fresh { S.steps sim ≡ 0 }
+    ensures served { IfOk result (λ served. (coming : Option (List (List ℕ))) →
+        AreNewPieces invite.now.clients table invite.now hearer coming 0 pieces.items →
+        (N.state net.old).coming ≡ option_map (drop invite.now.clients) coming →
+        ServesMatch (record {
+          start = sim;
+          after = S.after;
+          hash = S.hash_of;
+          summary = S.summary_of;
+          clients = invite.now.clients;
+          lag = 0;
+        }) invite.now coming
+        (N.state net.new) served.sim (S.steps served.sim) served.table served.pass served.board
+        served.ends) }
+    ensures clients { IfOk result (λ served. S.clients_of served.sim ≡ S.clients_of sim) }
+{
+    let (mut pass, mut hearer, mut pieces) = (pass, hearer, pieces);
+    let (mut board, mut kicks, mut ends, mut sim) = (board, kicks, ends, sim);
+    let mut watching = table.split(&mut pass);
+    run_threads(
+        rt,
+        alloc,
+        &table,
+        invite.clients,
+        pieces.as_mut_slice(),
+        &mut watching,
+        console,
+        &mut kicks,
+        &mut pass,
+        &mut hearer,
+        &mut board,
+        &mut sim,
+    )?;
+    table.join(&mut pass, watching);
+    close_links(
+        net,
+        &table,
+        &mut pass,
+        &mut hearer,
+        invite,
+        pieces,
+        kicks.kicked.as_slice(),
+        ends.as_mut_slice(),
+    );
+    take_reports(rt, &mut hearer, &mut board)?;
+    leave_all(rt, &table, &mut pass, invite.clients);
+    reports_of_each_client_are_heard();
+    Ok(Served {
+        sim,
+        table,
+        pass,
+        board,
+        ends: List::from_vec(ends),
+    })
+}
