@@ -1,11 +1,14 @@
 -- Accepted words name a request, but for the number of positional arguments and for cells that are
 -- none.
-use Rattle.std.proofs.Common.{◌≡◌, ◌⊎◌, ◌∙◌, ◌||◌, ap, inl, inr, ℕ, Bool, true, false, not, cond, List, [], ◌∷◌, Option, Some, None, is_some, codes, refl}
-use Rattle.std.specs.Prelude.{find, option_map, option_and_then, pos}
+use Rattle.std.proofs.Common.{◌≡◌, ◌<◌, ◌⊎◌, ◌∙◌, ◌||◌, ap, sym, subst, arith, inl, inr, ℕ, Bool, true, false, not, cond, List, [], ◌∷◌, Option, Some, None, is_some, codes, refl}
+use Rattle.std.specs.Prelude.{◌^◌, find, option_map, option_and_then, unwrap_or, pos}
+use Rattle.std.proofs.lemmas.Bool.{le-leb}
 use Rattle.std.specs.Option.{option_map_or}
 use Rattle.clap.specs.Walk.{Row, Rule, Text, settled, finished, nothing_held, walk, walk_from, rows_after, first_of, answers_to}
 use Rattle.clap.specs.Simple.{Shape, new_shape, filled, with_index, built, entered, rows_at, names_of, label_of, argument_words, subcommand_of}
 use Rattle.clap.specs.Takes.{is_given}
+use Rattle.clap.specs.Lexer.{without_minus}
+use Rattle.clap.specs.Values.{read_as}
 use Rattle.clap.specs.ValueTests.{is_signed_in}
 use Rattle.clap.specs.Kinds.{or_else}
 use Rattle.clap.specs.Faults.{walk_fault, settle_fault, defaults_fault, check_fault, level_fault, entered_fault, fault_of}
@@ -13,13 +16,15 @@ use Rattle.clap.specs.declared.error.kind.ErrorKind.TheVariants.{MissingRequired
 use Rattle.clap.proofs.SimpleLemmas.{is_nil}
 use Rattle.clap.proofs.WalkLemmas.{both}
 use Rattle.world_units.specs.declared.cell.CPos.{CPos}
-use Rattle.command_words.specs.RequestPlain.{Drill, Local, MatchPlain, Migrate, Replay, RequestPlain, Route}
-use Rattle.command_words.specs.Commands.{option_named, required_option, required_number, bare_app, lockstep_app}
-use Rattle.command_words.specs.Reading.{is_accepted, command_request, names_in, cell_in, number_of, number_in, match_in, migrate_in, route_in, found_request, request_of, NamesRefused, CellRefused}
+use Rattle.command_words.specs.RequestPlain.{Drill, Local, MatchPlain, Migrate, Play, Replay, RequestPlain, Route, Serve}
+use Rattle.command_words.specs.Commands.{option_named, required_option, number_option, required_number, bare_app, lockstep_app}
+use Rattle.command_words.specs.Reading.{is_accepted, command_request, names_in, cell_in, number_of, number_in, up_to, count_in, count_or, match_in, play_in, serve_in, migrate_in, route_in, found_request, request_of, NamesRefused, CellRefused}
+use Rattle.game_orders.specs.declared.limits.TheConstants.{MAX_CLIENTS, MAX_LAG}
+use Rattle.command_words.specs.declared.serve_query.TheConstants.{DEFAULT_LAG}
 use Rattle.command_words.proofs.OnCommands.{all_commands}
-use Rattle.command_words.proofs.NumberLemmas.{let_through}
+use Rattle.command_words.proofs.NumberLemmas.{Written, let_through}
 use Rattle.command_words.proofs.PlainWordsLemmas.{map_rule, names_rule, names_rules, names_shape}
-use Rattle.command_words.proofs.FoundValuesLemmas.{Full, AllWant, Shortless, HasRow, first_none, second_none, some_kind, settle_full, walk_full, defaults_full, given_row, given_first, given_one}
+use Rattle.command_words.proofs.FoundValuesLemmas.{Full, AllWant, Shortless, HasRow, reading_at, first_none, second_none, some_kind, settle_full, walk_full, defaults_full, given_row, given_first, given_one, Found, found_or_not, nothing, something}
 
 -- A command with these arguments, as the parse has it.
 abbrev shape_with : Text → List Rule → Shape
@@ -47,10 +52,20 @@ route_shape =
     ∷ names_rule ∷ [])
 
 abbrev make_shape : Shape
-make_shape = shape_with (codes "make") (with_index 1 (filled (required_number (codes "number"))) ∷ [])
+make_shape = shape_with (codes "make") (with_index 1 (filled (required_number (codes "number") 0 4294967295)) ∷ [])
 
 abbrev local_shape : Shape
 local_shape = shape_with (codes "local") (wanted_rule (codes "script") ∷ map_rule ∷ names_rule ∷ [])
+
+abbrev serve_shape : Shape
+serve_shape =
+    shape_with (codes "serve")
+    (wanted_rule (codes "at") ∷ with_index 1 (filled (required_number (codes "clients") 1 MAX_CLIENTS))
+    ∷ with_index 1 (filled (number_option (codes "lag") 1 MAX_LAG)) ∷ with_index 1 (filled (number_option (codes "seed") 0 4294967295))
+    ∷ map_rule ∷ names_rule ∷ [])
+
+abbrev play_shape : Shape
+play_shape = shape_with (codes "play") (wanted_rule (codes "script") ∷ map_rule ∷ wanted_rule (codes "at") ∷ names_rule ∷ [])
 
 abbrev replay_shape : Shape
 replay_shape = shape_with (codes "replay") (wanted_rule (codes "file") ∷ map_rule ∷ names_rule ∷ [])
@@ -62,7 +77,7 @@ migrate_shape = shape_with (codes "migrate") (wanted_rule (codes "file") ∷ map
 abbrev command_shapes : List Shape
 command_shapes =
     drill_shape ∷ names_shape false (codes "yaml") ∷ names_shape true (codes "check") ∷ route_shape ∷ make_shape ∷ local_shape
-    ∷ replay_shape ∷ migrate_shape ∷ []
+    ∷ serve_shape ∷ play_shape ∷ replay_shape ∷ migrate_shape ∷ []
 
 -- What is known of rows that a command without a fault has found.
 record AreFound (s : Shape) (rows : List Row) : Type 0 where
@@ -160,6 +175,41 @@ migrate_found words quiet =
     record {
       file = given_first c (codes "file") rows (given_row c (codes "file") rows found.full given.first);
       to = given_first c (codes "to") rows (given_row c (codes "to") rows found.full given.second);
+    }
+
+-- The options of a player that have to be there are there.
+record PlayIsThere (rows : List Row) : Type 0 where
+  script : IsThere (codes "script") rows
+  at : IsThere (codes "at") rows
+
+play_found : (words : List Text) → level_fault play_shape [] nothing_held words false [] ≡ [] → PlayIsThere (rows_after play_shape.rules [] words)
+play_found words quiet =
+    let c = play_shape.rules in
+    let rows = rows_after play_shape.rules [] words in
+    let found : AreFound play_shape rows = found_rows play_shape words ((refl, refl), ((refl, refl), ((refl, refl), ((refl, refl), tt)))) (λ x. refl) quiet in
+    let given : BothGiven (is_given (codes "script") rows) (is_given (codes "at") rows) = both_required (is_given (codes "script") rows) (is_given (codes "at") rows) found.checks in
+    record {
+      script = given_first c (codes "script") rows (given_row c (codes "script") rows found.full given.first);
+      at = given_first c (codes "at") rows (given_row c (codes "at") rows found.full given.second);
+    }
+
+-- What is known of the options of a match to be served.
+record ServeIsThere (rows : List Row) : Type 0 where
+  at : IsThere (codes "at") rows
+  clients : HasRow serve_shape.rules (codes "clients") rows
+  lag : Found serve_shape.rules (codes "lag") rows
+
+serve_found : (words : List Text) → level_fault serve_shape [] nothing_held words false [] ≡ [] → ServeIsThere (rows_after serve_shape.rules [] words)
+serve_found words quiet =
+    let c = serve_shape.rules in
+    let rows = rows_after serve_shape.rules [] words in
+    let found : AreFound serve_shape rows =
+    found_rows serve_shape words ((refl, refl), ((refl, refl), ((refl, refl), ((refl, refl), ((refl, refl), ((refl, refl), tt)))))) (λ x. refl) quiet in
+    let given : BothGiven (is_given (codes "at") rows) (is_given (codes "clients") rows) = both_required (is_given (codes "at") rows) (is_given (codes "clients") rows) found.checks in
+    record {
+      at = given_first c (codes "at") rows (given_row c (codes "at") rows found.full given.first);
+      clients = given_row c (codes "clients") rows found.full given.second;
+      lag = found_or_not c (codes "lag") rows found.full;
     }
 
 -- The options of a route are there.
@@ -265,19 +315,23 @@ route_request rows there =
     route_is rows (first_of (codes "map") rows) (first_of (codes "kind") rows) (cell_in (codes "from") rows) (cell_in (codes "to") rows) (names_in 1 rows)
     refl refl refl refl refl there.map_file there.kind
 
-number_there : (rows : List Row) → HasRow make_shape.rules (codes "number") rows → is_some (number_in (codes "number") rows) ≡ true
+-- The number of a row whose argument takes one within these bounds.
+row_number : (c : List Rule) (name : Text) (rows : List Row) (least most : ℕ) (has : HasRow c name rows) → most < 2 ^ 32
+    → is_signed_in (pos least) (pos most) has.first ≡ true → read_as (reading_at c name) has.first ≡ without_minus has.first
+    → Written least most (number_in name rows)
 unfolding number_in
-number_there rows has =
-    ap (λ (text : Option Text). is_some (option_and_then number_of text)) (given_one make_shape.rules (codes "number") rows has)
-    ∙ let_through has.first (both (is_signed_in (pos 0) (pos 4294967295) has.first) _ has.passes).0
+row_number c name rows least most has fits passes reads =
+    subst (λ (text : Option Text). Written least most (option_and_then number_of text)) (sym (given_one c name rows has ∙ ap Some reads))
+    (let_through least most has.first fits passes)
+
+make_number : (rows : List Row) → HasRow make_shape.rules (codes "number") rows → Written 0 4294967295 (number_in (codes "number") rows)
+make_number rows has =
+    row_number make_shape.rules (codes "number") rows 0 4294967295 has (omega arith)
+    (both (is_signed_in (pos 0) (pos 4294967295) has.first) _ has.passes).0 refl
 
 make_request : (rows : List Row) → HasRow make_shape.rules (codes "number") rows → HasRequest (Some (codes "make", rows))
 unfolding command_request
-make_request rows has = go (number_in (codes "number") rows) refl (number_there rows has)
-  where
-    go : (number : Option ℕ) → number_in (codes "number") rows ≡ number → is_some number ≡ true → HasRequest (Some (codes "make", rows))
-    go None is there = cc
-    go (Some number) is there = inl (rw is refl)
+make_request rows has = inl (rw (make_number rows has).is refl)
 
 local_request : (rows : List Row) → IsThere (codes "script") rows → HasRequest (Some (codes "local", rows))
 unfolding command_request
@@ -285,6 +339,63 @@ local_request rows there = elim (match_is (codes "script") rows there) [
   | inl named ↦ inl (made_is Local (match_in (codes "script") rows) named)
   | inr none ↦ inr (inl none)
 ]
+
+play_is : (rows : List Row) (at : Option Text) → first_of (codes "at") rows ≡ at → is_some at ≡ true
+    → is_some (match_in (codes "script") rows) ≡ true → is_some (play_in rows) ≡ true
+unfolding play_in
+play_is rows None is there named = cc
+play_is rows (Some at) is there named = rw is (made_is (λ query. Play query at) (match_in (codes "script") rows) named)
+
+play_request : (rows : List Row) → PlayIsThere rows → HasRequest (Some (codes "play", rows))
+unfolding command_request
+play_request rows there = elim (match_is (codes "script") rows there.script) [
+  | inl named ↦ inl (play_is rows (first_of (codes "at") rows) refl there.at named)
+  | inr none ↦ inr (inl none)
+]
+
+-- A number within the bounds of a count is one.
+counted : (most : ℕ) (number : Option ℕ) → Written 1 most number → is_some (option_and_then (up_to most) number) ≡ true
+counted most number written =
+    rw (written.is, le-leb 1 written.value written.above, le-leb written.value most written.below) refl
+
+counted_or : (default most : ℕ) (number : Option ℕ) → Written 1 most number → is_some (up_to most (unwrap_or number default)) ≡ true
+counted_or default most number written =
+    rw (written.is, le-leb 1 written.value written.above, le-leb written.value most written.below) refl
+
+clients_there : (rows : List Row) → HasRow serve_shape.rules (codes "clients") rows → is_some (count_in MAX_CLIENTS (codes "clients") rows) ≡ true
+unfolding count_in
+clients_there rows has =
+    counted MAX_CLIENTS (number_in (codes "clients") rows)
+    (row_number serve_shape.rules (codes "clients") rows 1 MAX_CLIENTS has (omega arith)
+    (both (is_signed_in (pos 1) (pos MAX_CLIENTS) has.first) _ has.passes).0 refl)
+
+lag_there : (rows : List Row) → Found serve_shape.rules (codes "lag") rows → is_some (count_or DEFAULT_LAG MAX_LAG (codes "lag") rows) ≡ true
+unfolding count_or number_in
+lag_there rows (nothing none) = rw none refl
+lag_there rows (something has) =
+    counted_or DEFAULT_LAG MAX_LAG (number_in (codes "lag") rows)
+    (row_number serve_shape.rules (codes "lag") rows 1 MAX_LAG has (omega arith)
+    (both (is_signed_in (pos 1) (pos MAX_LAG) has.first) _ has.passes).0 refl)
+
+-- A match to be served is named, or the number of its rule files is not allowed.
+serve_is : (rows : List Row) (at : Option Text) (clients lag : Option ℕ) (names : Option (List Text))
+    → first_of (codes "at") rows ≡ at → count_in MAX_CLIENTS (codes "clients") rows ≡ clients → count_or DEFAULT_LAG MAX_LAG (codes "lag") rows ≡ lag → names_in 0 rows ≡ names
+    → is_some at ≡ true → is_some clients ≡ true → is_some lag ≡ true → (is_some (option_map Serve (serve_in rows)) ≡ true) ⊎ (names_in 0 rows ≡ None)
+unfolding serve_in
+serve_is rows None clients lag names a b c d there there' there'' = cc
+serve_is rows (Some at) None lag names a b c d there there' there'' = cc
+serve_is rows (Some at) (Some clients) None names a b c d there there' there'' = cc
+serve_is rows (Some at) (Some clients) (Some lag) None a b c d there there' there'' = inr d
+serve_is rows (Some at) (Some clients) (Some lag) (Some names) a b c d there there' there'' = inl (rw (a, b, c, d) refl)
+
+serve_request : (rows : List Row) → ServeIsThere rows → HasRequest (Some (codes "serve", rows))
+unfolding command_request
+serve_request rows there =
+    elim (serve_is rows (first_of (codes "at") rows) (count_in MAX_CLIENTS (codes "clients") rows) (count_or DEFAULT_LAG MAX_LAG (codes "lag") rows) (names_in 0 rows)
+    refl refl refl refl there.at (clients_there rows there.clients) (lag_there rows there.lag)) [
+      | inl named ↦ inl named
+      | inr none ↦ inr (inl none)
+    ]
 
 -- Each of the commands, where its words have no fault.
 abbrev GivesRequest : Shape → Type 0
@@ -304,6 +415,12 @@ replays_give_requests = (
   (λ words quiet. migrate_request (rows_after migrate_shape.rules [] words) (migrate_found words quiet), tt),
 )
 
+links_give_requests : AllGiveRequests (serve_shape ∷ play_shape ∷ replay_shape ∷ migrate_shape ∷ [])
+links_give_requests = (
+  λ words quiet. serve_request (rows_after serve_shape.rules [] words) (serve_found words quiet),
+  (λ words quiet. play_request (rows_after play_shape.rules [] words) (play_found words quiet), replays_give_requests),
+)
+
 all_give_requests : AllGiveRequests command_shapes
 all_give_requests = (
   λ words quiet. drill_request (rows_after drill_shape.rules [] words) (there_of drill_shape (codes "script") words drill_found quiet),
@@ -317,7 +434,7 @@ all_give_requests = (
           λ words quiet. make_request (rows_after make_shape.rules [] words) (make_found words quiet),
           (
             λ words quiet. local_request (rows_after local_shape.rules [] words) (there_of local_shape (codes "script") words local_found quiet),
-            replays_give_requests,
+            links_give_requests,
           ),
         ),
       ),

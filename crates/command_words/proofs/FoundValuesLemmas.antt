@@ -409,3 +409,17 @@ given_first c id rows has = rw (has.found, has.values) refl
 -- The text that is read of an id is the first value, as its parser says.
 pub given_one : (c : List Rule) (id : Text) (rows : List Row) (has : HasRow c id rows) → one_of id rows ≡ Some (read_as (reading_at c id) has.first)
 given_one c id rows has = rw (has.found, has.values, has.how) refl
+
+-- An id of which nothing was found, or its row.
+pub data Found (c : List Rule) (id : Text) (rows : List Row) : Type 0 where
+  nothing : one_of id rows ≡ None → Found c id rows
+  something : HasRow c id rows → Found c id rows
+
+pub found_or_not : (c : List Rule) (id : Text) (rows : List Row) → Full c rows → Found c id rows
+found_or_not c id [] full = nothing refl
+found_or_not c id (row ∷ rows) full = go (bytes_eq row.id id) refl (found_or_not c id rows full.1)
+  where
+    go : (b : Bool) → bytes_eq row.id id ≡ b → Found c id rows → Found c id (row ∷ rows)
+    go true is later = something (row_there c id row rows is full.0)
+    go false is (nothing none) = nothing (rw is none)
+    go false is (something has) = something (row_later c id row rows is has)

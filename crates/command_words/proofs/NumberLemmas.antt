@@ -1,5 +1,5 @@
 -- Numbers as `u32` reads them, and as `clap`'s parser of them lets them through.
-use Rattle.std.proofs.Common.{◌≡◌, ◌<◌, ℕ, Bool, true, false, cond, Option, Some, None, is_some, Result, Ok, Err, refl, ap, arith}
+use Rattle.std.proofs.Common.{◌≡◌, ◌<◌, ◌≤◌, ℕ, Bool, true, false, cond, Option, Some, None, is_some, Result, Ok, Err, refl, ap, arith}
 use Rattle.std.specs.Prelude.{◌^◌, pos, ⊤}
 use Rattle.std.specs.Str.Parse.{IsNumeral, ParsesUnsigned, digits_value, without_leading_plus}
 use Rattle.clap.specs.Lexer.{without_minus}
@@ -42,9 +42,16 @@ reads_number text = go (is_unsigned_in 0 4294967295 text) refl
     go true is = (fits_where text is, refl)
     go false is = (tt, λ fits. let met = where_fits text fits in cc)
 
--- A text that the parser of `u32` lets through writes a number.
-pub let_through : (text : Text) → is_signed_in (pos 0) (pos 4294967295) text ≡ true → is_some (number_of (without_minus text)) ≡ true
-let_through text passes =
-    let read = signed_reads ⊤ (ParsesUnsigned 32 10) 32 0 4294967295 text (number_of (without_minus text)) (reads_number (without_minus text)) (λ u x g. g) (omega arith)
-    (accepts-Accepts false (Signed (pos 0) (pos 4294967295)) text passes) in
-    ap is_some read.1
+-- A text that the parser of `u32` within these bounds lets through writes a number within them.
+pub record Written (least most : ℕ) (number : Option ℕ) : Type 0 where
+  pub value : ℕ
+  pub is : number ≡ Some value
+  pub above : least ≤ value
+  pub below : value ≤ most
+
+pub let_through :
+    (least most : ℕ) (text : Text) → most < 2 ^ 32 → is_signed_in (pos least) (pos most) text ≡ true → Written least most (number_of (without_minus text))
+let_through least most text fits passes =
+    let read = signed_reads ⊤ (ParsesUnsigned 32 10) 32 least most text (number_of (without_minus text)) (reads_number (without_minus text)) (λ u x g. g) fits
+    (accepts-Accepts false (Signed (pos least) (pos most)) text passes) in
+    record { value = read.0; is = read.1; above = read.2; below = read.3 }

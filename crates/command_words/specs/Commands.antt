@@ -1,10 +1,11 @@
 -- The command line as it is given to the library `clap`: one definition a command, and the one
 -- level above them. `clap`'s own definitions decide what is accepted, and what the words then name.
-use Rattle.std.specs.Prelude.{Some, pos, true, codes}
+use Rattle.std.specs.Prelude.{ℕ, Some, pos, true, codes}
 use Rattle.clap.specs.Walk.{Rule, Text}
 use Rattle.clap.specs.Simple.{App, new_app, new_rule, on_top, with_rule, with_subcommand}
 use Rattle.clap.specs.declared.builder.action.ArgAction.TheVariants.{Append}
 use Rattle.clap.specs.declared.builder.value_parser.ValueParser.TheVariants.{Signed}
+use Rattle.game_orders.specs.declared.limits.TheConstants.{MAX_CLIENTS, MAX_LAG}
 
 -- `--NAME VALUE`, which may be left out.
 abbrev pub option_named : Text → Rule
@@ -14,10 +15,16 @@ option_named name = record (new_rule name) { long = Some name }
 abbrev pub required_option : Text → Rule
 required_option name = record (option_named name) { required = true }
 
--- `--NAME N`, which is required: a number that `clap`'s parser of `u32` takes.
-abbrev pub required_number : Text → Rule
-required_number name =
-    record (required_option name) { parser = Some (Signed (pos 0) (pos 4294967295)) }
+-- The value is a number that `clap`'s parser of `u32` takes, within these bounds.
+abbrev pub within : (least most : ℕ) → Rule → Rule
+within least most rule = record rule { parser = Some (Signed (pos least) (pos most)) }
+
+-- `--NAME N`, which may be left out, and the same where it is required.
+abbrev pub number_option : Text → (least most : ℕ) → Rule
+number_option name least most = within least most (option_named name)
+
+abbrev pub required_number : Text → (least most : ℕ) → Rule
+required_number name least most = within least most (required_option name)
 
 -- The positional arguments: names of files, any number of them.
 abbrev pub file_names : Rule
@@ -68,11 +75,37 @@ route_app = with_rule ends_app file_names
 
 -- `make --number N`.
 unfoldable pub make_app : App
-make_app = with_rule (new_app (codes "make")) (required_number (codes "number"))
+make_app = with_rule (new_app (codes "make")) (required_number (codes "number") 0 4294967295)
 
 -- `local --script FILE --map FILE RULES`, where the map may be left out.
 unfoldable pub local_app : App
 local_app = with_rule (played_app (codes "local") (codes "script")) file_names
+
+-- `serve --at ADDRESS --clients N`, so far.
+unfoldable pub hosted_app : App
+hosted_app =
+    with_rule
+    (with_rule (new_app (codes "serve")) (required_option (codes "at")))
+    (required_number (codes "clients") 1 MAX_CLIENTS)
+
+-- The same with `--lag N --seed N`, which may be left out.
+unfoldable pub timed_app : App
+timed_app =
+    with_rule
+    (with_rule hosted_app (number_option (codes "lag") 1 MAX_LAG))
+    (number_option (codes "seed") 0 4294967295)
+
+-- `serve --at ADDRESS --clients N --lag N --seed N --map FILE RULES`, where the lag, the seed and
+-- the map may be left out.
+unfoldable pub serve_app : App
+serve_app = with_rule (with_rule timed_app (option_named (codes "map"))) file_names
+
+-- `play --at ADDRESS --script FILE --map FILE RULES`, where the map may be left out.
+unfoldable pub play_app : App
+play_app =
+    with_rule
+    (with_rule (played_app (codes "play") (codes "script")) (required_option (codes "at")))
+    file_names
 
 -- `replay --file FILE --map FILE RULES`, where the map may be left out.
 unfoldable pub replay_app : App
@@ -107,6 +140,10 @@ asking_app = with_subcommand (with_subcommand first_app check_app.top) route_app
 unfoldable pub playing_app : App
 playing_app = with_subcommand (with_subcommand asking_app make_app.top) local_app.top
 
+-- The same with those over links.
+unfoldable pub linked_app : App
+linked_app = with_subcommand (with_subcommand playing_app serve_app.top) play_app.top
+
 -- The whole command line.
 unfoldable pub lockstep_app : App
-lockstep_app = with_subcommand (with_subcommand playing_app replay_app.top) migrate_app.top
+lockstep_app = with_subcommand (with_subcommand linked_app replay_app.top) migrate_app.top

@@ -9,12 +9,14 @@ use Rattle.clap.specs.Walk.{Row, Text, all_of, first_of, one_of, is_empty}
 use Rattle.clap.specs.Simple.{subcommand_of}
 use Rattle.clap.specs.ValueTests.{is_unsigned_in}
 use Rattle.clap.specs.Faults.{fault_of}
+use Rattle.game_orders.specs.declared.limits.TheConstants.{MAX_CLIENTS, MAX_LAG}
 use Rattle.command_words.specs.declared.TheConstants.{MAX_FILES}
+use Rattle.command_words.specs.declared.serve_query.TheConstants.{DEFAULT_LAG, DEFAULT_SEED}
 use Rattle.rule_values.specs.Cells.{cell_of}
 use Rattle.world_units.specs.declared.cell.CPos.{CPos}
 use Rattle.command_words.specs.RequestPlain.{RequestPlain, Drill, Yaml, Check, Route, Make}
-use Rattle.command_words.specs.RequestPlain.{Local, Replay, Migrate}
-use Rattle.command_words.specs.RequestPlain.{MatchPlain, RoutePlain}
+use Rattle.command_words.specs.RequestPlain.{Local, Serve, Play, Replay, Migrate}
+use Rattle.command_words.specs.RequestPlain.{MatchPlain, RoutePlain, ServePlain}
 use Rattle.command_words.specs.Commands.{lockstep_app}
 
 -- `clap` accepts the words as a command line of `lockstep`.
@@ -46,6 +48,18 @@ number_of text =
 unfoldable pub number_in : Text → List Row → Option ℕ
 number_in name found = option_and_then number_of (one_of name found)
 
+-- A number from 1 to this one.
+abbrev pub up_to : (most number : ℕ) → Option ℕ
+up_to most number = if nat_le 1 number && nat_le number most then Some number else None
+
+-- The number that an option writes, where it is given and writes one from 1 to `most`.
+unfoldable pub count_in : (most : ℕ) → Text → List Row → Option ℕ
+count_in most name found = option_and_then (up_to most) (number_in name found)
+
+-- The same, where the option may be left out for a number.
+unfoldable pub count_or : (default most : ℕ) → Text → List Row → Option ℕ
+count_or default most name found = up_to most (unwrap_or (number_in name found) default)
+
 abbrev pub to_cell : ℕ × ℕ → CPos
 to_cell at = record { x = at.0; y = at.1 }
 
@@ -70,6 +84,31 @@ unfoldable pub migrate_in : List Row → Option RequestPlain
 migrate_in found =
     option_and_then (λ to. option_map (λ query. Migrate query to) (match_in (codes "file") found))
     (first_of (codes "to") found)
+
+-- The request to play a script over a link: which, and where the server is.
+unfoldable pub play_in : List Row → Option RequestPlain
+play_in found =
+    option_and_then (λ at. option_map (λ query. Play query at) (match_in (codes "script") found))
+    (first_of (codes "at") found)
+
+-- The match that is to be served.
+unfoldable pub serve_in : List Row → Option ServePlain
+serve_in found =
+    option_and_then (λ at.
+    option_and_then (λ clients.
+    option_and_then (λ lag.
+    option_map (λ rules. record {
+      at = at;
+      clients = clients;
+      lag = lag;
+      seed = unwrap_or (number_in (codes "seed") found) DEFAULT_SEED;
+      map_file = first_of (codes "map") found;
+      rules = rules;
+    })
+    (names_in 0 found))
+    (count_or DEFAULT_LAG MAX_LAG (codes "lag") found))
+    (count_in MAX_CLIENTS (codes "clients") found))
+    (first_of (codes "at") found)
 
 -- The route that is asked for.
 unfoldable pub route_in : List Row → Option RoutePlain
@@ -105,6 +144,8 @@ command_request command found =
     then option_map Make (number_in (codes "number") found)
     else if bytes_eq command (codes "local")
     then option_map Local (match_in (codes "script") found)
+    else if bytes_eq command (codes "serve") then option_map Serve (serve_in found)
+    else if bytes_eq command (codes "play") then play_in found
     else if bytes_eq command (codes "replay")
     then option_map Replay (match_in (codes "file") found)
     else if bytes_eq command (codes "migrate") then migrate_in found
@@ -129,6 +170,8 @@ least_names command =
     else if bytes_eq command (codes "check") then Some 1
     else if bytes_eq command (codes "route") then Some 1
     else if bytes_eq command (codes "local") then Some 0
+    else if bytes_eq command (codes "serve") then Some 0
+    else if bytes_eq command (codes "play") then Some 0
     else if bytes_eq command (codes "replay") then Some 0
     else if bytes_eq command (codes "migrate") then Some 0
     else None

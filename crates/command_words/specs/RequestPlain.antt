@@ -2,9 +2,11 @@
 use Rattle.std.specs.Prelude.{ℕ, ◌≤◌, List, [], length, Option, None, option_map}
 use Rattle.std.specs.Borrow.{Bor}
 use Rattle.world_units.specs.declared.cell.CPos.{CPos}
+use Rattle.game_orders.specs.declared.limits.TheConstants.{MAX_CLIENTS}
 use Rattle.command_words.specs.declared.TheConstants.{MAX_FILES}
 use Rattle.command_words.specs.declared.match_query.MatchQuery.{MatchQuery}
 use Rattle.command_words.specs.declared.route_query.RouteQuery.{RouteQuery}
+use Rattle.command_words.specs.declared.serve_query.ServeQuery.{ServeQuery}
 use Rattle.command_words.specs.declared.request.Request.{Request}
 use Rattle.command_words.specs.declared.request.Request.TheVariants as request
 
@@ -26,6 +28,16 @@ pub record RoutePlain : Type 0 where
   pub to : CPos
   pub rules : List (List ℕ)
 
+-- A match that is served: where, to how many clients, by which lag and seed, over which map and
+-- rules.
+pub record ServePlain : Type 0 where
+  pub at : List ℕ
+  pub clients : ℕ
+  pub lag : ℕ
+  pub seed : ℕ
+  pub map_file : Option (List ℕ)
+  pub rules : List (List ℕ)
+
 pub data RequestPlain : Type 0 where
   Drill : MatchPlain → («record» : Option (List ℕ)) → RequestPlain
   Yaml : (files : List (List ℕ)) → RequestPlain
@@ -33,6 +45,8 @@ pub data RequestPlain : Type 0 where
   Route : RoutePlain → RequestPlain
   Make : (number : ℕ) → RequestPlain
   Local : MatchPlain → RequestPlain
+  Serve : ServePlain → RequestPlain
+  Play : MatchPlain → (at : List ℕ) → RequestPlain
   Replay : MatchPlain → RequestPlain
   Migrate : MatchPlain → (to : List ℕ) → RequestPlain
 
@@ -57,6 +71,17 @@ plain_route query =
       rules = query.rules;
     }
 
+abbrev pub plain_serve : ServeQuery → ServePlain
+plain_serve query =
+    record {
+      at = query.at.now;
+      clients = query.clients;
+      lag = query.lag;
+      seed = query.seed;
+      map_file = plain_name query.map_file;
+      rules = query.rules;
+    }
+
 -- The plain form of a request.
 abbrev pub plain_of : Request → RequestPlain
 plain_of (request.Drill query recorded) = Drill (plain_match query) (plain_name recorded)
@@ -65,6 +90,8 @@ plain_of (request.Check map_file rules) = Check (plain_name map_file) rules
 plain_of (request.Route query) = Route (plain_route query)
 plain_of (request.Make number) = Make number
 plain_of (request.Local query) = Local (plain_match query)
+plain_of (request.Serve query) = Serve (plain_serve query)
+plain_of (request.Play query at) = Play (plain_match query) at.now
 plain_of (request.Replay query) = Replay (plain_match query)
 plain_of (request.Migrate query to) = Migrate (plain_match query) to.now
 
@@ -76,5 +103,15 @@ HasFewFiles (request.Check map_file rules) = length rules ≤ MAX_FILES
 HasFewFiles (request.Route query) = length query.rules ≤ MAX_FILES
 HasFewFiles (request.Make number) = Unit {0}
 HasFewFiles (request.Local query) = length query.rules ≤ MAX_FILES
+HasFewFiles (request.Serve query) = length query.rules ≤ MAX_FILES
+HasFewFiles (request.Play query at) = length query.rules ≤ MAX_FILES
 HasFewFiles (request.Replay query) = length query.rules ≤ MAX_FILES
 HasFewFiles (request.Migrate query to) = length query.rules ≤ MAX_FILES
+
+-- A match that is served has as many clients as a match may have.
+abbrev pub IsCount : ℕ → Type 0
+IsCount clients = (1 ≤ clients) × (clients ≤ MAX_CLIENTS)
+
+abbrev pub HasClients : Request → Type 0
+HasClients (request.Serve query) = IsCount query.clients
+HasClients request = Unit {0}

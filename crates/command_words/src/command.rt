@@ -2,15 +2,19 @@ ghost use Rattle.std.specs.Prelude.{◌≡◌, IfOk, false};
 ghost use Rattle.command_words.specs.Commands.{bare_app, played_app, drill_app, yaml_app};
 ghost use Rattle.command_words.specs.Commands.{check_app, routed_app, ends_app, route_app};
 ghost use Rattle.command_words.specs.Commands.{make_app, local_app, replay_app, migrate_app};
-ghost use Rattle.command_words.specs.Commands.{first_app, asking_app, playing_app, lockstep_app};
+ghost use Rattle.command_words.specs.Commands.{hosted_app, timed_app, serve_app, play_app};
+ghost use Rattle.command_words.specs.Commands.{first_app, asking_app, playing_app, linked_app};
+ghost use Rattle.command_words.specs.Commands.{lockstep_app};
 ghost use Rattle.command_words.specs.Commands.{option_named, required_option, required_number};
-ghost use Rattle.command_words.specs.Commands.{file_names};
+ghost use Rattle.command_words.specs.Commands.{file_names, number_option, within};
 ghost use Rattle.command_words.specs.Follows.{Follows};
 ghost use Rattle.clap.specs.Simple.{app_of};
 ghost use Rattle.clap.specs.Walk.{rule_of};
 
 use base::NoMemory;
-use clap::{Arg, ArgAction, Command, value_parser};
+use clap::builder::ValueParser;
+use clap::{Arg, ArgAction, Command};
+use game_orders::{MAX_CLIENTS, MAX_LAG};
 use std::alloc::Global;
 
 /// The command of the program itself, with its subcommands.
@@ -20,9 +24,19 @@ pub(crate) fn lockstep_command<'a>(alloc: Global) -> Result<Command<'a>, NoMemor
 {
     let replay = replay_command(alloc)?;
     let migrate = migrate_command(alloc)?;
-    playing_commands(alloc)?
+    linked_commands(alloc)?
         .subcommand(replay)?
         .subcommand(migrate)
+}
+
+/// The command of the program with the subcommands over links, too.
+#[tactic(auto, unfolding(crate::specs::Commands::linked_app))]
+fn linked_commands<'a>(alloc: Global) -> Result<Command<'a>, NoMemory>
+    ensures { IfOk result (Follows linked_app) }
+{
+    let serve = serve_command(alloc)?;
+    let play = play_command(alloc)?;
+    playing_commands(alloc)?.subcommand(serve)?.subcommand(play)
 }
 
 /// The command of the program with the subcommands that play made matches and scripts, too.
@@ -145,6 +159,44 @@ fn local_command<'a>(alloc: Global) -> Result<Command<'a>, NoMemory>
     played_command(alloc, "local", "script")?.arg(names)
 }
 
+#[tactic(auto, unfolding(crate::specs::Commands::serve_app))]
+fn serve_command<'a>(alloc: Global) -> Result<Command<'a>, NoMemory>
+    ensures { IfOk result (Follows serve_app) }
+{
+    let map = option_named(alloc, "map");
+    let names = file_names(alloc);
+    timed_command(alloc)?.arg(map)?.arg(names)
+}
+
+/// `serve` with all its numbers.
+#[tactic(auto, unfolding(crate::specs::Commands::timed_app))]
+fn timed_command<'a>(alloc: Global) -> Result<Command<'a>, NoMemory>
+    ensures { IfOk result (Follows timed_app) }
+{
+    let lag = number_option(alloc, "lag", 1, u32::from(MAX_LAG));
+    let seed = number_option(alloc, "seed", 0, u32::MAX);
+    hosted_command(alloc)?.arg(lag)?.arg(seed)
+}
+
+/// `serve` with its first options: where, and to how many clients.
+#[tactic(auto, unfolding(crate::specs::Commands::hosted_app))]
+fn hosted_command<'a>(alloc: Global) -> Result<Command<'a>, NoMemory>
+    ensures { IfOk result (Follows hosted_app) }
+{
+    let at = required_option(alloc, "at");
+    let clients = required_number(alloc, "clients", 1, u32::from(MAX_CLIENTS));
+    Command::new(alloc, "serve").arg(at)?.arg(clients)
+}
+
+#[tactic(auto, unfolding(crate::specs::Commands::play_app))]
+fn play_command<'a>(alloc: Global) -> Result<Command<'a>, NoMemory>
+    ensures { IfOk result (Follows play_app) }
+{
+    let at = required_option(alloc, "at");
+    let names = file_names(alloc);
+    played_command(alloc, "play", "script")?.arg(at)?.arg(names)
+}
+
 #[tactic(auto, unfolding(crate::specs::Commands::replay_app))]
 fn replay_command<'a>(alloc: Global) -> Result<Command<'a>, NoMemory>
     ensures { IfOk result (Follows replay_app) }
@@ -168,7 +220,7 @@ fn migrate_command<'a>(alloc: Global) -> Result<Command<'a>, NoMemory>
 fn make_command<'a>(alloc: Global) -> Result<Command<'a>, NoMemory>
     ensures { IfOk result (Follows make_app) }
 {
-    let number = required_number(alloc, "number");
+    let number = required_number(alloc, "number", 0, u32::MAX);
     Command::new(alloc, "make").arg(number)
 }
 
@@ -188,12 +240,29 @@ fn required_option<'a>(alloc: Global, name: &'a str) -> Arg<'a>
     Arg::new(alloc, name).long(name).required(true)
 }
 
-/// `--NAME N`, which is required: a number that `clap`'s parser of `u32` takes.
-fn required_number<'a>(alloc: Global, name: &'a str) -> Arg<'a>
-    ensures rule { rule_of result ≡ required_number name.entry.now }
+/// `--NAME N`, which may be left out: a number that `clap`'s parser of `u32` takes, within these
+/// bounds.
+fn number_option<'a>(alloc: Global, name: &'a str, least: u32, most: u32) -> Arg<'a>
+    ensures rule { rule_of result ≡ number_option name.entry.now least most }
     ensures local { result.global ≡ false }
 {
-    required_option(alloc, name).value_parser(value_parser!(u32))
+    within(option_named(alloc, name), least, most)
+}
+
+/// The same, where it is required.
+fn required_number<'a>(alloc: Global, name: &'a str, least: u32, most: u32) -> Arg<'a>
+    ensures rule { rule_of result ≡ required_number name.entry.now least most }
+    ensures local { result.global ≡ false }
+{
+    within(required_option(alloc, name), least, most)
+}
+
+/// The argument whose value is a number that `clap`'s parser of `u32` takes, within these bounds.
+fn within<'a>(arg: Arg<'a>, least: u32, most: u32) -> Arg<'a>
+    ensures rule { rule_of result ≡ within least most (rule_of arg.entry) }
+    ensures global { result.global ≡ arg.entry.global }
+{
+    arg.value_parser(ValueParser::signed(i64::from(least), i64::from(most)))
 }
 
 /// The positional arguments: any number of them, each a use of its own.

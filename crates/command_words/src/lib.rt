@@ -13,6 +13,7 @@ mod match_query;
 mod reading;
 mod request;
 mod route_query;
+mod serve_query;
 mod words_fault;
 
 pub use file_names::FileNames;
@@ -24,6 +25,7 @@ pub use match_query::MatchQuery;
 pub use reading::read_words;
 pub use request::Request;
 pub use route_query::RouteQuery;
+pub use serve_query::{DEFAULT_LAG, DEFAULT_SEED, ServeQuery};
 pub use words_fault::WordsFault;
 
 /// The most positional arguments of a command that takes some.

@@ -1,19 +1,25 @@
-ghost use Rattle.std.specs.Prelude.{◌≡◌, ◌≢◌, ◌≤◌, length, IfOk, OnOk, Some, None, Err, map};
+ghost use Rattle.std.specs.Prelude.{◌≡◌, ◌≢◌, ◌≤◌, length, IfOk, IfSome, OnOk, Some, None, Err, map};
 ghost use Rattle.std.specs.Prelude.{string_bytes, true, false};
 ghost use Rattle.std.specs.Prelude.{codes, option_map};
 ghost use Rattle.clap.specs.Walk.{rows_of, first_of, all_of};
 ghost use Rattle.clap.specs.Matches.{found_of};
 ghost use Rattle.clap.specs.Simple.{subcommand_of, subcommand_rows_of};
 ghost use Rattle.command_words.specs.Commands.{lockstep_app};
-ghost use Rattle.command_words.specs.RequestPlain.{plain_of, plain_match, plain_route, HasFewFiles};
+ghost use Rattle.command_words.specs.RequestPlain.{plain_of, plain_match, plain_route, plain_serve};
+ghost use Rattle.command_words.specs.RequestPlain.{HasClients, HasFewFiles, IsCount};
 ghost use Rattle.command_words.specs.Reading.{is_accepted, is_allowed, command_request};
 ghost use Rattle.command_words.specs.Reading.{found_request, request_of, names_in, number_in};
 ghost use Rattle.command_words.specs.Reading.{cell_in, match_in, route_in, migrate_in};
+ghost use Rattle.command_words.specs.Reading.{count_in, count_or, up_to, serve_in, play_in};
 
 use crate::command::lockstep_command;
-use crate::{FileNames, MAX_FILES, MatchQuery, Request, RouteQuery, WordsFault};
+use crate::{
+    DEFAULT_LAG, DEFAULT_SEED, FileNames, MAX_FILES, MatchQuery, Request, RouteQuery, ServeQuery,
+    WordsFault,
+};
 use clap::ArgMatches;
 use clap::error::ErrorKind;
+use game_orders::{MAX_CLIENTS, MAX_LAG};
 use rule_values::read_cell;
 use std::alloc::Global;
 use world_units::CPos;
@@ -27,6 +33,7 @@ pub fn read_words<'a>(alloc: Global, words: &'a [String]) -> Result<Request<'a>,
     ensures request { IfOk result
         (λ request. request_of (map string_bytes words.now) ≡ Some (plain_of request)) }
     ensures few { IfOk result HasFewFiles }
+    ensures clients { IfOk result HasClients }
     ensures refused { result ≡ Err WordsFault.Refused →
         request_of (map string_bytes words.now) ≡ None }
 {
@@ -65,6 +72,7 @@ fn named_request<'a>(alloc: Global, matches: &ArgMatches<'a>) -> Result<Request<
     ensures request { IfOk result
         (λ request. found_request (subcommand_rows_of matches.now) ≡ Some (plain_of request)) }
     ensures few { IfOk result HasFewFiles }
+    ensures clients { IfOk result HasClients }
     ensures refused { result ≡ Err WordsFault.Refused →
         found_request (subcommand_rows_of matches.now) ≡ None }
 {
@@ -84,6 +92,7 @@ fn request_for<'a>(
     ensures request { IfOk result (λ request.
         command_request command.now (rows_of (found_of found.now)) ≡ Some (plain_of request)) }
     ensures few { IfOk result HasFewFiles }
+    ensures clients { IfOk result HasClients }
     ensures refused { result ≡ Err WordsFault.Refused →
         command_request command.now (rows_of (found_of found.now)) ≡ None }
 {
@@ -101,6 +110,8 @@ fn request_for<'a>(
         }),
         "route" => Ok(Request::Route(route_in(alloc, found)?)),
         "local" => Ok(Request::Local(match_in(alloc, found, "script")?)),
+        "serve" => Ok(Request::Serve(serve_in(alloc, found)?)),
+        "play" => play_in(alloc, found),
         "replay" => Ok(Request::Replay(match_in(alloc, found, "file")?)),
         "migrate" => migrate_in(alloc, found),
         "make" => Ok(Request::Make {
@@ -139,12 +150,54 @@ fn migrate_in<'a>(alloc: Global, found: &ArgMatches<'a>) -> Result<Request<'a>, 
     ensures request { IfOk result
         (λ request. migrate_in (rows_of (found_of found.now)) ≡ Some (plain_of request)) }
     ensures few { IfOk result HasFewFiles }
+    ensures clients { IfOk result HasClients }
     ensures refused { result ≡ Err WordsFault.Refused →
         migrate_in (rows_of (found_of found.now)) ≡ None }
 {
     let to = value_in(found, "to").ok_or(WordsFault::Refused)?;
     let query = match_in(alloc, found, "file")?;
     Ok(Request::Migrate { query, to })
+}
+
+/// The request to play a script over a link.
+#[tactic(auto, unfolding(crate::specs::Reading::play_in))]
+fn play_in<'a>(alloc: Global, found: &ArgMatches<'a>) -> Result<Request<'a>, WordsFault>
+    ensures request { IfOk result
+        (λ request. play_in (rows_of (found_of found.now)) ≡ Some (plain_of request)) }
+    ensures few { IfOk result HasFewFiles }
+    ensures clients { IfOk result HasClients }
+    ensures refused { result ≡ Err WordsFault.Refused →
+        play_in (rows_of (found_of found.now)) ≡ None }
+{
+    let at = value_in(found, "at").ok_or(WordsFault::Refused)?;
+    let query = match_in(alloc, found, "script")?;
+    Ok(Request::Play { query, at })
+}
+
+/// The match that is to be served.
+#[tactic(auto, unfolding(crate::specs::Reading::serve_in))]
+fn serve_in<'a>(alloc: Global, found: &ArgMatches<'a>) -> Result<ServeQuery<'a>, WordsFault>
+    ensures query { IfOk result
+        (λ query. serve_in (rows_of (found_of found.now)) ≡ Some (plain_serve query)) }
+    ensures few { IfOk result (λ query. length query.rules ≤ MAX_FILES) }
+    ensures clients { IfOk result (λ query. IsCount query.clients) }
+    ensures refused { result ≡ Err WordsFault.Refused →
+        serve_in (rows_of (found_of found.now)) ≡ None }
+{
+    let at = value_in(found, "at").ok_or(WordsFault::Refused)?;
+    let clients = count_in(found, "clients", MAX_CLIENTS).ok_or(WordsFault::Refused)?;
+    let lag = count_or(found, "lag", DEFAULT_LAG, MAX_LAG).ok_or(WordsFault::Refused)?;
+    let seed = number_in(found, "seed").unwrap_or(DEFAULT_SEED);
+    let map_file = value_in(found, "map");
+    let rules = names_in(alloc, found, 0)?;
+    Ok(ServeQuery {
+        at,
+        clients,
+        lag,
+        seed,
+        map_file,
+        rules,
+    })
 }
 
 /// The route that is asked for.
@@ -193,6 +246,37 @@ fn number_in(found: &ArgMatches<'_>, option: &str) -> Option<u32>
     ensures { result ≡ number_in option.now (rows_of (found_of found.now)) }
 {
     found.get_one(option)
+}
+
+/// The number that an option writes, where it is given and writes one from 1 to `most`.
+#[tactic(auto, unfolding(crate::specs::Reading::count_in))]
+fn count_in(found: &ArgMatches<'_>, option: &str, most: u8) -> Option<u8>
+    ensures value { result ≡ count_in most option.now (rows_of (found_of found.now)) }
+    ensures least { IfSome result (λ count. 1 ≤ count) }
+    ensures most { IfSome result (λ count. count ≤ most) }
+{
+    up_to(most, number_in(found, option)?)
+}
+
+/// The same, where the option may be left out for a number.
+#[tactic(auto, unfolding(crate::specs::Reading::count_or))]
+fn count_or(found: &ArgMatches<'_>, option: &str, default: u8, most: u8) -> Option<u8>
+    ensures { result ≡ count_or default most option.now (rows_of (found_of found.now)) }
+{
+    up_to(most, number_in(found, option).unwrap_or(u32::from(default)))
+}
+
+/// The number, if it is one from 1 to `most`.
+fn up_to(most: u8, number: u32) -> Option<u8>
+    ensures value { result ≡ up_to most number }
+    ensures least { IfSome result (λ count. 1 ≤ count) }
+    ensures most { IfSome result (λ count. count ≤ most) }
+{
+    if 1 <= number && number <= u32::from(most) {
+        Some(number as u8)
+    } else {
+        None
+    }
 }
 
 /// The positional arguments, where there are at least so many and no more than are allowed.

@@ -1,6 +1,7 @@
 use crate::file_names::FileNames;
 use crate::match_query::MatchQuery;
 use crate::route_query::RouteQuery;
+use crate::serve_query::ServeQuery;
 
 /// The request of an accepted command line. Each name is a word, or the part of one after `=`, as
 /// it was given.
@@ -42,6 +43,19 @@ pub enum Request<'a> {
     /// `local --script FILE --map FILE RULES`: play the script that the file holds on threads of
     /// this machine, over the map and the rules.
     Local(MatchQuery<'a>),
+
+    /// `serve --at ADDRESS --clients N --lag N --seed N --map FILE RULES`: serve a match to clients
+    /// over links, over the map and the rules.
+    Serve(ServeQuery<'a>),
+
+    /// `play --at ADDRESS --script FILE --map FILE RULES`: play the script that the file holds over
+    /// a link to a server, over the map and the rules.
+    Play {
+        /// The script.
+        query: MatchQuery<'a>,
+        /// The address of the server.
+        at: &'a str,
+    },
 
     /// `replay --file FILE --map FILE RULES`: run the replay that the file holds, over the map and
     /// the rules.

@@ -1,6 +1,6 @@
 //! Command lines with the request that they name, or that are refused.
 
-use crate::{MAX_FILES, MatchQuery, Request, RouteQuery, WordsFault, read_words};
+use crate::{MAX_FILES, MatchQuery, Request, RouteQuery, ServeQuery, WordsFault, read_words};
 use base::NoMemory;
 use std::alloc::{AllocError, Global};
 use std::fmt::Write;
@@ -71,11 +71,29 @@ fn route_text(alloc: Global, query: &RouteQuery<'_>) -> Result<String, NoMemory>
     )
 }
 
+/// The command of a match that is served, and its options.
+fn serve_text(alloc: Global, query: &ServeQuery<'_>) -> Result<String, NoMemory> {
+    let (at, clients, lag, seed) = (query.at, query.clients, query.lag, query.seed);
+    let command = format!(in alloc; "serve <{at}> {clients} {lag} {seed}")?;
+    match query.map_file {
+        Some(map_file) => {
+            let command = format!(in alloc; "{command} map <{map_file}>")?;
+            written(alloc, &command, query.rules.as_slice())
+        }
+        None => written(alloc, &command, query.rules.as_slice()),
+    }
+}
+
 /// The request that a list of words names, of which the first is the program's name.
 fn request_text(alloc: Global, words: &[String]) -> Result<String, NoMemory> {
     match read_words(alloc, words) {
         Ok(Request::Drill { query, record }) => drill_text(alloc, &query, record),
         Ok(Request::Local(query)) => match_text(alloc, "local", &query),
+        Ok(Request::Serve(query)) => serve_text(alloc, &query),
+        Ok(Request::Play { query, at }) => {
+            let command = format!(in alloc; "play at <{at}>")?;
+            match_text(alloc, &command, &query)
+        }
         Ok(Request::Replay(query)) => match_text(alloc, "replay", &query),
         Ok(Request::Migrate { query, to }) => {
             let command = format!(in alloc; "migrate to <{to}>")?;
@@ -430,6 +448,101 @@ const ACCEPTED_REPLAYS: [(&str, &str); 17] = [
     ),
 ];
 
+/// Words that would serve a match or play at a server, and that are refused.
+const REFUSED_LINKS: [&str; 34] = [
+    // `serve`: an address and a number of clients, each once.
+    "serve",
+    "serve|--at|a",
+    "serve|--clients|2",
+    "serve|a|--clients|2",
+    "serve|--at|a|--clients",
+    "serve|--at|-a|--clients|2",
+    "serve|--at|a|--at|a|--clients|2",
+    "serve|--at|a|--clients|2|--clients|2",
+    "serve|--at|a|--clients|2|--script|s",
+    "serve|--at|a|--clients|2|--seed|1|--seed|1",
+    "serve|--at|a|--clients|2|--map",
+    "serve|--at|a|--clients|2|--number|1",
+    "serves|--at|a|--clients|2",
+    // There are 1 to 16 clients, a lag of 1 to 64, and a seed of 0 to 4,294,967,295.
+    "serve|--at|a|--clients|0",
+    "serve|--at|a|--clients|17",
+    "serve|--at|a|--clients|two",
+    "serve|--at|a|--clients=-1",
+    "serve|--at|a|--clients|",
+    "serve|--at|a|--clients|4294967297",
+    "serve|--at|a|--clients|2|--lag|0",
+    "serve|--at|a|--clients|2|--lag|65",
+    "serve|--at|a|--clients|2|--lag=-2",
+    "serve|--at|a|--clients|2|--lag",
+    "serve|--at|a|--clients|2|--seed|4294967296",
+    "serve|--at|a|--clients|2|--seed=-1",
+    // `play`: an address and a script, each once.
+    "play",
+    "play|--at|a",
+    "play|--script|s",
+    "play|--at|a|s",
+    "play|--at|a|--script|s|--script|s",
+    "play|--at|a|--at|a|--script|s",
+    "play|--at|a|--script|s|--clients|2",
+    "play|--at|a|--file|s",
+    "play|--at|a|--script|-s",
+];
+
+/// Words that serve a match or play at a server, with the request that they name.
+const ACCEPTED_LINKS: [(&str, &str); 19] = [
+    ("serve|--at|a|--clients|1", "serve <a> 1 2 1"),
+    ("serve|--clients|16|--at|a", "serve <a> 16 2 1"),
+    ("serve|--at=|--clients=3", "serve <> 3 2 1"),
+    ("serve|--at|a|--clients|+7", "serve <a> 7 2 1"),
+    ("serve|--at|a|--clients|0016", "serve <a> 16 2 1"),
+    ("serve|--at|a|--clients|2|--lag|1", "serve <a> 2 1 1"),
+    ("serve|--at|a|--clients|2|--lag|64", "serve <a> 2 64 1"),
+    ("serve|--at|a|--clients|2|--seed|0", "serve <a> 2 2 0"),
+    ("serve|--at|a|--clients|2|--seed=-0", "serve <a> 2 2 0"),
+    (
+        "serve|--at|a|--clients|2|--seed|4294967295",
+        "serve <a> 2 2 4294967295",
+    ),
+    (
+        "serve|r|--seed|9|--map=m|--lag=5|--clients|4|s|--at|h:1|--|--at",
+        "serve <h:1> 4 5 9 map <m> <r> <s> <--at>",
+    ),
+    ("serve|--at|-|--clients|2|-", "serve <-> 2 2 1 <->"),
+    ("play|--at|a|--script|s", "play at <a> <s>"),
+    ("play|--script|s|--at|a", "play at <a> <s>"),
+    ("play|--script=|--at=", "play at <> <>"),
+    ("play|--at|a|--script|s|--map|m", "play at <a> <s> map <m>"),
+    (
+        "play|r|--at=--map|q|--map|m|--script|s|--|--at|a",
+        "play at <--map> <s> map <m> <r> <q> <--at> <a>",
+    ),
+    ("play|--at|-|--script|-|play", "play at <-> <-> <play>"),
+    ("play|--at|a|--script|s|serve", "play at <a> <s> <serve>"),
+];
+
+#[test]
+fn refused_links(rt: HostRuntime) -> Result<(), Fail> {
+    let alloc = rt.alloc();
+    for words in REFUSED_LINKS {
+        let line = command_line(alloc, words)?;
+        let got = request_text(alloc, &line)?;
+        assert_eq!(rt; got.as_str(), REFUSED, "of {words}");
+    }
+    Ok(())
+}
+
+#[test]
+fn accepted_links(rt: HostRuntime) -> Result<(), Fail> {
+    let alloc = rt.alloc();
+    for (words, want) in ACCEPTED_LINKS {
+        let line = command_line(alloc, words)?;
+        let got = request_text(alloc, &line)?;
+        assert_eq!(rt; got.as_str(), want, "of {words}");
+    }
+    Ok(())
+}
+
 #[test]
 fn refused_replays(rt: HostRuntime) -> Result<(), Fail> {
     let alloc = rt.alloc();
@@ -553,7 +666,7 @@ fn request_of_many(alloc: Global, command: &str, count: usize) -> Result<String,
 }
 
 /// Commands with what they print before their names, and whether they want a name.
-const COMMANDS_OF_NAMES: [(&str, &str, bool); 7] = [
+const COMMANDS_OF_NAMES: [(&str, &str, bool); 9] = [
     ("yaml", "yaml", true),
     ("check", "check", true),
     (
@@ -565,6 +678,8 @@ const COMMANDS_OF_NAMES: [(&str, &str, bool); 7] = [
     ("local|--script|s", "local <s>", false),
     ("replay|--file|f", "replay <f>", false),
     ("migrate|--file|f|--to|t", "migrate to <t> <f>", false),
+    ("play|--at|a|--script|s", "play at <a> <s>", false),
+    ("serve|--at|a|--clients|2", "serve <a> 2 2 1", false),
 ];
 
 #[test]

@@ -65,8 +65,9 @@ fn add_peers<S: Sim>(text: &mut String, peers: &[Peer<S>]) -> Result<(), NoMemor
     Ok(())
 }
 
-/// Adds the line of each alarm.
-fn add_alarms(text: &mut String, board: &Board) -> Result<(), NoMemory>
+/// Adds the line of each alarm. It fails only where it is out of memory, and then a prefix of the
+/// lines may have been added.
+pub fn add_alarms(text: &mut String, board: &Board) -> Result<(), NoMemory>
     ensures { OnOk result (string_bytes text.new
         ≡ string_bytes text.old ++ alarm_lines board.now.wanted 0 board.now.reports) }
 {

@@ -32,7 +32,7 @@ mod running_match;
 mod sent;
 mod text;
 
-pub use closing::{add_columns, closing_lines};
+pub use closing::{add_alarms, add_columns, closing_lines};
 pub use drill_words::{Drill, Event, EventList, MAX_EVENTS};
 pub use drilled::Drilled;
 pub use entering::Entering;
@@ -48,7 +48,7 @@ pub use outcome::Outcome;
 pub use peers::Peers;
 pub use run::{run_drill, run_without_report};
 pub use run_fault::RunFault;
-pub use text::{add_end_line, add_hash, add_world};
+pub use text::{add_end_line, add_hash, add_server_head, add_world};
 
 #[cfg(test)]
 mod made_tests;

@@ -165,9 +165,10 @@ pub(crate) fn add_peer_head(
     write!(text, "peer {peer} frames {ticked} sealed {sealed}")
 }
 
-/// Adds the beginning of the server's line.
+/// Adds the beginning of the server's line, which [`add_world`] ends. It fails only where it is out
+/// of memory.
 #[tactic(auto, unfolding(crate::specs::Text::server_head))]
-pub(crate) fn add_server_head(text: &mut String, ticked: u32) -> Result<(), NoMemory>
+pub fn add_server_head(text: &mut String, ticked: u32) -> Result<(), NoMemory>
     ensures { OnOk result (string_bytes text.new ≡ string_bytes text.old ++ server_head ticked) }
 {
     write!(text, "server frames {ticked}")

@@ -1,11 +1,11 @@
-//! The program `lockstep`: it hands its words, the real files and the real output to `run`, or to
-//! `run_waiting`, where the command is one of that call's.
+//! The program `lockstep`: it hands its words, the real files and the real output to `run`, or,
+//! where the command is one of that call's, to `run_waiting`, with links over TCP and its input.
 #![tactic(auto)]
 
 use command_answers::OUT_OF_MEMORY;
-use game_io::{FileDisk, MemNet, MemSource, NoGate, StdSink};
+use game_io::{FileDisk, NoGate, StdSink, StdSource, TcpNet};
 use match_commands::{may_wait, run, run_waiting};
-use std::io::ErrorKind;
+use std::io::{ErrorKind, Input};
 use std::process::ExitCode;
 use std::{env, io};
 
@@ -32,9 +32,8 @@ fn main(rt: HostRuntime) -> ExitCode {
     if !may_wait(&words) {
         return ExitCode::from(run(rt.alloc(), &words, &mut disk, &mut out));
     }
-    // No command uses a net or a console yet.
-    let mut net = MemNet::new(rt.alloc(), Vec::new(rt.alloc()));
-    let mut console = MemSource::new(Vec::new(rt.alloc()), Vec::new(rt.alloc()));
+    let mut net = TcpNet::new(&rt);
+    let mut console = StdSource::new(rt.reader());
     ExitCode::from(run_waiting(
         &rt,
         rt.alloc(),

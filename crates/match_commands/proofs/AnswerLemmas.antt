@@ -130,12 +130,12 @@ migrate_fits setup to r = migrated_fits setup to r (difference_of (game_rerun se
 
 pub replayed_fits : (query : MatchPlain) (contents : Contents) → AllFit None (replayed_step query contents)
 replayed_fits query contents =
-    bind_fits None (standing_step query contents) _ (λ made.
+    bind_fits None (standing_step query.rules query.map_file contents) _ (λ made.
     bind_fits None (read_step query.file (read_of made.1 (unwrap_or contents.replay []))) _ (λ r.
     ok_fits None (replay_reply made.0 r) (replay_fits made.0 r)))
 
 pub all_migrated_fits : (query : MatchPlain) (to : List ℕ) (contents : Contents) → AllFit (Some to) (migrated_step query to contents)
 all_migrated_fits query to contents =
-    bind_fits (Some to) (standing_step query contents) _ (λ made.
+    bind_fits (Some to) (standing_step query.rules query.map_file contents) _ (λ made.
     bind_fits (Some to) (read_step query.file (read_of made.1 (unwrap_or contents.replay []))) _ (λ r.
     ok_fits (Some to) (migrate_reply made.0 to r) (migrate_fits made.0 to r)))

@@ -4,3 +4,4 @@ pub mod AnswerLemmas
 pub mod DrillLemmas
 pub mod MadeLemmas
 pub mod RunLemmas
+pub mod WaitingLemmas

@@ -1,7 +1,7 @@
 -- A whole run: from the request that the words name, or that they name none.
 use Rattle.std.specs.Prelude.{option_and_then, unwrap_or}
 use Rattle.std.proofs.Common.{◌≡◌, ◌⊎◌, ℕ, List, [], Option, None, Some, Ok, Err, IsOk, refl, sym, subst, inl, inr}
-use Rattle.command_words.specs.RequestPlain.{RequestPlain, MatchPlain, Drill, Yaml, Check, Route, Make, Local, Replay, Migrate}
+use Rattle.command_words.specs.RequestPlain.{RequestPlain, MatchPlain, Drill, Yaml, Check, Route, Make, Local, Serve, Play, Replay, Migrate}
 use Rattle.game_io.specs.Files.{Files}
 use Rattle.command_answers.specs.declared.statuses.TheConstants.{DONE, OUT_OF_MEMORY, MARK_DIFFERS}
 use Rattle.base.specs.Steps.{◌>>=◌}
@@ -67,12 +67,14 @@ given_done (Check map_file names) contents ok = text_done (check_step names map_
 given_done (Route query) contents ok = text_done (route_step query contents) ok
 given_done (Make number) contents ok = text_done (make_step number) ok
 given_done (Local query) contents ok = text_done (local_match_step query contents) ok
+given_done (Serve query) contents ok = refl
+given_done (Play query at) contents ok = refl
 given_done (Replay query) contents ok =
-    replayed_done (standing_step query contents) _ IsReplayDone
+    replayed_done (standing_step query.rules query.map_file contents) _ IsReplayDone
     (λ made. replayed_done (read_step query.file (read_of made.1 (unwrap_or contents.replay []))) _ IsReplayDone
     (λ r ok. mark_done (difference_of (game_rerun made.0 r) r))) ok
 given_done (Migrate query to) contents ok =
-    replayed_done (standing_step query contents) _ IsReplayDone
+    replayed_done (standing_step query.rules query.map_file contents) _ IsReplayDone
     (λ made. replayed_done (read_step query.file (read_of made.1 (unwrap_or contents.replay []))) _ IsReplayDone
     (λ r ok. migrate_done made.0 to r (difference_of (game_rerun made.0 r) r))) ok
 

@@ -6,3 +6,5 @@ pub mod Replayed
 pub mod Request
 pub mod Run
 pub mod TopCalls
+pub mod Plays
+pub mod Waiting

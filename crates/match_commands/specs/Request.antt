@@ -1,9 +1,9 @@
 -- The answer to a request.
-use Rattle.std.specs.Prelude.{ℕ, List, map, Option, None, Some, Ok, IsOk}
+use Rattle.std.specs.Prelude.{ℕ, List, [], map, Option, None, Some, Ok, IsOk}
 use Rattle.base.specs.Steps.{◌>>=◌}
 use Rattle.game_io.specs.Files.{Files}
 use Rattle.command_words.specs.RequestPlain.{RequestPlain, Drill, Yaml, Check, Route, Make}
-use Rattle.command_words.specs.RequestPlain.{Local, Replay, Migrate}
+use Rattle.command_words.specs.RequestPlain.{Local, Serve, Play, Replay, Migrate}
 use Rattle.command_answers.specs.Reply.{Reply, done}
 use Rattle.command_answers.specs.Step.{Step, replied}
 use Rattle.command_answers.specs.WantedFiles.{WantedFiles, no_files, rule_file}
@@ -26,6 +26,8 @@ wanted (Check map_file names) = rules_and_map names map_file
 wanted (Route query) = rules_and_map query.rules (Some query.map_file)
 wanted (Make number) = no_files
 wanted (Local query) = with_script query.file (rules_and_map query.rules query.map_file)
+wanted (Serve query) = rules_and_map query.rules query.map_file
+wanted (Play query at) = with_script query.file (rules_and_map query.rules query.map_file)
 wanted (Replay query) = with_replay query.file (rules_and_map query.rules query.map_file)
 wanted (Migrate query to) = with_replay query.file (rules_and_map query.rules query.map_file)
 
@@ -37,6 +39,8 @@ written_by (Check map_file names) = None
 written_by (Route query) = None
 written_by (Make number) = None
 written_by (Local query) = None
+written_by (Serve query) = None
+written_by (Play query at) = None
 written_by (Replay query) = None
 written_by (Migrate query to) = Some to
 
@@ -45,7 +49,8 @@ abbrev pub text_reply : Step (List ℕ) → Step Reply
 text_reply step = step >>= λ text. Ok (done text)
 
 -- The reply of a command whose files have these contents, or its refusal. A map, a script and a
--- replay are there wherever one is wanted.
+-- replay are there wherever one is wanted. The replies of `serve` and `play` are none of files alone
+-- (`specs/Linked.antt`): nothing here is said of them.
 abbrev pub answer_of : RequestPlain → Contents → Step Reply
 answer_of (Drill query record_file) contents = drill_step query record_file contents
 answer_of (Yaml names) contents = text_reply (yaml_step names contents.rules)
@@ -53,6 +58,8 @@ answer_of (Check map_file names) contents = text_reply (check_step names map_fil
 answer_of (Route query) contents = text_reply (route_step query contents)
 answer_of (Make number) contents = text_reply (make_step number)
 answer_of (Local query) contents = text_reply (local_match_step query contents)
+answer_of (Serve query) contents = text_reply (Ok [])
+answer_of (Play query at) contents = text_reply (Ok [])
 answer_of (Replay query) contents = replayed_step query contents
 answer_of (Migrate query to) contents = migrated_step query to contents
 

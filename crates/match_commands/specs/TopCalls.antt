@@ -1,16 +1,19 @@
 -- Which of the two top calls runs a command. Each refuses the other's commands as words.
-use Rattle.std.specs.Prelude.{Bool, false, List, ℕ, Option, None, Some, option_and_then, codes}
+use Rattle.std.specs.Prelude.{◌||◌, Bool, false, List, ℕ, Option, None, Some, option_and_then, codes}
 use Rattle.std.specs.Str.{bytes_eq}
-use Rattle.command_words.specs.RequestPlain.{RequestPlain, Local}
+use Rattle.command_words.specs.RequestPlain.{RequestPlain, Local, Serve, Play}
 
 -- The request, where its command always returns.
 abbrev pub returning : RequestPlain → Option RequestPlain
 returning (Local query) = None
+returning (Serve query) = None
+returning (Play query at) = None
 returning request = Some request
 
 -- The request, where its command may wait for threads or links.
 abbrev pub waiting : RequestPlain → Option RequestPlain
 waiting (Local query) = Some (Local query)
+waiting (Play query at) = Some (Play query at)
 waiting request = None
 
 -- The request that `run` runs, if the words name one, and the request that `run_waiting` runs.
@@ -23,4 +26,5 @@ waiting_request = option_and_then waiting
 -- The word after the program's name, if there is one, is a command that may wait.
 abbrev pub names_waiting : Option (List ℕ) → Bool
 names_waiting None = false
-names_waiting (Some command) = bytes_eq command (codes "local")
+names_waiting (Some command) =
+    bytes_eq command (codes "local") || bytes_eq command (codes "play")

@@ -74,7 +74,7 @@ fn run_request<D: Disk, K: Sink>(
         Request::Make { number } => print_text(alloc, make_text(alloc, *number), out),
         Request::Replay(query) => run_replay(alloc, query, disk, out),
         Request::Migrate { query, to } => run_migrate(alloc, query, to, disk, out),
-        Request::Local(_) => refuse_words(out),
+        Request::Local(_) | Request::Serve(_) | Request::Play { .. } => refuse_words(out),
     }
 }
 

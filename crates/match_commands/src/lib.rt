@@ -9,11 +9,13 @@
 #![tactic(auto)]
 
 mod command;
+mod linking;
 mod making;
 mod numbers;
 mod preparing;
 mod recording;
 mod replaying;
+mod standing;
 #[cfg(test)]
 mod tests;
 mod waiting;

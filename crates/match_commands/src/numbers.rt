@@ -1,12 +1,11 @@
-ghost use Rattle.std.specs.Prelude.{◌≤◌, ◌∷◌, [], length, option_map};
-ghost use Rattle.command_words.specs.RequestPlain.{plain_match};
+ghost use Rattle.std.specs.Prelude.{◌≤◌, ◌∷◌, [], length, map, option_map};
 ghost use Rattle.command_answers.specs.Given.{given_contents};
 ghost use Rattle.command_answers.specs.Stop.{ReturnsStep};
 ghost use Rattle.rule_commands.specs.RuleFiles.{yaml_step};
 ghost use Rattle.match_commands.specs.Numbers.{number_step, printed_map};
 
 use command_answers::{GivenFiles, Stop};
-use command_words::{MAX_FILES, MatchQuery};
+use command_words::MAX_FILES;
 use replay_commands::rules_number;
 use rule_commands::yaml_text;
 use std::alloc::Global;
@@ -37,19 +36,20 @@ fn printed_map<'a>(
     }
 }
 
-/// The number by which a replay knows the rules and the map that the query names.
+/// The number by which a replay or a link knows the rules and the map of these names.
 #[tactic(auto, unfolding(crate::specs::Numbers::number_step))]
 pub(crate) fn read_number<'a>(
     alloc: Global,
-    query: &MatchQuery<'a>,
+    names: &[&'a str],
+    map_file: Option<&'a str>,
     files: &GivenFiles,
 ) -> Result<u64, Stop<'a>>
     requires { length files.now.rules.items ≤ MAX_FILES }
     ensures { ReturnsStep result (λ number. number)
-        (number_step query.now.rules (given_contents files.now).rules
-        (plain_match query.now).map_file (given_contents files.now).map_file) }
+        (number_step (map (λ name. name.now) names.now) (given_contents files.now).rules
+        (option_map (λ name. name.now) map_file.entry) (given_contents files.now).map_file) }
 {
-    let rules = yaml_text(alloc, query.rules.as_slice(), &files.rules)?;
-    let map = printed_map(alloc, query.map_file, files)?;
+    let rules = yaml_text(alloc, names, &files.rules)?;
+    let map = printed_map(alloc, map_file, files)?;
     Ok(rules_number(alloc, &rules, &map)?)
 }

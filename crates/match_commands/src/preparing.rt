@@ -53,6 +53,6 @@ pub(crate) fn prepare_recorded<'a>(
         (numbered_step (plain_match query.now) (script_contents given.now)) }
 {
     let (maker, drill) = prepare_drill(alloc, query, given)?;
-    let number = read_number(alloc, query, &given.0)?;
+    let number = read_number(alloc, query.rules.as_slice(), query.map_file, &given.0)?;
     Ok((maker, drill, number))
 }

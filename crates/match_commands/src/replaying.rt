@@ -3,37 +3,20 @@ ghost use Rattle.std.specs.Prelude.{◌≤◌, length, None, Some};
 ghost use Rattle.command_words.specs.RequestPlain.{Migrate, Replay, plain_match};
 ghost use Rattle.command_answers.specs.Answer.{reply_of};
 ghost use Rattle.command_answers.specs.Causes.{causes_of};
-ghost use Rattle.command_answers.specs.Given.{given_contents, replay_contents};
+ghost use Rattle.command_answers.specs.Given.{replay_contents};
 ghost use Rattle.command_answers.specs.Outside.{outside};
 ghost use Rattle.command_answers.specs.Stop.{ReturnsStep};
-ghost use Rattle.match_commands.specs.Replayed.{migrated_step, replayed_step, standing_step};
+ghost use Rattle.match_commands.specs.Replayed.{migrated_step, replayed_step};
 ghost use Rattle.match_commands.specs.Run.{RunsRequest};
 
-use crate::numbers::read_number;
+use crate::standing::read_standing;
 use command_answers::{
     Answer, GivenFiles, PlayedFile, Stop, print_answer, print_stop, read_played_files,
 };
 use command_words::{MAX_FILES, MatchQuery};
 use game_io::{Disk, Sink};
 use replay_commands::{migrate_answer, replay_answer};
-use rule_commands::read_maker;
 use std::alloc::Global;
-use tick_core::GameMaker;
-
-/// What a replay stands on: a maker of its worlds, and its rules number.
-fn read_standing<'a>(
-    alloc: Global,
-    query: &MatchQuery<'a>,
-    files: &GivenFiles,
-) -> Result<(GameMaker, u64), Stop<'a>>
-    requires { length files.now.rules.items ≤ MAX_FILES }
-    ensures { ReturnsStep result (λ made. made)
-        (standing_step (plain_match query.now) (given_contents files.now)) }
-{
-    let maker = read_maker(alloc, query.rules.as_slice(), query.map_file, files)?;
-    let number = read_number(alloc, query, files)?;
-    Ok((maker, number))
-}
 
 /// The answer to `replay`.
 fn answer_replay<'a>(
@@ -46,7 +29,7 @@ fn answer_replay<'a>(
         (replayed_step (plain_match query.now) (replay_contents given.now)) }
 {
     let (files, bytes) = given;
-    let (maker, number) = read_standing(alloc, query, files)?;
+    let (maker, number) = read_standing(alloc, query.rules.as_slice(), query.map_file, files)?;
     replay_answer(alloc, query.file, number, &maker, bytes)
 }
 
@@ -62,7 +45,7 @@ fn answer_migrate<'a>(
         (migrated_step (plain_match query.now) to.now (replay_contents given.now)) }
 {
     let (files, bytes) = given;
-    let (maker, number) = read_standing(alloc, query, files)?;
+    let (maker, number) = read_standing(alloc, query.rules.as_slice(), query.map_file, files)?;
     migrate_answer(alloc, query.file, to, number, &maker, bytes)
 }
 

@@ -1,6 +1,6 @@
 //! The commands that may wait for threads or links.
-ghost use Rattle.std.specs.Prelude.{◌≡◌, ◌≤◌, None, length, map, option_map, slice_get, string_bytes};
-ghost use Rattle.std.specs.Prelude.{option_and_then};
+ghost use Rattle.std.specs.Prelude.{◌≡◌, ◌≤◌, [], None, Some, length, map, option_map, slice_get};
+ghost use Rattle.std.specs.Prelude.{string_bytes};
 ghost use Rattle.command_words.specs.RequestPlain.{Local, HasFewFiles, plain_match, plain_of};
 ghost use Rattle.command_words.specs.Reading.{request_of};
 ghost use Rattle.command_answers.specs.Causes.{causes_of};
@@ -8,10 +8,12 @@ ghost use Rattle.command_answers.specs.Given.{script_contents};
 ghost use Rattle.command_answers.specs.Outside.{outside};
 ghost use Rattle.command_answers.specs.Stop.{ReturnsStep};
 ghost use Rattle.match_commands.specs.Locals.{local_match_step};
-ghost use Rattle.match_commands.specs.Request.{written_by};
-ghost use Rattle.match_commands.specs.Run.{Runs, RunsRequest};
+ghost use Rattle.link_commands.specs.Links.{with_links};
+ghost use Rattle.match_commands.specs.Run.{RunsRequest};
 ghost use Rattle.match_commands.specs.TopCalls.{names_waiting, waiting, waiting_request};
+ghost use Rattle.match_commands.specs.Waiting.{RunsWaiting};
 
+use crate::linking::run_play;
 use command_answers::{
     GivenFiles, OUT_OF_MEMORY, PlayedFile, Stop, print_stop, print_text, read_played_files,
     refuse_words,
@@ -31,25 +33,34 @@ pub fn may_wait(words: &[String]) -> bool
     ensures { result ≡ names_waiting (option_map string_bytes (slice_get words.now 1)) }
 {
     match words.get(1) {
-        Some(command) => command.as_str() == "local",
+        Some(command) => is_waiting(command.as_str()),
         None => false,
     }
 }
 
+/// Whether the command of this name may wait.
+fn is_waiting(command: &str) -> bool
+    ensures { result ≡ names_waiting (Some command.now) }
+{
+    command == "local" || command == "play"
+}
+
 /// Runs the command that the words name, where it is one that may wait for threads or links; the
 /// first word is the program's name. All other commands are those of [`run`](crate::run), and are
-/// refused here as words. It changes no file that the words don't name to be written, and uses
-/// neither the net nor the console so far. Where it returns, it returns:
+/// refused here as words. It changes no file. A local match uses neither the net, which has given no
+/// link yet, nor the console, and a player uses the net's first link, which it hands back. Where it
+/// returns, it returns:
 ///
 /// - 0, the command is done, and exactly its text was written;
 /// - 2, the words are refused;
-/// - 3, a file that they name is missing, too long, or has a fault;
-/// - 4, a read failed: the disk's count of faults rose;
+/// - 3, a file that they name is missing, too long, or has a fault; or the server or the bytes of
+///   the link refused a player, whose text was written;
+/// - 4, a read, the net or a player's link failed: a count of faults rose;
 /// - 5, a write failed: the sink's count of faults rose, and a prefix of the text was written;
 /// - 6, out of memory, and a prefix of the text was written.
 ///
-/// It returns only if its threads do. The gate is asked before and after each play that a local
-/// match puts.
+/// It returns only if its threads do, and what its links are to give comes. The gate is asked before
+/// and after each play that a local match puts.
 pub fn run_waiting<
     D: Disk,
     K: Sink,
@@ -67,33 +78,13 @@ pub fn run_waiting<
     console: &mut C,
     gate: &G,
 ) -> u8
-    ensures runs { let old = outside (D.state disk.old) (K.state out.old) in
-        let new = outside (D.state disk.new) (K.state out.new) in
-        let request = waiting_request (request_of (map string_bytes words.now)) in
-        Runs request result (causes_of (option_and_then written_by request) old new) old new }
-    ensures net { N.state net.new ≡ N.state net.old }
-    ensures console { C.state console.new ≡ C.state console.old }
-{
-    let (_net, _console) = (net, console);
-    run_words(rt, alloc, words, disk, out, gate)
-}
-
-/// Runs the command that the words name, where it is one that may wait, and refuses all other words.
-fn run_words<D: Disk, K: Sink, G: Gate + Sync, R: Threads + Wait + Sync>(
-    rt: &R,
-    alloc: Global,
-    words: &[String],
-    disk: &mut D,
-    out: &mut K,
-    gate: &G,
-) -> u8
-    ensures { let old = outside (D.state disk.old) (K.state out.old) in
-        let new = outside (D.state disk.new) (K.state out.new) in
-        let request = waiting_request (request_of (map string_bytes words.now)) in
-        Runs request result (causes_of (option_and_then written_by request) old new) old new }
+    requires { (N.state net.old).given ≡ [] }
+    ensures { RunsWaiting (waiting_request (request_of (map string_bytes words.now))) result
+        (with_links (D.state disk.old) (K.state out.old) (N.state net.old) (C.state console.old))
+        (with_links (D.state disk.new) (K.state out.new) (N.state net.new) (C.state console.new)) }
 {
     match read_words(alloc, words) {
-        Ok(request) => run_request(rt, alloc, &request, disk, out, gate),
+        Ok(request) => run_request(rt, alloc, &request, disk, out, net, console, gate),
         Err(WordsFault::Refused) => refuse_words(out),
         Err(WordsFault::NoMemory) => OUT_OF_MEMORY,
     }
@@ -101,23 +92,34 @@ fn run_words<D: Disk, K: Sink, G: Gate + Sync, R: Threads + Wait + Sync>(
 
 /// Runs the command of a request, where it is one that may wait, and refuses every other one as
 /// words.
-fn run_request<D: Disk, K: Sink, G: Gate + Sync, R: Threads + Wait + Sync>(
+fn run_request<
+    D: Disk,
+    K: Sink,
+    N: Net,
+    C: Source + Send,
+    G: Gate + Sync,
+    R: Threads + Wait + Sync,
+>(
     rt: &R,
     alloc: Global,
     request: &Request<'_>,
     disk: &mut D,
     out: &mut K,
+    net: &mut N,
+    console: &mut C,
     gate: &G,
 ) -> u8
-    requires { HasFewFiles request.now }
-    ensures { let old = outside (D.state disk.old) (K.state out.old) in
-        let new = outside (D.state disk.new) (K.state out.new) in
-        let named = waiting (plain_of request.now) in
-        Runs named result (causes_of (option_and_then written_by named) old new) old new }
+    requires few { HasFewFiles request.now }
+    requires links { (N.state net.old).given ≡ [] }
+    ensures { RunsWaiting (waiting (plain_of request.now)) result
+        (with_links (D.state disk.old) (K.state out.old) (N.state net.old) (C.state console.old))
+        (with_links (D.state disk.new) (K.state out.new) (N.state net.new) (C.state console.new)) }
 {
     match request {
         Request::Local(query) => run_local_match(rt, alloc, query, disk, out, gate),
-        Request::Drill { .. }
+        Request::Play { query, at } => run_play(alloc, query, at, disk, out, net),
+        Request::Serve(_)
+        | Request::Drill { .. }
         | Request::Yaml { .. }
         | Request::Check { .. }
         | Request::Route(_)

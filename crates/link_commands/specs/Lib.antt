@@ -1,0 +1,8 @@
+pub mod CauseNames
+pub mod PlayText
+pub mod PlayedLink
+pub mod SoloScript
+pub mod Links
+pub mod LinkLemmas
+pub mod Plays
+pub mod PlayLemmas

@@ -1,0 +1,17 @@
+//! The commands over links: a script that is played at a server.
+//!
+//! [`read_solo`] reads the script of one client (`specs/SoloScript.antt`), and [`play_over`] dials a
+//! server, plays it over the link (`specs/PlayedLink.antt`) and prints how that ended
+//! (`specs/PlayText.antt`, `specs/Plays.antt`). What a command over links does altogether, from its
+//! files on, is said by `specs/Links.antt`.
+#![tactic(auto)]
+
+mod causes;
+mod play_fault;
+mod play_text;
+mod playing;
+mod printing;
+mod solo;
+
+pub use printing::play_over;
+pub use solo::read_solo;

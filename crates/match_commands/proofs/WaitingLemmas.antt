@@ -1,0 +1,118 @@
+-- What is known of a run of `play`, over plain values.
+use Rattle.std.specs.Prelude.{option_and_then}
+use Rattle.std.proofs.Common.{◌≡◌, ◌≤◌, ◌⊎◌, ℕ, List, Option, None, Some, Result, Ok, Err, IsOk, IfSome, IfNone, refl, sym, subst, inl, inr, arith}
+use Rattle.std.specs.Global.{Vec}
+use Rattle.game_model.specs.Setup.{Setup}
+use Rattle.game_orders.specs.declared.order.Order.{Order}
+use Rattle.tick_core.specs.Game.{game_hash, game_summary}
+use Rattle.game_io.specs.DiskState.{DiskState}
+use Rattle.game_io.specs.Files.{Files}
+use Rattle.game_io.specs.NetState.{NetState}
+use Rattle.game_io.specs.SinkState.{SinkState}
+use Rattle.game_io.specs.SourceState.{SourceState}
+use Rattle.command_words.specs.RequestPlain.{RequestPlain, Drill, Yaml, Check, Route, Make, Local, Serve, Play, Replay, Migrate}
+use Rattle.command_answers.specs.declared.statuses.TheConstants.{OUT_OF_MEMORY}
+use Rattle.command_answers.specs.declared.stop.Stop.{Stop}
+use Rattle.command_answers.specs.declared.stop.Stop.TheVariants.{NoMemory}
+use Rattle.command_answers.specs.Causes.{Causes}
+use Rattle.command_answers.specs.CausesLemmas.{HasCauses, at_memory}
+use Rattle.command_answers.specs.Outside.{outside}
+use Rattle.command_answers.specs.Step.{Step}
+use Rattle.command_answers.specs.Stop.{ReturnsStep}
+use Rattle.command_answers.specs.WantedFiles.{rules_and_map, with_script}
+use Rattle.link_commands.specs.Links.{WithLinks, with_links, Begins, EndsBefore, causes_by}
+use Rattle.link_commands.specs.LinkLemmas.{IsCaused, linked_stopped, stop_begins, stop_caused}
+use Rattle.link_commands.specs.Plays.{LinkFailed, IsPlayDone}
+use Rattle.link_commands.specs.PlayLemmas.{plays_caused}
+use Rattle.match_commands.specs.Plays.{PlayMeans, play_means, play_step, terms_of, PlaysFrom, PlaysOver}
+use Rattle.match_commands.specs.Run.{Runs}
+use Rattle.match_commands.specs.TopCalls.{waiting}
+use Rattle.match_commands.specs.Waiting.{RunsWaiting}
+use Rattle.match_commands.proofs.RequestLemmas.{request_stopped}
+use Rattle.match_commands.proofs.RunLemmas.{request_runs}
+
+-- From what the code plays by, or why it ended before it had that.
+abbrev pub Made : Type 0
+Made = Result (Setup × ℕ × Vec (List Order)) Stop
+
+pub play_begins :
+    (made : Made) (step : Step PlayMeans) (status : ℕ) (old new : WithLinks) →
+    new.console ≡ old.console → ReturnsStep made play_means step → PlaysFrom made status old.net new.net old.sink new.sink →
+    Begins step (PlaysOver status old new) status old new ⊎ EndsBefore status old new
+play_begins (Ok made) step status old new same returns plays =
+    inl (subst (λ step. Begins step (PlaysOver status old new) status old new) (sym returns) (plays, same))
+play_begins (Err stop) step status old new same returns plays =
+    stop_begins stop step (PlaysOver status old new) status old new returns plays.0 (plays.1, same)
+
+pub play_caused :
+    (made : Made) (step : Step PlayMeans) (status : ℕ) (old new : WithLinks) →
+    ReturnsStep made play_means step → PlaysFrom made status old.net new.net old.sink new.sink →
+    IsCaused IsPlayDone (IsOk step) status (causes_by (LinkFailed old.net new.net) old new)
+play_caused (Ok made) step status old new returns plays = plays_caused game_hash game_summary (terms_of (play_means made)) (IsOk step) status old new plays
+play_caused (Err stop) step status old new returns plays = stop_caused stop step IsPlayDone status old new _ returns plays.0
+
+-- ---- the request that the words name
+
+pub named_waits :
+    (named : Option RequestPlain) (request : RequestPlain) (status : ℕ) (old new : WithLinks) →
+    named ≡ Some request → RunsWaiting (waiting request) status old new →
+    RunsWaiting (option_and_then waiting named) status old new
+named_waits named request status old new is runs =
+    subst (λ named. RunsWaiting (option_and_then waiting named) status old new) (sym is) runs
+
+-- ---- memory ran out before anything was done
+
+unread_told : (o : Option Files) (stop : Files → Type 0) → ((files : Files) → stop files) → IfSome o stop
+unread_told None stop all = tt
+unread_told (Some files) stop all = all files
+
+unread_untold : (o : Option Files) (stop : Type 0) → stop → IfNone o stop
+unread_untold None stop is = is
+unread_untold (Some files) stop is = tt
+
+none_runs : (d : DiskState) (s : SinkState) (causes : Causes) → Runs None OUT_OF_MEMORY causes (outside d s) (outside d s)
+none_runs d s causes =
+    let has : HasCauses OUT_OF_MEMORY (causes.read ⊎ causes.net) (causes.sink ⊎ causes.write) = at_memory OUT_OF_MEMORY _ _ refl in
+    record {
+      refused = inr (refl, (refl, refl));
+      only_refused = λ e. refl;
+      told = tt;
+      untold = tt;
+      complete = λ quiet. tt;
+      read = has.read;
+      write = has.write;
+      files = refl;
+      later = (omega arith, omega arith);
+    }
+
+none_waits : (d : DiskState) (s : SinkState) (net : NetState) (console : SourceState) →
+    RunsWaiting None OUT_OF_MEMORY (with_links d s net console) (with_links d s net console)
+none_waits d s net console = (none_runs d s _, (refl, refl))
+
+request_waits : (request : RequestPlain) (d : DiskState) (s : SinkState) (net : NetState) (console : SourceState) →
+    RunsWaiting (waiting request) OUT_OF_MEMORY (with_links d s net console) (with_links d s net console)
+request_waits (Drill query written) d s net console = none_waits d s net console
+request_waits (Yaml names) d s net console = none_waits d s net console
+request_waits (Check map_file names) d s net console = none_waits d s net console
+request_waits (Route query) d s net console = none_waits d s net console
+request_waits (Make number) d s net console = none_waits d s net console
+request_waits (Replay query) d s net console = none_waits d s net console
+request_waits (Migrate query to) d s net console = none_waits d s net console
+request_waits (Serve query) d s net console = none_waits d s net console
+request_waits (Local query) d s net console = (
+  request_runs (Local query) OUT_OF_MEMORY _ (outside d s) (outside d s)
+      (request_stopped (Local query) NoMemory OUT_OF_MEMORY d d s s refl (omega arith) (omega arith)
+      (unread_told d.files _ (λ files. tt)) (unread_untold d.files _ tt) (refl, refl)),
+  (refl, refl),
+)
+request_waits (Play query at) d s net console =
+    let all = with_script query.file (rules_and_map query.rules query.map_file) in
+    let old = with_links d s net console in
+    linked_stopped all all (play_step query) (PlaysOver OUT_OF_MEMORY old old) IsPlayDone NoMemory OUT_OF_MEMORY (LinkFailed net net) old old
+    refl refl (omega arith) (omega arith) (unread_told d.files _ (λ files. tt)) (unread_untold d.files _ tt) (refl, refl) (refl, refl)
+
+pub memory_waits :
+    (named : Option RequestPlain) (d : DiskState) (s : SinkState) (net : NetState) (console : SourceState) →
+    RunsWaiting (option_and_then waiting named) OUT_OF_MEMORY (with_links d s net console) (with_links d s net console)
+memory_waits None d s net console = none_waits d s net console
+memory_waits (Some request) d s net console = request_waits request d s net console
