@@ -5,8 +5,8 @@ ghost use Rattle.link_commands.specs.CauseNames.{feed_name, play_name};
 use match_net::PlayCause;
 use order_packets::FeedFault;
 
-/// The name of a fault in a packet's place.
-fn feed_name(fault: FeedFault) -> &'static str
+/// The name of a fault in a packet's place, as it is printed.
+pub fn feed_name(fault: FeedFault) -> &'static str
     ensures { result.now ≡ feed_name fault }
 {
     match fault {

@@ -13,5 +13,7 @@ mod playing;
 mod printing;
 mod solo;
 
-pub use printing::play_over;
+pub use causes::feed_name;
+pub use play_text::lost_answer;
+pub use printing::{play_over, print_made};
 pub use solo::read_solo;

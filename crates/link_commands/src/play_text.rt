@@ -87,7 +87,7 @@ fn refusal_answer<S: Sim>(
 }
 
 /// The answer where the net or the link failed.
-pub(crate) fn lost_answer(alloc: Global) -> Result<Answer<'static>, NoMemory>
+pub fn lost_answer(alloc: Global) -> Result<Answer<'static>, NoMemory>
     ensures { IfOk result (λ answer. reply_of answer ≡ link_fault) }
 {
     Ok(answer(FAULT_READ, String::from_str(alloc, "fault link\n")?))

@@ -40,7 +40,7 @@ pub fn play_over<M: Maker, K: Sink, N: Net>(
 }
 
 /// Prints the text of an answer that writes no file, if there was memory to make it.
-fn print_made<K: Sink>(answer: Result<Answer<'_>, NoMemory>, out: &mut K) -> u8
+pub fn print_made<K: Sink>(answer: Result<Answer<'_>, NoMemory>, out: &mut K) -> u8
     ensures prints { MadePrints answer.entry result (K.state out.old) (K.state out.new) }
     ensures later { (K.state out.old).faults ≤ (K.state out.new).faults }
 {

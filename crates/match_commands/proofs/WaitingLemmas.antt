@@ -10,7 +10,7 @@ use Rattle.game_io.specs.Files.{Files}
 use Rattle.game_io.specs.NetState.{NetState}
 use Rattle.game_io.specs.SinkState.{SinkState}
 use Rattle.game_io.specs.SourceState.{SourceState}
-use Rattle.command_words.specs.RequestPlain.{RequestPlain, Drill, Yaml, Check, Route, Make, Local, Serve, Play, Replay, Migrate}
+use Rattle.command_words.specs.RequestPlain.{RequestPlain, ServePlain, Drill, Yaml, Check, Route, Make, Local, Serve, Play, Replay, Migrate}
 use Rattle.command_answers.specs.declared.statuses.TheConstants.{OUT_OF_MEMORY}
 use Rattle.command_answers.specs.declared.stop.Stop.{Stop}
 use Rattle.command_answers.specs.declared.stop.Stop.TheVariants.{NoMemory}
@@ -25,7 +25,10 @@ use Rattle.link_commands.specs.LinkLemmas.{IsCaused, linked_stopped, stop_begins
 use Rattle.link_commands.specs.Plays.{LinkFailed, IsPlayDone}
 use Rattle.link_commands.specs.PlayLemmas.{plays_caused}
 use Rattle.match_commands.specs.Plays.{PlayMeans, play_means, play_step, terms_of, PlaysFrom, PlaysOver}
+use Rattle.serve_command.specs.Serves.{NetFailed, IsServeDone}
+use Rattle.serve_command.specs.ServeLemmas.{serves_caused}
 use Rattle.match_commands.specs.Run.{Runs}
+use Rattle.match_commands.specs.Serves.{served_match, invite_of, serve_step, ServesFrom, ServesOver}
 use Rattle.match_commands.specs.TopCalls.{waiting}
 use Rattle.match_commands.specs.Waiting.{RunsWaiting}
 use Rattle.match_commands.proofs.RequestLemmas.{request_stopped}
@@ -50,6 +53,23 @@ pub play_caused :
     IsCaused IsPlayDone (IsOk step) status (causes_by (LinkFailed old.net new.net) old new)
 play_caused (Ok made) step status old new returns plays = plays_caused game_hash game_summary (terms_of (play_means made)) (IsOk step) status old new plays
 play_caused (Err stop) step status old new returns plays = stop_caused stop step IsPlayDone status old new _ returns plays.0
+
+pub serve_begins :
+    (query : ServePlain) (made : Result (Setup × ℕ) Stop) (step : Step (Setup × ℕ)) (status : ℕ) (old new : WithLinks) →
+    ReturnsStep made (λ made. made) step → ServesFrom query made status old new →
+    Begins step (ServesOver query status old new) status old new ⊎ EndsBefore status old new
+serve_begins query (Ok made) step status old new returns serves =
+    inl (subst (λ step. Begins step (ServesOver query status old new) status old new) (sym returns) serves)
+serve_begins query (Err stop) step status old new returns serves =
+    stop_begins stop step (ServesOver query status old new) status old new returns serves.0 serves.1
+
+pub serve_caused :
+    (query : ServePlain) (made : Result (Setup × ℕ) Stop) (step : Step (Setup × ℕ)) (status : ℕ) (old new : WithLinks) →
+    ReturnsStep made (λ made. made) step → ServesFrom query made status old new →
+    IsCaused IsServeDone (IsOk step) status (causes_by (NetFailed old.net new.net) old new)
+serve_caused query (Ok made) step status old new returns serves =
+    serves_caused (served_match query made.0) (invite_of query made.1) (IsOk step) status old new serves
+serve_caused query (Err stop) step status old new returns serves = stop_caused stop step IsServeDone status old new _ returns serves.0
 
 -- ---- the request that the words name
 
@@ -98,7 +118,11 @@ request_waits (Route query) d s net console = none_waits d s net console
 request_waits (Make number) d s net console = none_waits d s net console
 request_waits (Replay query) d s net console = none_waits d s net console
 request_waits (Migrate query to) d s net console = none_waits d s net console
-request_waits (Serve query) d s net console = none_waits d s net console
+request_waits (Serve query) d s net console =
+    let all = rules_and_map query.rules query.map_file in
+    let old = with_links d s net console in
+    linked_stopped all all (serve_step query) (ServesOver query OUT_OF_MEMORY old old) IsServeDone NoMemory OUT_OF_MEMORY (NetFailed net net) old old
+    refl refl (omega arith) (omega arith) (unread_told d.files _ (λ files. tt)) (unread_untold d.files _ tt) (refl, refl) (refl, refl)
 request_waits (Local query) d s net console = (
   request_runs (Local query) OUT_OF_MEMORY _ (outside d s) (outside d s)
       (request_stopped (Local query) NoMemory OUT_OF_MEMORY d d s s refl (omega arith) (omega arith)

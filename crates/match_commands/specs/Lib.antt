@@ -7,4 +7,5 @@ pub mod Request
 pub mod Run
 pub mod TopCalls
 pub mod Plays
+pub mod Serves
 pub mod Waiting

@@ -13,6 +13,7 @@ returning request = Some request
 -- The request, where its command may wait for threads or links.
 abbrev pub waiting : RequestPlain → Option RequestPlain
 waiting (Local query) = Some (Local query)
+waiting (Serve query) = Some (Serve query)
 waiting (Play query at) = Some (Play query at)
 waiting request = None
 
@@ -27,4 +28,5 @@ waiting_request = option_and_then waiting
 abbrev pub names_waiting : Option (List ℕ) → Bool
 names_waiting None = false
 names_waiting (Some command) =
-    bytes_eq command (codes "local") || bytes_eq command (codes "play")
+    bytes_eq command (codes "local")
+    || (bytes_eq command (codes "serve") || bytes_eq command (codes "play"))

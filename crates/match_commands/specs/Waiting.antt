@@ -1,9 +1,10 @@
 -- A run of a command that may wait for threads or links.
 use Rattle.std.specs.Prelude.{◌≡◌, ℕ, Option, Some, option_and_then}
-use Rattle.command_words.specs.RequestPlain.{RequestPlain, Play}
+use Rattle.command_words.specs.RequestPlain.{RequestPlain, Serve, Play}
 use Rattle.command_answers.specs.Causes.{causes_of}
 use Rattle.link_commands.specs.Links.{WithLinks, IsApart, outside_of}
 use Rattle.match_commands.specs.Plays.{RunsPlay}
+use Rattle.match_commands.specs.Serves.{RunsServe}
 use Rattle.match_commands.specs.Request.{written_by}
 use Rattle.match_commands.specs.Run.{Runs}
 
@@ -17,5 +18,6 @@ RunsAlone request status old new =
 
 -- A run of the request that the words name, if they name one.
 abbrev pub RunsWaiting : Option RequestPlain → ℕ → (old new : WithLinks) → Type 0
+RunsWaiting (Some (Serve query)) status old new = RunsServe query status old new
 RunsWaiting (Some (Play query at)) status old new = RunsPlay query status old new
 RunsWaiting request status old new = RunsAlone request status old new

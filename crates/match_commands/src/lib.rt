@@ -9,7 +9,10 @@
 #![tactic(auto)]
 
 mod command;
+mod hosting;
 mod linking;
+#[cfg(test)]
+mod loopback_tests;
 mod making;
 mod numbers;
 mod preparing;

@@ -1,7 +1,8 @@
 //! The commands that may wait for threads or links.
 ghost use Rattle.std.specs.Prelude.{◌≡◌, ◌≤◌, [], None, Some, length, map, option_map, slice_get};
 ghost use Rattle.std.specs.Prelude.{string_bytes};
-ghost use Rattle.command_words.specs.RequestPlain.{Local, HasFewFiles, plain_match, plain_of};
+ghost use Rattle.command_words.specs.RequestPlain.{Local, HasClients, HasFewFiles, plain_match};
+ghost use Rattle.command_words.specs.RequestPlain.{plain_of};
 ghost use Rattle.command_words.specs.Reading.{request_of};
 ghost use Rattle.command_answers.specs.Causes.{causes_of};
 ghost use Rattle.command_answers.specs.Given.{script_contents};
@@ -13,6 +14,7 @@ ghost use Rattle.match_commands.specs.Run.{RunsRequest};
 ghost use Rattle.match_commands.specs.TopCalls.{names_waiting, waiting, waiting_request};
 ghost use Rattle.match_commands.specs.Waiting.{RunsWaiting};
 
+use crate::hosting::run_serve;
 use crate::linking::run_play;
 use command_answers::{
     GivenFiles, OUT_OF_MEMORY, PlayedFile, Stop, print_stop, print_text, read_played_files,
@@ -42,14 +44,14 @@ pub fn may_wait(words: &[String]) -> bool
 fn is_waiting(command: &str) -> bool
     ensures { result ≡ names_waiting (Some command.now) }
 {
-    command == "local" || command == "play"
+    command == "local" || (command == "serve" || command == "play")
 }
 
 /// Runs the command that the words name, where it is one that may wait for threads or links; the
 /// first word is the program's name. All other commands are those of [`run`](crate::run), and are
 /// refused here as words. It changes no file. A local match uses neither the net, which has given no
-/// link yet, nor the console, and a player uses the net's first link, which it hands back. Where it
-/// returns, it returns:
+/// link yet, nor the console. A player uses the net's first link; a server uses as many as it has
+/// clients, and the console. They hand the links back. Where it returns, it returns:
 ///
 /// - 0, the command is done, and exactly its text was written;
 /// - 2, the words are refused;
@@ -110,6 +112,7 @@ fn run_request<
     gate: &G,
 ) -> u8
     requires few { HasFewFiles request.now }
+    requires clients { HasClients request.now }
     requires links { (N.state net.old).given ≡ [] }
     ensures { RunsWaiting (waiting (plain_of request.now)) result
         (with_links (D.state disk.old) (K.state out.old) (N.state net.old) (C.state console.old))
@@ -118,8 +121,8 @@ fn run_request<
     match request {
         Request::Local(query) => run_local_match(rt, alloc, query, disk, out, gate),
         Request::Play { query, at } => run_play(alloc, query, at, disk, out, net),
-        Request::Serve(_)
-        | Request::Drill { .. }
+        Request::Serve(query) => run_serve(rt, alloc, query, disk, out, net, console),
+        Request::Drill { .. }
         | Request::Yaml { .. }
         | Request::Check { .. }
         | Request::Route(_)

@@ -1,0 +1,62 @@
+-- The answer to the command `serve`.
+use Rattle.std.specs.Prelude.{ℕ, Result, Ok, Err}
+use Rattle.frame_core.specs.Match.{Match}
+use Rattle.game_model.specs.Setup.{Setup}
+use Rattle.match_net.specs.declared.invite.Invite.{Invite}
+use Rattle.tick_core.specs.Game.{GameState, game_start, game_after, game_hash, game_summary}
+use Rattle.command_words.specs.RequestPlain.{ServePlain}
+use Rattle.command_answers.specs.declared.stop.Stop.{Stop}
+use Rattle.command_answers.specs.Contents.{Contents}
+use Rattle.command_answers.specs.Step.{Step}
+use Rattle.command_answers.specs.Stop.{PrintsStop}
+use Rattle.command_answers.specs.WantedFiles.{rules_and_map}
+use Rattle.link_commands.specs.Links.{WithLinks, RunsLinked, IsApart, causes_by}
+use Rattle.serve_command.specs.Serves.{ServesBy, NetFailed, IsServeDone}
+use Rattle.match_commands.specs.Replayed.{standing_step}
+
+-- The match: its worlds begin as the opening game. They ask no lag.
+abbrev pub served_match : ServePlain → Setup → Match GameState
+served_match query setup =
+    record {
+      start = game_start setup query.seed query.clients;
+      after = game_after;
+      hash = game_hash;
+      summary = game_summary;
+      clients = query.clients;
+      lag = 0;
+    }
+
+-- What each link is told, but for its client.
+abbrev pub invite_of : ServePlain → (number : ℕ) → Invite
+invite_of query number =
+    record {
+      client = 0;
+      clients = query.clients;
+      lag = query.lag;
+      seed = query.seed;
+      rules = number;
+    }
+
+-- What the files hold, or the first fault: those of the rules come before those of the map.
+abbrev pub serve_step : ServePlain → Contents → Step (Setup × ℕ)
+serve_step query contents = standing_step query.rules query.map_file contents
+
+-- The match was served over that.
+abbrev pub ServesOver : ServePlain → ℕ → (old new : WithLinks) → Setup × ℕ → Type 0
+ServesOver query status old new made =
+    ServesBy (served_match query made.0) (invite_of query made.1) status old.net new.net old.sink
+    new.sink
+
+-- The same, or why the command ended before is printed: net and console are as they were.
+abbrev pub ServesFrom :
+    ServePlain → Result (Setup × ℕ) Stop → ℕ → (old new : WithLinks) → Type 0
+ServesFrom query (Ok made) status old new = ServesOver query status old new made
+ServesFrom query (Err stop) status old new =
+    PrintsStop stop status old.sink new.sink × IsApart old new
+
+-- A run of `serve`.
+abbrev pub RunsServe : ServePlain → ℕ → (old new : WithLinks) → Type 0
+RunsServe query status old new =
+    RunsLinked (rules_and_map query.rules query.map_file) (serve_step query)
+    (ServesOver query status old new) IsServeDone status
+    (causes_by (NetFailed old.net new.net) old new) old new

@@ -1,0 +1,4 @@
+pub mod ReadCauses
+pub mod ServeText
+pub mod Serves
+pub mod ServeLemmas

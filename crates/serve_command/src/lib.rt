@@ -1,0 +1,11 @@
+//! The command `serve`: a match that is served over links.
+//!
+//! [`serve_over`] makes the opening world of the match, serves it over the links of a net, and prints
+//! how that ended (`specs/ServeText.antt`, `specs/Serves.antt`).
+#![tactic(auto)]
+
+mod causes;
+mod printing;
+mod serve_text;
+
+pub use printing::serve_over;
