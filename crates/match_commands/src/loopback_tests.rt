@@ -4,11 +4,10 @@ use super::run_waiting;
 use game_io::{MemDisk, MemSink, MemSource, Net, NoGate, TcpNet};
 use std::alloc::{AllocError, Global};
 use std::net::{Net as Sockets, TcpListener, TcpStream};
-use std::process;
 use std::sync::Wait;
 use std::test::Fail;
-use std::thread;
 use std::thread::Threads;
+use std::{process, thread};
 
 /// A command line that is run on a thread of its own, the files that it reads, and its answer.
 #[derive(Drop)]
@@ -58,7 +57,16 @@ where
         out,
         status,
     } = seat;
-    *status = run_waiting(rt, *alloc, words, disk, out, &mut net, &mut console, &NoGate);
+    *status = run_waiting(
+        rt,
+        *alloc,
+        words,
+        disk,
+        out,
+        &mut net,
+        &mut console,
+        &NoGate,
+    );
 }
 
 /// The hash of the printed world after 20 frames.
@@ -94,7 +102,12 @@ fn a_served_match_of_two_players(rt: HostRuntime) -> Result<(), Fail> {
     for line in [&host, &guest, &guest] {
         seats.push(new_seat(alloc, line)?)?;
     }
-    thread::for_each_mut(&rt, &mut seats, 3, &|_: usize, seat: &mut Seat| run_seat(&rt, seat));
+    thread::for_each_mut(
+        &rt,
+        &mut seats,
+        3,
+        &|_: usize, seat: &mut Seat| run_seat(&rt, seat),
+    );
     let played = hash(seats[0].out.bytes());
     assert!(rt; played.is_some());
     for seat in &seats {
