@@ -1,4 +1,4 @@
-use crate::case::{Case, CaseFile, CaseLink};
+use crate::case::{Case, CaseFile};
 use crate::read_fault::ReadFault;
 use std::alloc::Global;
 
@@ -7,11 +7,6 @@ use std::alloc::Global;
 /// - `word WORD`, an argument;
 /// - `file LENGTH NAME` and so many bytes, a file that is there before;
 /// - `written LENGTH NAME` and so many bytes, a file that must be there after;
-/// - `link LENGTH` and so many bytes, a link that comes after those before;
-/// - `take_fails N` and `put_fails N`, a call of the last link's source or sink that fails;
-/// - `net_fails N`, a call of the net that fails;
-/// - `console LENGTH` and so many bytes, what the console gives;
-/// - `sent LENGTH` and so many bytes, what must have been sent to the links;
 /// - `status N`;
 /// - `text LENGTH` and so many bytes, what must be printed;
 /// - `world LENGTH` and so many bytes, the world that the server of a drill must be left in.
@@ -45,10 +40,6 @@ impl<'a> CaseReader<'a> {
             words,
             files: Vec::new(alloc),
             written: Vec::new(alloc),
-            links: Vec::new(alloc),
-            net_fails: Vec::new(alloc),
-            console: &[],
-            sent: None,
             status: 0,
             text: &[],
             world: None,
@@ -82,34 +73,6 @@ impl<'a> CaseReader<'a> {
             }
             Some(("text", length)) => case.text = self.bytes(length)?,
             Some(("world", length)) => case.world = Some(self.bytes(length)?),
-            Some((name, value)) => self.read_link_field(alloc, name, value, case)?,
-            None => return Err(ReadFault::NoCase),
-        }
-        Ok(())
-    }
-
-    /// Reads the rest of a field that is about links.
-    fn read_link_field(
-        &mut self,
-        alloc: Global,
-        name: &str,
-        value: &'a str,
-        case: &mut Case<'a>,
-    ) -> Result<(), ReadFault> {
-        match name {
-            "link" => {
-                let link = CaseLink {
-                    bytes: self.bytes(value)?,
-                    takes: Vec::new(alloc),
-                    puts: Vec::new(alloc),
-                };
-                case.links.push(link)?;
-            }
-            "take_fails" => last_link(case)?.takes.push(call(value)?)?,
-            "put_fails" => last_link(case)?.puts.push(call(value)?)?,
-            "net_fails" => case.net_fails.push(call(value)?)?,
-            "console" => case.console = self.bytes(value)?,
-            "sent" => case.sent = Some(self.bytes(value)?),
             _ => return Err(ReadFault::NoCase),
         }
         Ok(())
@@ -146,14 +109,4 @@ impl<'a> CaseReader<'a> {
             _ => Err(ReadFault::NoCase),
         }
     }
-}
-
-/// The link that was read last.
-fn last_link<'b, 'a>(case: &'b mut Case<'a>) -> Result<&'b mut CaseLink<'a>, ReadFault> {
-    case.links.last_mut().ok_or(ReadFault::NoCase)
-}
-
-/// The number of a call.
-fn call(number: &str) -> Result<u32, ReadFault> {
-    number.parse::<u32>().ok().ok_or(ReadFault::NoCase)
 }

@@ -1,12 +1,9 @@
-ghost use Rattle.std.specs.Prelude.{◌≡◌, []};
-
 use crate::case::{Case, CaseFile};
 use crate::case_reader::CaseReader;
 use crate::read_fault::ReadFault;
-use crate::sent_text::sent_text;
 use crate::server_world::server_world;
 use base::NoMemory;
-use game_io::{MemDisk, MemNet, MemSink, Net, NoGate};
+use game_io::{MemDisk, MemNet, MemSink, MemSource, NoGate};
 use match_commands::{may_wait, run, run_waiting};
 use std::alloc::Global;
 use std::sync::Wait;
@@ -46,22 +43,10 @@ fn is_right<R: Threads + Wait + Sync>(
     case: &Case<'_>,
 ) -> Result<bool, NoMemory> {
     let mut disk = case.disk(alloc)?;
-    let mut net = case.net(alloc)?;
     let mut out = MemSink::new(alloc, Vec::new(alloc));
-    let status = run_case(rt, alloc, case, &mut disk, &mut out, &mut net)?;
+    let status = run_case(rt, alloc, &case.words, &mut disk, &mut out);
     let answered = status == case.status && out.bytes() == case.text;
-    let sent = is_sent(alloc, case, &net)?;
-    Ok(answered && sent && is_left(&disk, case) && is_world_right(alloc, case)?)
-}
-
-/// Whether the links were sent what the case says, if it says something.
-fn is_sent(alloc: Global, case: &Case<'_>, net: &MemNet) -> Result<bool, NoMemory> {
-    let Some(wanted) = case.sent else {
-        return Ok(true);
-    };
-    let plays = matches!(case.words.get(1), Some(word) if word.as_str() == "play");
-    let text = sent_text(alloc, plays, net, net.links())?;
-    Ok(text.as_bytes() == wanted)
+    Ok(answered && is_left(&disk, case) && is_world_right(alloc, case)?)
 }
 
 /// Whether the server of a drill is left in the world that the case has, if it has one.
@@ -75,23 +60,20 @@ fn is_world_right(alloc: Global, case: &Case<'_>) -> Result<bool, NoMemory> {
     }
 }
 
-/// Runs the command line of a case, by the top call that has its command.
+/// Runs a command line, by the top call that has its command.
 fn run_case<R: Threads + Wait + Sync>(
     rt: &R,
     alloc: Global,
-    case: &Case<'_>,
+    words: &[String],
     disk: &mut MemDisk,
     out: &mut MemSink,
-    net: &mut MemNet,
-) -> Result<u8, NoMemory>
-    requires { net.old.given ≡ [] }
-{
-    let words = &case.words;
+) -> u8 {
     if !may_wait(words) {
-        return Ok(run(alloc, words, disk, out));
+        return run(alloc, words, disk, out);
     }
-    let mut console = case.console(alloc)?;
-    Ok(run_waiting(rt, alloc, words, disk, out, net, &mut console, &NoGate))
+    let mut net = MemNet::new(alloc, Vec::new(alloc));
+    let mut console = MemSource::new(Vec::new(alloc), Vec::new(alloc));
+    run_waiting(rt, alloc, words, disk, out, &mut net, &mut console, &NoGate)
 }
 
 /// Whether each file that the case names is there as it should be after the run.

@@ -6,7 +6,6 @@ mod case;
 mod case_reader;
 mod checking;
 mod read_fault;
-mod sent_text;
 mod server_world;
 mod world_text;
 
