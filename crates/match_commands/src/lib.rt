@@ -11,8 +11,6 @@
 mod command;
 mod hosting;
 mod linking;
-#[cfg(test)]
-mod loopback_tests;
 mod making;
 mod numbers;
 mod preparing;
