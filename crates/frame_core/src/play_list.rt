@@ -75,6 +75,16 @@ impl PlayList {
         orders_in(self.pool.as_slice(), self.parts[n])
     }
 
+    /// The orders of the n-th play where they stand, at most [`MAX_ORDERS`](game_orders::MAX_ORDERS).
+    /// The play is below the number of plays.
+    pub fn play(&self, n: usize) -> &[Order]
+        requires { n < length self.now }
+        ensures value { slice_get self.now n ≡ Some result.now }
+        ensures limit { length result.now ≤ MAX_ORDERS }
+    {
+        stored_play(self.pool.as_slice(), self.parts[n])
+    }
+
     /// The same plays once more. It fails only where it is out of memory.
     pub fn copy(&self, alloc: Global) -> Result<PlayList, NoMemory>
         ensures { IfOk result (λ copy. copy ≡ self.now) }
@@ -85,12 +95,21 @@ impl PlayList {
     }
 }
 
-/// The orders of a part of the pool.
+/// The orders of a part of the pool, of their own.
 fn orders_in(pool: &[Order], part: PlayPart) -> Orders
     requires { is_stored (length pool.now) part ≡ true }
     ensures { result ≡ part_in pool.now part }
 {
-    orders_of(pool_part(pool, part.first as usize, usize::from(part.count)))
+    orders_of(stored_play(pool, part))
+}
+
+/// The orders of a part of the pool, where they stand.
+fn stored_play(pool: &[Order], part: PlayPart) -> &[Order]
+    requires { is_stored (length pool.now) part ≡ true }
+    ensures value { result.now ≡ part_in pool.now part }
+    ensures limit { length result.now ≤ MAX_ORDERS }
+{
+    pool_part(pool, part.first as usize, usize::from(part.count))
 }
 
 /// So many orders of the pool from `first` on.
@@ -109,9 +128,7 @@ fn orders_of(part: &[Order]) -> Orders
     ensures { result ≡ part.now }
 {
     let mut orders = Orders::empty();
-    for order in part {
-        orders.push(*order);
-    }
+    orders.replace(part);
     orders
 }
 

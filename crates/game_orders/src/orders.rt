@@ -59,6 +59,17 @@ impl Orders {
         self.held.push(o);
     }
 
+    /// Puts these orders, at most [`MAX_ORDERS`], in the place of those that are there.
+    pub fn replace(&mut self, orders: &[Order])
+        requires { length orders.now ≤ MAX_ORDERS }
+        ensures { self.new ≡ orders.now }
+    {
+        self.held.clear();
+        let Ok(()) = self.held.try_extend_from_slice(orders) else {
+            unreachable!()
+        };
+    }
+
     /// The number of orders, at most [`MAX_ORDERS`].
     pub fn len(&self) -> usize
         ensures value { result ≡ length self.now }
@@ -175,6 +186,15 @@ mod tests {
         );
         assert!(rt; frame.get(1).is_some_and(|e| e.copy() == Entry::Leave));
         assert!(rt; frame.get(2).is_none());
+        frame.clear();
+        assert!(rt; frame.is_empty() && frame.get(0).is_none());
+        frame.push_play(orders_of(&rt, &[9, 8]).as_slice());
+        assert!(rt;
+            frame
+                .get(0)
+                .is_some_and(|e| *e == Entry::Play(orders_of(&rt, &[9, 8])))
+        );
+        assert_eq!(rt; frame.len(), 1);
     }
 
     #[test]

@@ -1,10 +1,10 @@
 -- Fields that are put back, taken up and forgotten.
-use Rattle.std.proofs.Common.{◌≡◌, ℕ, ◌+◌, ◌*◌, ◌<◌, inl, inr, Bool, length, List, get_or, set, Option, Some, None, refl, ap, sym, ◌∙◌, arith, subst, get_or-set_other, get_or-set_same, length-set}
+use Rattle.std.proofs.Common.{◌≡◌, ℕ, ◌+◌, ◌*◌, ◌<◌, inl, inr, Bool, length, length-append, List, [], ◌∷◌, get_or, set, Option, Some, None, refl, ap, sym, ◌∙◌, arith, subst, get_or-set_other, get_or-set_same, length-set}
 use Rattle.std.specs.Prelude.{IfSome, slice_get}
 use Rattle.std.specs.List.{All}
 use Rattle.std.proofs.lemmas.Bool.{cases_eq}
 use Rattle.std.proofs.lemmas.List.{get_or_read, set-set}
-use Rattle.std.proofs.lemmas.List.Elements.{All-set}
+use Rattle.std.proofs.lemmas.List.Elements.{All-append, All-cons, All-nil, All-set}
 use Rattle.std.proofs.lemmas.Option.{get_or_from_slice_get, slice_get_within}
 use Rattle.world_units.specs.declared.cell.CPos.{CPos}
 use Rattle.rule_traits.specs.declared.trait_fields.Costs.{Costs}
@@ -17,7 +17,7 @@ use Rattle.grid_routes.specs.declared.fields.Kept.{Kept}
 use Rattle.grid_routes.specs.declared.fields.Fields.{Fields}
 use Rattle.grid_routes.specs.declared.search.Search.{Search}
 use Rattle.grid_routes.specs.Steps.{IsGoing, IsSearch}
-use Rattle.grid_routes.specs.Kept.{AreFields, AreForgotten, IsFinal, IsFor, IsKept, IsOwn}
+use Rattle.grid_routes.specs.Kept.{AreFields, AreForgotten, IsFinal, IsFor, IsKept, IsOwn, IsRoom, IsWidened}
 use Rattle.grid_routes.proofs.Beginning.{may-go-on}
 
 pub forgotten-none : (old : List Kept) → AreForgotten old old 0
@@ -67,6 +67,25 @@ forgotten-kept w h terrain terrain' built built' old new forgotten kept = λ k d
       size = subst (λ (f : Distances). HasSize w h f.labels) (sym (forgotten.fields k d inside)) was.size;
       going = none-going (get_or new k d).ask _ (forgotten.none k d inside);
     }
+
+-- One more field, which is only room.
+pub widened-kept :
+    (w h : ℕ) (terrain : Grid Terrain) (built : Grid Bool) (old new : List Kept) → IsWidened w h old new →
+    All (IsKept w h terrain built) old → All (IsKept w h terrain built) new
+widened-kept w h terrain built old new (inl same) kept =
+    subst (λ (l : List Kept). All (IsKept w h terrain built) l) (sym same) kept
+widened-kept w h terrain built old new (inr (more, room, is)) kept =
+    let P : Kept → Type 0 = IsKept w h terrain built in
+    let one : IsKept w h terrain built more =
+    record { size = room.size; going = none-going more.ask _ room.none } in
+    subst (λ (l : List Kept). All P l) (sym is)
+    (All-append P old (more ∷ []) kept (All-cons P more [] one (All-nil P)))
+
+pub widened-place :
+    (w h place : ℕ) (old new : List Kept) → IsWidened w h old new → place < length old → place < length new
+widened-place w h place old new (inl same) within = subst (λ (l : List Kept). place < length l) (sym same) within
+widened-place w h place old new (inr (more, room, is)) within =
+    subst (λ (l : List Kept). place < length l) (sym is) (omega (arith, within, length-append old (more ∷ [])))
 
 -- A search that is on its way for this, by its ground alone.
 pub for-own : (search : Search) (ask : Ask) → IsFor search ask → IsOwn search ask

@@ -1,6 +1,6 @@
 -- What is kept from one question to the next: fields of distances over one ground.
 use Rattle.std.specs.Prelude.{◌≡◌, ℕ, ◌*◌, ◌<◌, ◌≤◌, All, IfSome, Bool, List, length}
-use Rattle.std.specs.Prelude.{slice_index_or, Some, None}
+use Rattle.std.specs.Prelude.{slice_index_or, Some, None, ◌⊎◌, [], ◌∷◌, ◌++◌}
 use Rattle.world_units.specs.declared.cell.CPos.{CPos}
 use Rattle.game_model.specs.declared.terrain.Terrain.{Terrain}
 use Rattle.game_model.specs.Grid.{Grid, HasSize, IsOn}
@@ -24,6 +24,10 @@ pub record IsKept (w h : ℕ) (terrain : Grid Terrain) (built : Grid Bool) (kept
 pub record IsRoom (w h : ℕ) (kept : Kept) : Type 0 where
   pub size : HasSize w h kept.field.labels
   pub none : kept.ask ≡ None
+
+-- The same fields, or these and room for one more.
+abbrev pub IsWidened : (w h : ℕ) (old new : List Kept) → Type 0
+IsWidened w h old new = (new ≡ old) ⊎ ((more : Kept) × IsRoom w h more × (new ≡ old ++ more ∷ []))
 
 -- The search is on its way for this.
 pub record IsFor (search : Search) (ask : Ask) : Type 0 where

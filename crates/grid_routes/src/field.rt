@@ -1,4 +1,4 @@
-ghost use Rattle.std.specs.Prelude.{◌≡◌, IfOk};
+ghost use Rattle.std.specs.Prelude.{◌≡◌, IfOk, IfSome};
 ghost use Rattle.game_model.specs.Grid.{IsOn, HasSize, is_on, place_of, with_cell};
 ghost use Rattle.grid_routes.specs.Beside.{IsPlaced};
 ghost use Rattle.grid_routes.specs.Labels.{IsFull, label_of, begun};
@@ -50,6 +50,26 @@ impl Field {
         let mut labels = Vec::new(alloc);
         labels.resize(usize::from(w) * usize::from(h), NONE)?;
         Ok(Field {
+            width: w,
+            height: h,
+            labels,
+            level: NONE,
+        })
+    }
+
+    /// A field without a goal, in memory that is written now. `None` where there is too little of it.
+    pub(crate) fn within(labels: Vec<u32>, w: u8, h: u8) -> Option<Field>
+        ensures { IfSome result (λ field. HasSize w h field.labels) }
+    {
+        let mut labels = labels;
+        let cells = usize::from(w) * usize::from(h);
+        if labels.capacity() < cells {
+            return None;
+        }
+        let Ok(()) = labels.resize(cells, NONE) else {
+            return None;
+        };
+        Some(Field {
             width: w,
             height: h,
             labels,

@@ -5,7 +5,7 @@ ghost use Rattle.game_model.specs.Walks.{IsBestDirection};
 ghost use Rattle.grid_routes.specs.declared.fields.Kept.{Kept};
 ghost use Rattle.grid_routes.specs.Tolls.{IsCheap, land_over};
 ghost use Rattle.grid_routes.specs.Labels.{label_of};
-ghost use Rattle.grid_routes.specs.Kept.{AreFields, AreForgotten, IsFinal, IsFor, IsRoom, IsSameGround};
+ghost use Rattle.grid_routes.specs.Kept.{AreFields, AreForgotten, IsFinal, IsFor, IsRoom, IsSameGround, IsWidened};
 
 use crate::ask::Ask;
 use crate::field::Field;
@@ -33,8 +33,11 @@ pub(crate) struct Fields {
     pub(crate) search: Search,
     /// What its field belongs to.
     pub(crate) ask: Option<Ask>,
-    /// The other fields. Where the search's own has its place there is only room.
+    /// The other fields: as many as were wanted so far, and one more. Where the search's own has its
+    /// place there is only room.
     pub(crate) kept: Vec<Kept>,
+    /// Memory for more fields, which is not written until they are wanted.
+    pub(crate) spare: Vec<Vec<u32>>,
     /// The place of the search's field; the last one is that of a field which isn't kept.
     pub(crate) place: usize,
     /// Where each field has its place.
@@ -48,12 +51,13 @@ impl Fields {
         ensures { IfOk result (λ fields. AreFields w h fields) }
     {
         let search = Search::create(alloc, w, h)?;
-        let kept = room(alloc, w, h, most + 1)?;
+        let kept = room(alloc, w, h, most)?;
         Ok(Fields {
             search,
             ask: None,
             kept,
-            place: most,
+            spare: blocks(alloc, w, h, most)?,
+            place: 0,
             index: Index::create(alloc, most)?,
         })
     }
@@ -149,9 +153,24 @@ impl Fields {
             false
         } else {
             self.put_back();
-            let place = self.index.place(ask).min(self.kept.len() - 1);
+            let place = self.index.place(ask);
+            self.make_room(place);
+            let place = place.min(self.kept.len() - 1);
             self.take_up(place, ask)
         }
+    }
+
+    /// Makes room for one more field where a place is the last one, or past it.
+    fn make_room(&mut self, place: usize)
+        requires fields { AreFields self.old.search.tolls.terrain.width
+            self.old.search.tolls.terrain.height self.old }
+        ensures fields { AreFields self.old.search.tolls.terrain.width
+            self.old.search.tolls.terrain.height self.new }
+        ensures search { self.new.search ≡ self.old.search }
+    {
+        let w = self.search.field.width();
+        let h = self.search.field.height();
+        widen(&mut self.kept, &mut self.spare, place, w, h);
     }
 
     /// Puts the field of the search back to its place.
@@ -244,19 +263,44 @@ fn exchange(kept: &mut Vec<Kept>, place: usize, field: &mut Field, ask: Option<A
     found
 }
 
-/// Room for so many fields. Out of memory is its only error.
-fn room(alloc: Global, w: u8, h: u8, count: usize) -> Result<Vec<Kept>, NoMemory>
-    ensures count { IfOk result (λ kept. length kept.items ≡ count) }
+/// Room for one field, and places for so many more. Out of memory is its only error.
+fn room(alloc: Global, w: u8, h: u8, more: usize) -> Result<Vec<Kept>, NoMemory>
+    requires { more ≤ FIELDS }
+    ensures count { IfOk result (λ kept. length kept.items ≡ 1) }
     ensures empty { IfOk result (λ kept. All (IsRoom w h) kept.items) }
 {
-    let mut kept = Vec::new(alloc);
-    for place in 0..count {
-        kept.push(Kept {
-            ask: None,
-            field: Field::create(alloc, w, h)?,
-        })?;
-    }
+    let mut kept = Vec::with_capacity(alloc, more + 1)?;
+    kept.push(Kept {
+        ask: None,
+        field: Field::create(alloc, w, h)?,
+    })?;
     Ok(kept)
+}
+
+/// Memory for so many fields, which is not written yet. Out of memory is its only error.
+fn blocks(alloc: Global, w: u8, h: u8, count: usize) -> Result<Vec<Vec<u32>>, NoMemory> {
+    let cells = usize::from(w) * usize::from(h);
+    let mut blocks = Vec::with_capacity(alloc, count)?;
+    for _block in 0..count {
+        blocks.push(Vec::with_capacity(alloc, cells)?)?;
+    }
+    Ok(blocks)
+}
+
+/// Adds room for a field where a place is the last one or past it, if there is memory for one more.
+fn widen(kept: &mut Vec<Kept>, spare: &mut Vec<Vec<u32>>, place: usize, w: u8, h: u8)
+    requires { 0 < length kept.old.items }
+    ensures { IsWidened w h kept.old.items kept.new.items }
+{
+    if place < kept.len() - 1 || kept.len() == kept.capacity() {
+        return;
+    }
+    let Some(labels) = spare.pop() else {
+        return;
+    };
+    if let Some(field) = Field::within(labels, w, h) {
+        kept.push_reserved(Kept { ask: None, field });
+    }
 }
 
 /// Lets no field belong to anything.

@@ -33,10 +33,10 @@ later_rose : (old new : ℕ) → old ≡ 0 → Rose old new → Rose 0 new
 later_rose old new none rose = subst (λ n. Rose n new) none rose
 
 lost_by :
-    {W : Type 0} (terms : Terms W) (now : Option (Stage W)) (found : FirstPacket Down) (size at : ℕ) (i i' : SourceState) (o o' : SinkState) →
-    i.faults ≡ 0 → o.faults ≡ 0 → EndsBy terms now found size at i i' o o' end.Lost → Rose 0 i'.faults ⊎ Rose 0 o'.faults
-lost_by terms now found size at i i' o o' none none' (inl unread) = inl (later_rose i.faults i'.faults none unread.1)
-lost_by terms now found size at i i' o o' none none' (inr fails) = inr (later_rose o.faults o'.faults none' fails.rose)
+    {W : Type 0} (terms : Terms W) (packets : List Down) (now : Option (Stage W)) (found : FirstPacket Down) (size at : ℕ) (i i' : SourceState) (o o' : SinkState) →
+    i.faults ≡ 0 → o.faults ≡ 0 → EndsBy terms packets now found size at i i' o o' end.Lost → Rose 0 i'.faults ⊎ Rose 0 o'.faults
+lost_by terms packets now found size at i i' o o' none none' (inl unread) = inl (later_rose i.faults i'.faults none unread.2)
+lost_by terms packets now found size at i i' o o' none none' (inr fails) = inr (later_rose o.faults o'.faults none' fails.2.rose)
 
 -- A match that ended by a fault of its link.
 lost_failed : {W : Type 0} (terms : Terms W) (old new : NetState) (client frames : ℕ) (sim : Option W) →
@@ -44,7 +44,7 @@ lost_failed : {W : Type 0} (terms : Terms W) (old new : NetState) (client frames
 lost_failed terms old new client frames sim played =
     subst (λ given. Rose 0 (link_faults given 0)) (sym played.lends.given)
     (half_rose played.input_after.faults played.output_after.faults
-    (lost_by terms played.plays.plays.now played.plays.plays.found (length played.plays.plays.link.taken) played.plays.plays.at played.input played.input_after played.output played.output_after
+    (lost_by terms played.plays.plays.packets played.plays.plays.now played.plays.plays.found (length played.plays.plays.link.taken) played.plays.plays.at played.input played.input_after played.output played.output_after
     played.lends.link.no_input_faults played.lends.link.no_output_faults played.plays.plays.ends))
 
 played_causes : {W : Type 0} (hash : W → ℕ) (summary : W → Summary) (terms : Terms W) (answer : PlayEnd) (client frames : ℕ) (sim : Option W) (status : ℕ) (old new : NetState) (R S : Type 0) →

@@ -31,7 +31,8 @@ pub record PlayedLink {W : Type 0} (terms : Terms W) (old new : NetState)
   pub lends : LendsLink old new input input_after output output_after
   pub plays : PlaysAs terms input input_after output output_after answer client frames sim
 
--- Memory ran out in the match: what was written is a prefix of what these terms write.
+-- Memory ran out in the match: all was written that these terms write to some packets that the bytes
+-- begin with, or nothing.
 pub record PartlyPlayedLink {W : Type 0} (terms : Terms W) (old new : NetState) : Type 0 where
   pub input : SourceState
   pub input_after : SourceState

@@ -44,8 +44,8 @@ serve_step query contents = standing_step query.rules query.map_file contents
 -- The match was served over that.
 abbrev pub ServesOver : ServePlain → ℕ → (old new : WithLinks) → Setup × ℕ → Type 0
 ServesOver query status old new made =
-    ServesBy (served_match query made.0) (invite_of query made.1) status old.net new.net old.sink
-    new.sink
+    ServesBy (served_match query made.0) (invite_of query made.1) status old.net new.net old.console
+    new.console old.sink new.sink
 
 -- The same, or why the command ended before is printed: net and console are as they were.
 abbrev pub ServesFrom :

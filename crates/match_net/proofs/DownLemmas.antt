@@ -313,11 +313,13 @@ tries_more old now new packets fed asked_fed after answer none is takes stream =
             )
     by_answer (Some next.Lost) undecided takes =
         let means = takes.means in
-        let rose = means.1 in
+        let open_yet = means.1 in
+        let rose = means.2 in
         let earlier = stream.later in
         let finds = found_nothing old now new packets fed (Ok None) takes.taken stream undecided
         takes.took means.0 takes.later in
-        (fed.at, finds.0, omega (arith, earlier, rose))
+        let size = finds.1 in
+        (fed.at, finds.0, omega (arith, size, open_yet), omega (arith, earlier, rose))
 
 -- An attempt for which memory runs out.
 tries_spill :

@@ -13,3 +13,5 @@ pub mod DownLemmas
 pub mod TickLemmas
 pub mod PlayLemmas
 pub mod OpeningLemmas
+pub mod FoldLemmas
+pub mod AgreedLemmas

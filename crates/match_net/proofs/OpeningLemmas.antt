@@ -2,7 +2,7 @@
 -- back.
 use Rattle.std.proofs.Common.{◌≡◌, ℕ, ◌≤◌, Bool, true, false, List, [], ◌∷◌, ◌++◌, length, Option}
 use Rattle.std.proofs.Common.{Some, None, Result, Ok, Err, refl, sym, ap, subst, ◌∙◌, arith}
-use Rattle.std.proofs.Common.{append_assoc, inr}
+use Rattle.std.proofs.Common.{inl, inr}
 use Rattle.std.specs.Prelude.{OnErr}
 use Rattle.std.specs.Option.{option_map}
 use Rattle.base.specs.Cause.{Rose}
@@ -28,8 +28,8 @@ use Rattle.match_net.specs.Stages.{Terms, after_first}
 use Rattle.match_net.specs.Stages.{halt_of, halt_in}
 use Rattle.match_net.specs.Stages.{is_match, welcomed, greeting_bytes}
 use Rattle.match_net.specs.Downward.{InStream, Finds, NextMeans, Spills}
-use Rattle.match_net.specs.PlayMatch.{HasSaid, FailsWithin, EndsBy, PlaysTo, PlaysAs, PlaysPartly}
-use Rattle.match_net.specs.PlayMatch.{PutMeans}
+use Rattle.match_net.specs.PlayMatch.{HasSaid, FailsWithin, FailsAfter, EndsBy, PlaysTo, PlaysAs}
+use Rattle.match_net.specs.PlayMatch.{PlaysPartly, PutMeans}
 use Rattle.match_net.specs.PlayMatch.{ActMeans, Shows}
 use Rattle.match_net.proofs.TakingLemmas.{took_nothing}
 use Rattle.match_net.proofs.TickLemmas.{round_moves}
@@ -146,8 +146,8 @@ first_ends {W = W} terms old now before later at packet more how answer client f
     (by_end how ends)) shows
   where
     by_end : (how : PlayEnd) → FirstEnds terms packet at how →
-        EndsBy terms None (Ok (Some (packet, more))) (length finds.taken) at old now before later
-        how
+        EndsBy terms [] None (Ok (Some (packet, more))) (length finds.taken) at old now before
+        later how
     by_end end.Over ends = absurd ends
     by_end (end.Refused code) ends = (ap halt_of ends, said)
     by_end (end.BadLink place why) ends = (
@@ -223,12 +223,18 @@ greeting_fails terms state before later bytes answer client frames sim is wrote 
     not_shown terms state state before later end.Lost answer client frames sim
     (unwelcomed_end terms state state before later 0 (packet_at down_at []) end.Lost client frames
     sim (nothing_found state)
-    (inr (record {
-      wrote = subst (WrotePrefix before.written later.written) is wrote;
-      later =
-          later_count;
-      rose = rose;
-    })))
+    (inr (
+      [],
+      inl (refl, refl),
+      record {
+        part = wrote.prefix;
+        rest = wrote.rest;
+        whole = wrote.whole ∙ is;
+        wrote = wrote.wrote;
+        later = later_count;
+        rose = rose;
+      },
+    )))
     shows
 
 -- Memory that runs out before anything is written.
@@ -243,14 +249,7 @@ out_at_once terms state sink =
       link = nothing_found state;
       now = None;
       follows = refl;
-      later = omega arith;
-      wrote = record {
-        prefix = [];
-        rest = greeting_bytes terms.rules;
-        whole = refl;
-        wrote =
-            Wrote-nil sink.written;
-      };
+      wrote = inr (refl, record { wrote = Wrote-nil sink.written; later = omega arith });
     }
 
 -- What holds at once holds after any fault.
@@ -282,19 +281,17 @@ said_more first mid last said bytes had has =
     }
 
 pub fails_more : (first mid last : SinkState) (said bytes : List ℕ) → HasSaid first mid said →
-    FailsWithin mid last bytes → FailsWithin first last (said ++ bytes)
+    FailsWithin mid last bytes → FailsAfter first last said (said ++ bytes)
 fails_more first mid last said bytes had fails =
     let earlier = had.later in
     let rose = fails.rose in
     let part = fails.wrote in
     record {
-      wrote = record {
-        prefix = said ++ part.prefix;
-        rest = part.rest;
-        whole = append_assoc said part.prefix part.rest ∙ ap (λ (b : List ℕ). said ++ b) part.whole;
-        wrote = Wrote-append first.written mid.written last.written said part.prefix had.wrote
-            part.wrote;
-      };
+      part = part.prefix;
+      rest = part.rest;
+      whole = ap (λ (b : List ℕ). said ++ b) part.whole;
+      wrote = Wrote-append first.written mid.written last.written said part.prefix had.wrote
+          part.wrote;
       later = omega (arith, had.later, fails.later);
       rose = omega (arith, earlier, rose);
     }
@@ -317,7 +314,7 @@ pub act_fails :
     record { player = after; said = bytes }
     ≡ round course script (record { player = player; said = start }) →
     found ≡ Some answer → PutMeans mid last written found → HasSaid first mid said →
-    ActMeans (round course script (record { player = player; said = said })) after first last
+    ActMeans said (round course script (record { player = player; said = said })) after first last
     (Some answer)
 act_fails {W = W} course script player after bytes start written said first mid last answer found
     none same is some put had =
@@ -326,8 +323,8 @@ act_fails {W = W} course script player after bytes start written said first mid 
     (subst (PutMeans mid last written) some put))
   where
     by_answer : (answer : PlayEnd) → PutMeans mid last bytes (Some answer) →
-        ActMeans (round course script (record { player = player; said = said })) after first last
-        (Some answer)
+        ActMeans said (round course script (record { player = player; said = said })) after first
+        last (Some answer)
     by_answer end.Over put = absurd put
     by_answer (end.Refused code) put = absurd put
     by_answer (end.BadLink at why) put = absurd put
@@ -335,7 +332,7 @@ act_fails {W = W} course script player after bytes start written said first mid 
         let now = from_start course script player after bytes start none is in
         let moved = round_moves course script player after said bytes now in (
           moved.0,
-          subst (FailsWithin first last) (sym moved.1)
+          subst (FailsAfter first last said) (sym moved.1)
               (fails_more first mid last said bytes had put),
         )
 
@@ -367,7 +364,8 @@ pub act_goes :
     ≡ round course script (record { player = player; said = start }) →
     found ≡ None → PutMeans mid last written found → over ≡ is_over after.peer → over ≡ false →
     HasSaid first mid said →
-    ActMeans (round course script (record { player = player; said = said })) after first last None
+    ActMeans said (round course script (record { player = player; said = said })) after first last
+    None
 act_goes course script player after bytes start written said first mid last found over nothing same
     is none put decides goes had =
     let went = acts_on course script player after bytes start written said first mid last found
@@ -382,7 +380,7 @@ pub act_ends :
     ≡ round course script (record { player = player; said = start }) →
     found ≡ None → PutMeans mid last written found → over ≡ is_over after.peer → over ≡ true →
     HasSaid first mid said →
-    ActMeans (round course script (record { player = player; said = said })) after first last
+    ActMeans said (round course script (record { player = player; said = said })) after first last
     (Some end.Over)
 act_ends course script player after bytes start written said first mid last found over nothing same
     is none put decides ends had =

@@ -5,7 +5,6 @@ use Rattle.std.proofs.Common.{inl, inr}
 use Rattle.std.specs.Prelude.{nat_lt, if◌then◌else◌, IfOk, OnErr}
 use Rattle.std.specs.Option.{option_map}
 use Rattle.base.specs.Steps.{◌>>=◌}
-use Rattle.base.specs.Written.{whole_prefix}
 use Rattle.game_io.specs.SourceState.{SourceState}
 use Rattle.game_io.specs.SinkState.{SinkState}
 use Rattle.game_orders.specs.declared.entry.Entry.{Entry as one_entry}
@@ -28,7 +27,7 @@ use Rattle.match_net.specs.Stages.{Terms, after_down, rounded, after_packet}
 use Rattle.match_net.specs.Stages.{after_packets, halt_of, halt_by, halt_at, halt_in, bad_at}
 use Rattle.match_net.specs.Stages.{bad_end, said_by, is_match, welcomed, greeting_bytes}
 use Rattle.match_net.specs.Downward.{InStream, Finds, NextMeans, Spills}
-use Rattle.match_net.specs.PlayMatch.{HasSaid, EndsBy, PlaysTo, PlaysAs, PlaysPartly}
+use Rattle.match_net.specs.PlayMatch.{HasSaid, SaidBefore, EndsBy, PlaysTo, PlaysAs, PlaysPartly}
 use Rattle.match_net.specs.PlayMatch.{PlaySoFar, PlayBegins, AfterTurn, TurnMeans}
 use Rattle.match_net.specs.PlayMatch.{ActMeans, HeedMeans, Shows}
 use Rattle.match_net.proofs.DownLemmas.{stands_next}
@@ -110,12 +109,13 @@ not_early player (down.Entry c n e) why is early =
 -- After a player has acted: `after` is how it stands.
 pub acted :
     {W : Type 0} (terms : Terms W) (old now : SourceState) (before later : SinkState)
-    (packets : List Down) (after : Stage W) (player : Player W) (fed : Fed)
+    (packets : List Down) (said : List ℕ) (after : Stage W) (player : Player W) (fed : Fed)
     (answer : Option PlayEnd) →
     InStream old now packets fed → after_packets terms None packets ≡ Ok (Some after) →
-    ActMeans after player before later answer →
+    SaidBefore terms packets said → ActMeans said after player before later answer →
     AfterTurn terms old now before later player fed answer
-acted {W = W} terms old now before later packets after player fed None stream follows acts =
+acted {W = W} terms old now before later packets said after player fed None stream follows had
+    acts =
     record {
       packets = packets;
       stream = stream;
@@ -126,8 +126,8 @@ acted {W = W} terms old now before later packets after player fed None stream fo
       going = acts.1;
       wrote = acts.2;
     }
-acted {W = W} terms old now before later packets after player fed (Some end.Over) stream follows
-    acts =
+acted {W = W} terms old now before later packets said after player fed (Some end.Over) stream
+    follows had acts =
     record {
       packets = packets;
       at = fed.at;
@@ -142,12 +142,12 @@ acted {W = W} terms old now before later packets after player fed (Some end.Over
         acts.2,
       );
     }
-acted terms old now before later packets after player fed (Some (end.Refused code)) stream follows
-    acts = absurd acts
-acted terms old now before later packets after player fed (Some (end.BadLink at why)) stream follows
-    acts = absurd acts
-acted {W = W} terms old now before later packets after player fed (Some end.Lost) stream follows
-    acts =
+acted terms old now before later packets said after player fed (Some (end.Refused code)) stream
+    follows had acts = absurd acts
+acted terms old now before later packets said after player fed (Some (end.BadLink at why)) stream
+    follows had acts = absurd acts
+acted {W = W} terms old now before later packets said after player fed (Some end.Lost) stream
+    follows had acts =
     record {
       packets = packets;
       at = fed.at;
@@ -156,7 +156,7 @@ acted {W = W} terms old now before later packets after player fed (Some end.Lost
       now = Some after;
       follows = follows;
       player_is = ap (λ (p : Player W). Some p) acts.0;
-      ends = inr acts.1;
+      ends = inr (said, had, acts.1);
     }
 
 -- After a packet.
@@ -177,12 +177,20 @@ after_heed {W = W} terms old mid now before first later player after fed next_fe
         HeedMeans terms.course terms.script d player so_far.said at after before later answer →
         AfterTurn terms old now before later after next_fed answer
     by_down (Ok next_player) is acts =
-        acted terms old now before later (so_far.packets ++ packet ∷ [])
+        acted terms old now before later (so_far.packets ++ packet ∷ []) so_far.said
         (round terms.course terms.script (record { player = next_player; said = so_far.said }))
         after next_fed answer found.0
         (after_one_more terms so_far.packets None
         (Some (record { player = player; said = so_far.said })) _ packet so_far.follows
         (later_on terms player so_far.said packet so_far.going ∙ ap (rounded terms so_far.said) is))
+        (inr (record {
+          earlier = so_far.packets;
+          last = packet;
+          packets_are = refl;
+          stage = Some (record { player = player; said = so_far.said });
+          follows = so_far.follows;
+          said_is = refl;
+        }))
         acts
     by_down (Err why) is ends =
         subst (λ (a : Option PlayEnd). AfterTurn terms old now before later after next_fed a)
@@ -263,6 +271,7 @@ after_lost terms old mid now before first player fed next_fed so_far lost =
       ends = inl (
         halts_later terms player so_far.said (Ok None) so_far.going,
         lost.2,
+        lost.3,
         so_far.wrote,
       );
     }
@@ -282,8 +291,7 @@ partly terms old now before later packets at found stage link follows said =
       link = link;
       now = stage;
       follows = follows;
-      later = said.later;
-      wrote = whole_prefix before.written later.written (said_by terms.rules stage) said.wrote;
+      wrote = inl said;
     }
 
 pub turn_spills :
@@ -311,7 +319,7 @@ pub unwelcomed_end :
     {W : Type 0} (terms : Terms W) (old now : SourceState) (before later : SinkState) (at : ℕ)
     (found : FirstPacket Down) (answer : PlayEnd) (client frames : ℕ) (sim : Option W) →
     (link : Finds old now [] at found) →
-    EndsBy terms None found (length link.taken) at old now before later answer →
+    EndsBy terms [] None found (length link.taken) at old now before later answer →
     Shows None client frames sim → PlaysAs terms old now before later answer client frames sim
 unwelcomed_end terms old now before later at found answer client frames sim link ends shows =
     record {
@@ -347,7 +355,7 @@ pub unwelcomed_lost :
     Shows None client frames sim → PlaysAs terms old now before later end.Lost client frames sim
 unwelcomed_lost terms old now before later fed client frames sim lost said shows =
     unwelcomed_end terms old now before later lost.0 (Ok None) end.Lost client frames sim lost.1
-    (inl (refl, lost.2, said)) shows
+    (inl (refl, lost.2, lost.3, said)) shows
 
 pub unwelcomed_spills :
     {W : Type 0} (terms : Terms W) (old now : SourceState) (before later : SinkState) →
@@ -368,6 +376,7 @@ begins {W = W} terms old now before later player fed client clients lag seed fit
     record {
       packets = down.Welcome client clients lag seed ∷ [];
       stream = stream;
+      first = (down.Welcome client clients lag seed, refl);
       follows =
           rw fits (ap
           (λ (p : Player W). Ok
@@ -440,15 +449,24 @@ pub first_act :
     {W : Type 0} (terms : Terms W) (old now : SourceState) (before first later : SinkState)
     (player after : Player W) (fed : Fed) (answer : Option PlayEnd) →
     ((start : SinkState) (said : List ℕ) → HasSaid start first said →
-    ActMeans (round terms.course terms.script (record { player = player; said = said })) after start
-    later answer) →
+    ActMeans said (round terms.course terms.script (record { player = player; said = said })) after
+    start later answer) →
     PlayBegins terms old now before first player fed →
     AfterTurn terms old now before later after fed answer
 first_act terms old now before first later player after fed answer acts begins =
-    acted terms old now before later begins.packets
+    acted terms old now before later begins.packets (greeting_bytes terms.rules)
     (round terms.course terms.script
     (record { player = player; said = greeting_bytes terms.rules })) after fed answer
-    begins.stream begins.follows (acts before (greeting_bytes terms.rules) begins.wrote)
+    begins.stream begins.follows
+    (inr (record {
+      earlier = [];
+      last = begins.first.0;
+      packets_are = begins.first.1;
+      stage = None;
+      follows = refl;
+      said_is = refl;
+    }))
+    (acts before (greeting_bytes terms.rules) begins.wrote)
 
 pub first_out :
     {W : Type 0} (terms : Terms W) (old now : SourceState) (before first later : SinkState)
@@ -483,7 +501,7 @@ pub first_ended :
     (player after : Player W) (fed : Fed) (found : Option PlayEnd) (answer : PlayEnd) →
     found ≡ Some answer →
     ((start : SinkState) (said : List ℕ) → HasSaid start first said →
-    ActMeans (round terms.course terms.script (record { player = player; said = said })) after
+    ActMeans said (round terms.course terms.script (record { player = player; said = said })) after
     start later found) →
     PlayBegins terms old now before first player fed →
     PlaysTo terms old now before later (Some after) answer
@@ -495,7 +513,7 @@ pub first_goes :
     {W : Type 0} (terms : Terms W) (old now : SourceState) (before first later : SinkState)
     (player after : Player W) (fed : Fed) (found : Option PlayEnd) → found ≡ None →
     ((start : SinkState) (said : List ℕ) → HasSaid start first said →
-    ActMeans (round terms.course terms.script (record { player = player; said = said })) after
+    ActMeans said (round terms.course terms.script (record { player = player; said = said })) after
     start later found) →
     PlayBegins terms old now before first player fed →
     PlaySoFar terms old now before later after fed

@@ -37,7 +37,7 @@ pub record Finds (old now : SourceState) (packets : List Down) (at : ℕ) (found
   pub place : at + length rest ≡ length taken
 
 -- What an answer on the next packet says: it came; or for this cause there is none; or the link
--- failed before it was whole.
+-- failed before it was whole, and before the most bytes were taken that a player takes.
 abbrev pub NextMeans : SourceState → SourceState → List Down → Fed → Next → Type 0
 NextMeans old now packets fed (next.Packet at packet) =
     InStream old now (packets ++ packet ∷ []) fed
@@ -46,7 +46,8 @@ NextMeans old now packets fed (next.Bad at why) =
     (found : FirstPacket Down) × (finds : Finds old now packets at found)
     × (bad_at (length finds.taken) found ≡ Some why) × (why ≡ cause.Early → NoneLeft now.left)
 NextMeans old now packets fed next.Lost =
-    (at : ℕ) × Finds old now packets at (Ok None) × Rose old.faults now.faults
+    (at : ℕ) × (finds : Finds old now packets at (Ok None))
+    × (length finds.taken < MAX_PLAY_BYTES) × Rose old.faults now.faults
 
 -- What is so where memory runs out on the way: some bytes may be lost.
 abbrev pub Spills : SourceState → SourceState → List Down → Type 0
@@ -91,7 +92,8 @@ MoreMeans old new before after taken (Some (next.Bad at why)) =
     (taken ≡ []) × (at ≡ before.at) × (why ≡ bad_end (before.at + length before.rest))
     × (why ≡ cause.Early → NoneLeft new.left)
 MoreMeans old new before after taken (Some next.Lost) =
-    (taken ≡ []) × Rose old.faults new.faults
+    (taken ≡ []) × (before.at + length before.rest < MAX_PLAY_BYTES)
+    × Rose old.faults new.faults
 
 -- The taking of more bytes: the feeder was fed a piece; or there was none to take.
 pub record TakesMore (old new : SourceState) (before after : Fed) (answer : Option Next) : Type 0

@@ -12,3 +12,4 @@ pub mod Playing
 pub mod Stages
 pub mod Downward
 pub mod PlayMatch
+pub mod CameDown

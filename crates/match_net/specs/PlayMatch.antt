@@ -1,6 +1,6 @@
 -- What a player's match leaves: what it read, what it wrote, and how it ended.
-use Rattle.std.specs.Prelude.{◌≡◌, ℕ, ◌≤◌, ◌⊎◌, List, length, true, false, Option, Some}
-use Rattle.std.specs.Prelude.{None, Result, Ok, Err}
+use Rattle.std.specs.Prelude.{◌≡◌, ℕ, ◌≤◌, ◌<◌, ◌⊎◌, List, [], ◌∷◌, ◌++◌, length, true, false}
+use Rattle.std.specs.Prelude.{Option, Some, None, Result, Ok, Err}
 use Rattle.std.specs.Option.{option_map}
 use Rattle.base.specs.Cause.{Rose}
 use Rattle.base.specs.Written.{Wrote, WrotePrefix}
@@ -11,6 +11,7 @@ use Rattle.order_packets.specs.declared.down.Down.{Down}
 use Rattle.order_packets.specs.PacketReading.{FirstPacket}
 use Rattle.order_packets.specs.Feed.{Fed}
 use Rattle.match_net.specs.declared.halt.Halt.TheVariants as halt
+use Rattle.match_net.specs.declared.limits.TheConstants.{MAX_PLAY_BYTES}
 use Rattle.match_net.specs.declared.play_cause.PlayCause.{PlayCause}
 use Rattle.match_net.specs.declared.play_cause.PlayCause.TheVariants as cause
 use Rattle.match_net.specs.declared.play_end.PlayEnd.{PlayEnd}
@@ -29,33 +30,62 @@ Shows (Some player) client frames sim =
     (client ≡ player.peer.me) × (frames ≡ player.peer.ticked)
     × (sim ≡ Some player.peer.world)
 
--- All of these bytes were written, or a prefix of them, since the sink failed.
+-- All of these bytes were written.
 pub record HasSaid (old new : SinkState) (said : List ℕ) : Type 0 where
   pub wrote : Wrote old.written new.written said
   pub later : old.faults ≤ new.faults
 
+-- A prefix of them was written, since the sink failed.
 pub record FailsWithin (old new : SinkState) (said : List ℕ) : Type 0 where
   pub wrote : WrotePrefix old.written new.written said
   pub later : old.faults ≤ new.faults
   pub rose : Rose old.faults new.faults
 
+-- The sink failed in what was to be written last: all of `done` was written, and then a prefix of
+-- what is left of `said`.
+pub record FailsAfter (old new : SinkState) (done said : List ℕ) : Type 0 where
+  pub part : List ℕ
+  pub rest : List ℕ
+  pub whole : done ++ (part ++ rest) ≡ said
+  pub wrote : Wrote old.written new.written (done ++ part)
+  pub later : old.faults ≤ new.faults
+  pub rose : Rose old.faults new.faults
+
+-- All that there was to write before the last of these packets was followed. Before the first this
+-- is the greeting.
+pub record SaidTillLast {W : Type 0} (terms : Terms W) (packets : List Down) (said : List ℕ) :
+    Type 0 where
+  pub earlier : List Down
+  pub last : Down
+  pub packets_are : packets ≡ earlier ++ last ∷ []
+  pub stage : Option (Stage W)
+  pub follows : after_packets terms None earlier ≡ Ok stage
+  pub said_is : said ≡ said_by terms.rules stage
+
+-- All that was written before what was to be written last: without packets that is the greeting,
+-- before which there is nothing.
+abbrev pub SaidBefore : {W : Type 0} → Terms W → List Down → List ℕ → Type 0
+SaidBefore terms packets said =
+    ((packets ≡ []) × (said ≡ [])) ⊎ SaidTillLast terms packets said
+
 -- How a match ends, by what was found after the packets that it followed, at this place. All was
--- written that there was to write, unless the sink failed.
+-- written that there was to write; where the sink failed, all but what was to be written last.
 abbrev pub EndsBy :
-    {W : Type 0} → Terms W → Option (Stage W) → FirstPacket Down → ℕ → ℕ → SourceState →
-    SourceState → SinkState → SinkState → PlayEnd → Type 0
-EndsBy terms now found size at old new before after end.Over =
+    {W : Type 0} → Terms W → List Down → Option (Stage W) → FirstPacket Down → ℕ → ℕ →
+    SourceState → SourceState → SinkState → SinkState → PlayEnd → Type 0
+EndsBy terms packets now found size at old new before after end.Over =
     (halt_at terms now found ≡ Some halt.Over) × HasSaid before after (said_by terms.rules now)
-EndsBy terms now found size at old new before after (end.Refused code) =
+EndsBy terms packets now found size at old new before after (end.Refused code) =
     (halt_at terms now found ≡ Some (halt.Refused code))
     × HasSaid before after (said_by terms.rules now)
-EndsBy terms now found size at old new before after (end.BadLink place why) =
+EndsBy terms packets now found size at old new before after (end.BadLink place why) =
     (place ≡ at) × (option_map (halt_in size) (halt_at terms now found) ≡ Some (halt.Bad why))
     × (why ≡ cause.Early → NoneLeft new.left) × HasSaid before after (said_by terms.rules now)
-EndsBy terms now found size at old new before after end.Lost =
-    ((halt_at terms now found ≡ Some halt.Open) × Rose old.faults new.faults
-    × HasSaid before after (said_by terms.rules now))
-    ⊎ FailsWithin before after (said_by terms.rules now)
+EndsBy terms packets now found size at old new before after end.Lost =
+    ((halt_at terms now found ≡ Some halt.Open) × (size < MAX_PLAY_BYTES)
+    × Rose old.faults new.faults × HasSaid before after (said_by terms.rules now))
+    ⊎ ((done : List ℕ) × SaidBefore terms packets done
+    × FailsAfter before after done (said_by terms.rules now))
 
 -- A player's match to its end: what it read begins with these packets, and what it wrote, and what
 -- it is now, is what these make of it.
@@ -68,7 +98,7 @@ pub record PlaysTo {W : Type 0} (terms : Terms W) (old new : SourceState) (befor
   pub now : Option (Stage W)
   pub follows : after_packets terms None packets ≡ Ok now
   pub player_is : player ≡ player_of now
-  pub ends : EndsBy terms now found (length link.taken) at old new before after answer
+  pub ends : EndsBy terms packets now found (length link.taken) at old new before after answer
 
 -- The same, with what is handed back.
 pub record PlaysAs {W : Type 0} (terms : Terms W) (old new : SourceState) (before after : SinkState)
@@ -77,8 +107,8 @@ pub record PlaysAs {W : Type 0} (terms : Terms W) (old new : SourceState) (befor
   pub plays : PlaysTo terms old new before after player answer
   pub shows : Shows player client frames sim
 
--- Where memory runs out: what was written is a prefix of what a player writes to the packets that
--- the bytes begin with.
+-- Where memory runs out: all was written that there was to write after the packets that it
+-- followed, or nothing was written and no packet followed.
 pub record PlaysPartly {W : Type 0} (terms : Terms W) (old new : SourceState)
     (before after : SinkState) : Type 0 where
   pub packets : List Down
@@ -87,8 +117,8 @@ pub record PlaysPartly {W : Type 0} (terms : Terms W) (old new : SourceState)
   pub link : Finds old new packets at found
   pub now : Option (Stage W)
   pub follows : after_packets terms None packets ≡ Ok now
-  pub later : before.faults ≤ after.faults
-  pub wrote : WrotePrefix before.written after.written (said_by terms.rules now)
+  pub wrote :
+      HasSaid before after (said_by terms.rules now) ⊎ ((packets ≡ []) × HasSaid before after [])
 
 -- A match that goes on.
 pub record PlaySoFar {W : Type 0} (terms : Terms W) (old now : SourceState)
@@ -106,6 +136,7 @@ pub record PlayBegins {W : Type 0} (terms : Terms W) (old now : SourceState)
     (before after : SinkState) (player : Player W) (fed : Fed) : Type 0 where
   pub packets : List Down
   pub stream : InStream old now packets fed
+  pub first : (packet : Down) × (packets ≡ packet ∷ [])
   pub follows :
       after_packets terms None packets
       ≡ Ok (Some (round terms.course terms.script
@@ -147,17 +178,17 @@ PutMeans old new bytes (Some (end.Refused code)) = ⊥
 PutMeans old new bytes (Some (end.BadLink at why)) = ⊥
 PutMeans old new bytes (Some end.Lost) = FailsWithin old new bytes
 
--- What a player's acting says: `next` is how it stands then.
+-- What the acting of a player says that had said this before: `next` is how it stands then.
 abbrev pub ActMeans :
-    {W : Type 0} → Stage W → Player W → SinkState → SinkState → Option PlayEnd → Type 0
-ActMeans next player before after None =
+    {W : Type 0} → List ℕ → Stage W → Player W → SinkState → SinkState → Option PlayEnd → Type 0
+ActMeans said next player before after None =
     (player ≡ next.player) × (is_over player.peer ≡ false) × HasSaid before after next.said
-ActMeans next player before after (Some end.Over) =
+ActMeans said next player before after (Some end.Over) =
     (player ≡ next.player) × (is_over player.peer ≡ true) × HasSaid before after next.said
-ActMeans next player before after (Some (end.Refused code)) = ⊥
-ActMeans next player before after (Some (end.BadLink at why)) = ⊥
-ActMeans next player before after (Some end.Lost) =
-    (player ≡ next.player) × FailsWithin before after next.said
+ActMeans said next player before after (Some (end.Refused code)) = ⊥
+ActMeans said next player before after (Some (end.BadLink at why)) = ⊥
+ActMeans said next player before after (Some end.Lost) =
+    (player ≡ next.player) × FailsAfter before after said next.said
 
 -- What a packet after the first one leaves, by what it makes of the player: it acts on, or the
 -- match ends.
@@ -165,6 +196,7 @@ abbrev pub HeedMeans :
     {W : Type 0} → Course W → List (List Order) → Result (Player W) PlayCause → Player W →
     List ℕ → ℕ → Player W → SinkState → SinkState → Option PlayEnd → Type 0
 HeedMeans course script (Ok mid) old said at new before after answer =
-    ActMeans (round course script (record { player = mid; said = said })) new before after answer
+    ActMeans said (round course script (record { player = mid; said = said })) new before after
+    answer
 HeedMeans course script (Err why) old said at new before after answer =
     (answer ≡ Some (end.BadLink at why)) × (new ≡ old) × HasSaid before after said

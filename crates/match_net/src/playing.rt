@@ -48,7 +48,7 @@ fn act<S: Sim, O: Sink>(
 ) -> Result<Option<PlayEnd>, NoMemory>
     ensures acts { IfOk result (λ answer. (first : SinkState) (said : List ℕ) →
         HasSaid first (O.state link.old) said →
-        ActMeans (round (record { after = S.after; hash = S.hash_of }) script.now
+        ActMeans said (round (record { after = S.after; hash = S.hash_of }) script.now
         (stage_at player.old.peer player.old.sealed player.old.quiet said))
         (player_at player.new.peer player.new.sealed player.new.quiet) first (O.state link.new)
         answer) }

@@ -1,8 +1,9 @@
-ghost use Rattle.std.specs.Prelude.{◌≡◌, ◌≤◌, ◌-◌, [], false, nat_lt, length};
+ghost use Rattle.std.specs.Prelude.{◌≡◌, ◌<◌, ◌≤◌, ◌-◌, [], ◌∷◌, ◌++◌, false, nat_lt, length};
+ghost use Rattle.game_orders.specs.declared.limits.TheConstants.{MAX_CLIENTS};
 ghost use Rattle.match_run.specs.Taken.{entry_taken};
 
 use frame_core::PlayList;
-use game_orders::Entry;
+use game_orders::{Entry, Frame};
 use std::alloc::Global;
 
 /// What the ticking thread has taken of one client's column.
@@ -38,15 +39,17 @@ impl Taken {
         ((n - self.from) as usize) < self.plays.len()
     }
 
-    /// The entry at frame `n`, which is not below `from`: the play that was taken, or a departure.
-    pub(crate) fn entry(&self, n: u32) -> Entry
-        requires { self.now.from ≤ n }
-        ensures { result ≡ entry_taken self.now n }
+    /// Adds the entry at frame `n`, which is not below `from`, to a frame with room for it: the play
+    /// that was taken, or a departure.
+    pub(crate) fn add_to(&self, n: u32, frame: &mut Frame)
+        requires from { self.now.from ≤ n }
+        requires room { length frame.old < MAX_CLIENTS }
+        ensures { frame.new ≡ frame.old ++ entry_taken self.now n ∷ [] }
     {
         if self.has_play(n) {
-            Entry::Play(self.plays.get((n - self.from) as usize))
+            frame.push_play(self.plays.play((n - self.from) as usize));
         } else {
-            Entry::Leave
+            frame.push(Entry::Leave);
         }
     }
 }

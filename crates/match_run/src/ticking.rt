@@ -47,10 +47,11 @@ pub(crate) fn tick_all<S: Sim, R: Wait>(
         (frames_of scripts.now)) }
 {
     let mut taken = nothing_taken(alloc, scripts)?;
+    let mut frame = Frame::empty();
     let mut n: u32 = 0;
     for _turn in rt.forever() {
         if has_frame(scripts, taken.as_slice(), n) {
-            tick(scripts, taken.as_slice(), n, sim);
+            tick(scripts, taken.as_slice(), n, &mut frame, sim);
             n += 1;
             continue;
         }
@@ -95,8 +96,8 @@ fn has_frame(scripts: &Scripts, taken: &[Taken], n: u32) -> bool
     played
 }
 
-/// Steps the world by frame `n`, which was taken.
-fn tick<S: Sim>(scripts: &Scripts, taken: &[Taken], n: u32, sim: &mut S)
+/// Steps the world by frame `n`, which was taken, and is put together in `frame`.
+fn tick<S: Sim>(scripts: &Scripts, taken: &[Taken], n: u32, frame: &mut Frame, sim: &mut S)
     requires taken { AreTaken scripts.now taken.now n }
     requires has { HasFrame taken.now n }
     requires clients { S.clients_of sim.old ≡ length scripts.now }
@@ -107,11 +108,11 @@ fn tick<S: Sim>(scripts: &Scripts, taken: &[Taken], n: u32, sim: &mut S)
     ensures steps { S.steps sim.new ≡ S.steps sim.old + 1 }
 {
     let _clients = scripts.clients();
-    let mut frame = Frame::empty();
+    frame.clear();
     for own in taken {
-        frame.push(own.entry(n));
+        own.add_to(n, frame);
     }
-    sim.step(&frame);
+    sim.step(frame);
 }
 
 /// Takes more plays of each client of whom frame `n` wasn't taken. The pass has seen it of each.

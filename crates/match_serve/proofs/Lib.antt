@@ -3,11 +3,13 @@ pub mod TickLemmas
 pub mod SplitLemmas
 pub mod SessionLemmas
 pub mod SeatLemmas
+pub mod SentLemmas
 pub mod PieceLemmas
 pub mod LeaveLemmas
 pub mod HeardLemmas
 pub mod AcceptLemmas
 pub mod CloseLemmas
+pub mod LineLemmas
 pub mod ConsoleLemmas
 pub mod HandLemmas
 pub mod MatchLemmas

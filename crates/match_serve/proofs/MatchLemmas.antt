@@ -1,5 +1,5 @@
 -- The whole match, from what its parts did.
-use Rattle.std.proofs.Common.{◌≡◌, ℕ, zero, suc, ◌+◌, ◌-◌, ◌/◌, ◌^◌, ◌<◌, ◌≤◌, ◌⊎◌, true, List, [], ◌∷◌, length, map, drop, replicate, get_or, Option, refl, sym, ap, ap₂, ◌∙◌, subst, inl, inr, arith}
+use Rattle.std.proofs.Common.{◌≡◌, ℕ, zero, suc, ◌+◌, ◌-◌, ◌/◌, ◌^◌, ◌<◌, ◌≤◌, ◌⊎◌, Bool, true, false, List, [], ◌∷◌, length, map, drop, replicate, get_or, Option, refl, sym, ap, ap₂, ◌∙◌, subst, inl, inr, arith}
 use Rattle.std.specs.Prelude.{slice_get, All}
 use Rattle.std.specs.Option.{option_map}
 use Rattle.std.proofs.lemmas.Bool.{cases_lt}
@@ -25,10 +25,12 @@ use Rattle.report_line.specs.Order.{AreOf, of_client, IsInterleaving}
 use Rattle.match_net.specs.declared.invite.Invite.{Invite}
 use Rattle.match_serve.specs.declared.link_end.LinkEnd.{LinkEnd}
 use Rattle.match_serve.specs.declared.link_end.LinkEnd.TheVariants as end
-use Rattle.match_serve.specs.Passes.{IsServePass, AllGone, columns_of}
+use Rattle.match_serve.specs.Passes.{IsServePass, Learns, FixedNone, IsKicking, AllGone, columns_of}
 use Rattle.match_serve.specs.Heard.{HasHeard, first_report}
 use Rattle.match_serve.specs.Seats.{PieceState, IsNewSeat, AreNewPieces}
 use Rattle.match_serve.specs.Ticks.{TicksAll}
+use Rattle.game_io.specs.SourceState.{SourceState}
+use Rattle.match_serve.specs.Console.{ConsoleRead, AreKicked}
 use Rattle.match_serve.specs.Serve.{IsOver, IsGreatest, ServesLink, ServesMatch}
 use Rattle.match_serve.specs.Closed.{LinkClosed}
 use Rattle.match_serve.proofs.PassLemmas.{column_known, length_known}
@@ -63,6 +65,11 @@ module _ (clients : ℕ) (table : FrameTable) (ticked joined handed gone : Pass)
       same_columns (view_of ticked).marks (view_of gone).marks (of_gone.of_table.marks ∙ sym of_ticked.of_table.marks)
       (λ c below. gone_known c (let m = of_ticked.of_table.marks in let k = of_ticked.count in omega arith))
 
+  pub columns_joined : IsServePass clients table joined → columns_of gone ≡ columns_of joined
+  columns_joined of_joined =
+      same_columns (view_of joined).marks (view_of gone).marks (of_gone.of_table.marks ∙ sym of_joined.of_table.marks)
+      (λ c below. let less : c < clients = (let m = of_joined.of_table.marks in let k = of_joined.count in omega arith) in gone_known c less ∙ sym (joined_known c less))
+
   pub over : (view_of gone).share ≡ 2 ^ 62 → IsOver clients table gone
   over share =
       record {
@@ -87,8 +94,8 @@ module _ (clients : ℕ) (table : FrameTable) (ticked joined handed gone : Pass)
       reach (inr (c, below, has)) = inr (c, below, subst (λ (k : Column). n ≤ length_of k) (sym (column_known (view_of gone) c ∙ gone_known c below)) has)
 
 -- A link, with what was heard over it.
-served_link : (c : ℕ) (invite : Invite) (columns : List Column) (column : Column) (reports : List (List (Option ℕ))) (clients : ℕ) (heard : List Heard) (lists : List (List Heard)) (coming : Option (List (List ℕ))) (back : Option (Option TakenBack)) (how : LinkEnd) → c < clients → column_of columns c ≡ column → LinkClosed c invite column (get_or lists c []) coming back how → HasHeard clients reports heard → of_client c heard ≡ get_or lists c [] → ServesLink c invite columns (reports_of reports c) coming back how
-served_link c invite columns column reports clients heard lists coming back how below is closed has listed =
+served_link : (c : ℕ) (invite : Invite) (columns : List Column) (reports : List (List (Option ℕ))) (clients : ℕ) (heard : List Heard) (lists : List (List Heard)) (coming : Option (List (List ℕ))) (kicked : Bool) (fixed : ℕ) (back : Option (Option TakenBack)) (how : LinkEnd) → c < clients → LinkClosed c invite columns (get_or lists c []) coming kicked fixed back how → (fixed ≡ 0 → kicked ≡ true) → HasHeard clients reports heard → of_client c heard ≡ get_or lists c [] → ServesLink c invite columns (reports_of reports c) coming kicked back how
+served_link c invite columns reports clients heard lists coming kicked fixed back how below closed by has listed =
     record {
       input = closed.input;
       input_after = closed.input_after;
@@ -102,10 +109,25 @@ served_link c invite columns column reports clients heard lists coming back how 
       session = closed.session;
       rest = closed.rest;
       makes = closed.makes;
-      column = is ∙ closed.plays;
-      ends = closed.ends;
+      column = closed.plays;
+      ends = closed.ends by;
       kept = λ n within. has c n below within ∙ ap (λ l. first_report l n) (listed ∙ closed.reports);
+      sends = closed.sends;
+      sends_all = closed.sends_all;
     }
+
+-- Of each column one departure was fixed: by the console's pass, which fixed it only of clients that
+-- were kicked, or by those of the links.
+fixed_or_kicked : (kicked : Bool) (ticked watched joined fixed handed : ℕ) → ticked ≡ 0 → (kicked ≡ false → watched ≡ 0) → joined ≡ ticked + watched → handed ≡ joined + fixed → handed ≡ 1 → fixed ≡ 0 → kicked ≡ true
+fixed_or_kicked true ticked watched joined fixed handed a b c d e f = refl
+fixed_or_kicked false ticked watched joined fixed handed a b c d e f = absurd (let none = b refl in omega arith)
+
+pub fixed_by : (clients : ℕ) (table : FrameTable) (kicked : List Bool) (opening ticked began watched joined handed : Pass) (fixed : ℕ → ℕ) → FixedNone (view_of opening) → Learns (view_of opening) (view_of ticked) → FixedNone (view_of began) → IsKicking clients table kicked began watched →
+    ((c : ℕ) → c < clients → (standing joined c).made ≡ (standing ticked c).made + (standing watched c).made) → ((c : ℕ) → c < clients → (standing handed c).made ≡ (standing joined c).made + fixed c) → ((c : ℕ) → c < clients → (standing handed c).made ≡ 1) →
+    (c : ℕ) → c < clients → fixed c ≡ 0 → get_or kicked c false ≡ true
+fixed_by clients table kicked opening ticked began watched joined handed fixed none learns none_began kicking joins hands one c below =
+    fixed_or_kicked (get_or kicked c false) (standing ticked c).made (standing watched c).made (standing joined c).made (fixed c) (standing handed c).made
+    (learns.made c ∙ none c) (λ not. kicking.stays c below not ∙ none_began c) (joins c below) (hands c below) (one c below)
 
 -- Links that are new may be served.
 pub may_serve : (clients : ℕ) (table : FrameTable) (invite : Invite) (hearer : Hearer) (coming : Option (List (List ℕ))) (c : ℕ) (pieces : List PieceState) → AreNewPieces clients table invite hearer coming c pieces → All (λ piece. IsNewSeat piece.seat.invite.clients table piece.seat) pieces
@@ -116,21 +138,21 @@ may_serve clients table invite hearer coming c (piece ∷ pieces) are =
     (may_serve clients table invite hearer coming (c + 1) pieces are.1)
 
 -- All of it.
-pub serves : {W : Type 0} (m : Match W) (invite : Invite) (coming : Option (List (List ℕ))) (net : NetState) (table : FrameTable) (old : View) (ticked joined handed gone : Pass) (noted board : BoardState) (ends : List LinkEnd) (n : ℕ) (world : W) (heard : List Heard) (lists : List (List Heard)) →
-    IsServePass invite.clients table ticked → IsServePass invite.clients table gone → TicksAll m invite.clients old (view_of ticked) noted.wanted n world → ((c : ℕ) → c < invite.clients → GrowsTo (standing ticked c).known (standing joined c).known) →
+pub serves : {W : Type 0} (m : Match W) (invite : Invite) (coming : Option (List (List ℕ))) (console_old console_new : SourceState) (read : ConsoleRead console_old console_new) (net : NetState) (table : FrameTable) (old : View) (ticked joined handed gone : Pass) (noted board : BoardState) (ends : List LinkEnd) (n : ℕ) (world : W) (heard : List Heard) (lists : List (List Heard)) (kicked : List Bool) (fixed : ℕ → ℕ) →
+    IsServePass invite.clients table ticked → IsServePass invite.clients table joined → IsServePass invite.clients table gone → TicksAll m invite.clients old (view_of ticked) noted.wanted n world → ((c : ℕ) → c < invite.clients → GrowsTo (standing ticked c).known (standing joined c).known) →
     ((c : ℕ) → c < invite.clients → (standing handed c).known ≡ (standing joined c).known) → AllGone invite.clients (view_of handed) (view_of gone) → (view_of gone).share ≡ 2 ^ 62 →
     board.wanted ≡ noted.wanted → length board.reports ≡ invite.clients → length net.given ≡ invite.clients → net.coming ≡ option_map (drop invite.clients) coming → length ends ≡ invite.clients →
-    ((c : ℕ) → c < invite.clients → LinkClosed c invite (standing joined c).known (get_or lists c []) coming (slice_get net.given c) (get_or ends c end.Memory)) → HasHeard invite.clients board.reports heard → length lists ≡ invite.clients → IsInterleaving heard lists →
+    ((c : ℕ) → c < invite.clients → LinkClosed c invite (columns_of joined) (get_or lists c []) coming (get_or kicked c false) (fixed c) (slice_get net.given c) (get_or ends c end.Memory)) → AreKicked invite.clients read.bytes kicked → ((c : ℕ) → c < invite.clients → fixed c ≡ 0 → get_or kicked c false ≡ true) → HasHeard invite.clients board.reports heard → length lists ≡ invite.clients → IsInterleaving heard lists →
     ((all : List Heard) (each : List (List Heard)) → IsInterleaving all each → ((k : ℕ) → AreOf k (get_or each k [])) → (c : ℕ) → of_client c all ≡ get_or each c []) →
-    ServesMatch m invite coming net world n table gone board ends
-serves m invite coming net table old ticked joined handed gone noted board ends n world heard lists of_ticked of_gone ticks mine same all share wanted boards given still long links has count between law =
+    ServesMatch m invite coming console_old console_new net world n table gone board ends
+serves m invite coming console_old console_new read net table old ticked joined handed gone noted board ends n world heard lists kicked fixed of_ticked of_joined of_gone ticks mine same all share wanted boards given still long links kicked_are by has count between law =
     let clients = invite.clients in
     let left = ticks.left.left in
     let columns = columns_same clients table ticked joined handed gone of_ticked of_gone left mine same all in
-    let known = gone_known clients table ticked joined handed gone of_ticked of_gone left mine same all in
-    let was = joined_known clients table ticked joined handed gone of_ticked of_gone left mine same all in
+    let as_joined = columns_joined clients table ticked joined handed gone of_ticked of_gone left mine same all of_joined in
     let own : (k : ℕ) → AreOf k (get_or lists k []) = λ k. by_place k (cases_lt k (length lists)) in
     record {
+      console = read;
       over = over clients table ticked joined handed gone of_ticked of_gone left mine same all share;
       greatest = greatest clients table ticked joined handed gone of_ticked of_gone left mine same all m old noted.wanted n world ticks;
       at = subst (λ l. IsAt m.after m.start l n world) (sym columns) ticks.ticked.at;
@@ -139,7 +161,10 @@ serves m invite coming net table old ticked joined handed gone noted board ends 
       links_given = given;
       still_coming = still;
       ends_count = long;
-      links = λ c below. served_link c invite (columns_of gone) (standing joined c).known board.reports clients heard lists coming (slice_get net.given c) (get_or ends c end.Memory) below (column_known (view_of gone) c ∙ known c below ∙ sym (was c below)) (links c below) has (law heard lists between own c);
+      links = λ c below.
+          subst (λ k. ServesLink c invite (columns_of gone) (reports_of board.reports c) coming k (slice_get net.given c) (get_or ends c end.Memory)) (kicked_are c below)
+          (served_link c invite (columns_of gone) board.reports clients heard lists coming (get_or kicked c false) (fixed c) (slice_get net.given c) (get_or ends c end.Memory) below
+          (subst (λ l. LinkClosed c invite l (get_or lists c []) coming (get_or kicked c false) (fixed c) (slice_get net.given c) (get_or ends c end.Memory)) (sym as_joined) (links c below)) (by c below) has (law heard lists between own c));
     }
   where
     by_place : (k : ℕ) → (k < length lists) ⊎ (length lists ≤ k) → AreOf k (get_or lists k [])

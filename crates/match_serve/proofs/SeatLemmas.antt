@@ -99,7 +99,7 @@ sent_by (greeting.Fault fault) invite old new before mid answer sends = subst (L
 sent_by greeting.Ended invite old new before mid answer sends = subst (Learns before) (sym sends.1) (learns_refl before)
 sent_by greeting.Lost invite old new before mid answer sends = subst (Learns before) (sym sends.1) (learns_refl before)
 
-left_if : (c : ℕ) (mid after : View) (answer : SenderEnd) → LeavesIf c mid after answer → Keeps c mid after
+pub left_if : (c : ℕ) (mid after : View) (answer : SenderEnd) → LeavesIf c mid after answer → Keeps c mid after
 left_if c mid after sender.Sent same = subst (Keeps c mid) (sym same) (learned c mid mid (learns_refl mid))
 left_if c mid after sender.Lost leaves = taken_out c mid after leaves
 left_if c mid after sender.NoMemory leaves = taken_out c mid after leaves

@@ -37,11 +37,11 @@ both : (new : Option (List ℕ)) (xs ys : List ℕ) → option_map (λ left. xs 
 both None xs ys = refl
 both (Some bytes) xs ys = ap Some (sym (append_assoc xs ys bytes))
 
-took_more : (old mid new : Option (List ℕ)) (xs ys : List ℕ) → Took old mid xs → Took mid new ys → Took old new (xs ++ ys)
+pub took_more : (old mid new : Option (List ℕ)) (xs ys : List ℕ) → Took old mid xs → Took mid new ys → Took old new (xs ++ ys)
 took_more old mid new xs ys first second = first ∙ ap (option_map (λ left. xs ++ left)) second ∙ both new xs ys
 
 -- A count that rose since rose from the beginning.
-rose_since : (a b c : ℕ) → a ≤ b → Rose b c → Rose a c
+pub rose_since : (a b c : ℕ) → a ≤ b → Rose b c → Rose a c
 rose_since a b c less rose = grind (arith, less, rose)
 
 module _ (c here : ℕ) (bytes : List ℕ) (session : Session) (rest : List ℕ) (old mid new : SourceState) (later : old.faults ≤ mid.faults) where

@@ -197,3 +197,17 @@ module _ (clients : ℕ) (table : FrameTable) (p q r : Pass) (is : IsServePass c
             let part : standing r d ≡ part_in (v.share / 2) (given_mark h.0 (get_or v.marks d no_mark)) = ap (part_of d) given ∙ ap (part_in (v.share / 2)) h.1.1 in
             ap (λ (x : Part). x.planned) part ∙ is.free d below;
       }
+
+  pub kept_made : view_of q ≡ kept_view (view_of p) → (d : ℕ) → (standing q d).made ≡ (standing p d).made
+  kept_made kept d =
+      let h = handed (view_of p).marks d in
+      let v = view_of p in
+      let part : standing q d ≡ part_in (v.share - v.share / 2) (kept_mark h.0 (get_or v.marks d no_mark)) = ap (part_of d) kept ∙ ap (part_in (v.share - v.share / 2)) h.1.0 in
+      ap (λ (x : Part). x.made) part ∙ (kept_rest h.0 (get_or v.marks d no_mark)).1
+
+  pub given_made : view_of r ≡ given_view (view_of p) → FixedNone (view_of r)
+  given_made given d =
+      let h = handed (view_of p).marks d in
+      let v = view_of p in
+      let part : standing r d ≡ part_in (v.share / 2) (given_mark h.0 (get_or v.marks d no_mark)) = ap (part_of d) given ∙ ap (part_in (v.share / 2)) h.1.1 in
+      ap (λ (x : Part). x.made) part

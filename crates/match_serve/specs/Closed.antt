@@ -1,11 +1,11 @@
 -- What becomes of a link that is done with.
-use Rattle.std.specs.Prelude.{◌≡◌, ℕ, ◌+◌, ◌<◌, ◌≤◌, Bool, true, false, List, length, drop}
+use Rattle.std.specs.Prelude.{◌≡◌, ◌≢◌, ℕ, ◌+◌, ◌<◌, ◌≤◌, Bool, true, false, List, length, drop}
 use Rattle.std.specs.Prelude.{Option, Some}
 use Rattle.std.specs.Option.{option_map}
 use Rattle.game_io.specs.SourceState.{SourceState}
 use Rattle.game_io.specs.SinkState.{SinkState}
-use Rattle.game_io.specs.NetState.{TakenBack, IsNewLink, taken_back}
-use Rattle.frame_core.specs.Column.{Column}
+use Rattle.game_io.specs.NetState.{TakenBack, IsNewLink, taken_back, faults_taken_back}
+use Rattle.frame_core.specs.Column.{Column, column_of}
 use Rattle.frame_core.specs.Grows.{GrowsTo}
 use Rattle.frame_table.specs.declared.pass.Pass.{Pass}
 use Rattle.frame_table.specs.declared.table.FrameTable.{FrameTable}
@@ -24,7 +24,8 @@ use Rattle.match_serve.specs.declared.link_end.LinkEnd.{LinkEnd}
 use Rattle.match_serve.specs.declared.link_end.LinkEnd.TheVariants as end
 use Rattle.match_serve.specs.declared.link_seat.LinkSeat.{LinkSeat}
 use Rattle.match_serve.specs.Passes.{IsServePass}
-use Rattle.match_serve.specs.Seats.{seat_share}
+use Rattle.match_serve.specs.Seats.{seat_share, invite_of}
+use Rattle.match_serve.specs.Sent.{SendsBy, SendsAllBy, greeting_in}
 use Rattle.match_serve.specs.Serve.{EndTells}
 
 -- How a link ended whose client another let leave at this frame, by whether the console kicked it.
@@ -59,24 +60,33 @@ pub record Closes (clients : ℕ) (table : FrameTable) (seat : LinkSeat) (old ne
     pub sends : (c : ℕ) → c < clients →
         GrowsTo (standing seat.sending c).known (standing new c).known
 
--- Link c was handed back: what was taken from it, what that made of the client's column, and the
--- reports that its end of the queue brought.
-pub record LinkClosed (c : ℕ) (invite : Invite) (column : Column) (listed : List Heard)
-    (coming : Option (List (List ℕ))) (back : Option (Option TakenBack)) (how : LinkEnd) : Type 0
-  where
-    pub input : SourceState
-    pub input_after : SourceState
-    pub output : SinkState
-    pub output_after : SinkState
-    pub is_new : IsNewLink (option_map (drop c) coming) input output
-    pub is_back : back ≡ Some (Some (taken_back input_after output_after))
-    pub bytes : List ℕ
-    pub took : Took input.left input_after.left bytes
-    pub few : length bytes ≤ MAX_LINK_BYTES
-    pub session : Session
-    pub rest : List ℕ
-    pub makes : Makes c invite.rules bytes session rest
-    pub plays : column ≡ record { plays = session.plays; left = true }
-    pub ends : EndTells c invite.rules bytes session rest input input_after how
-    pub reports : listed ≡ session.reports
-    pub own : AreOf c listed
+-- Link c was handed back: what was taken from it, what that made of the client's column, the reports
+-- that its end of the queue brought, and what was written to it. The passes of the links have fixed so
+-- many departures in its column: what its end tells is so where there is one, or the console kicked
+-- the client.
+pub record LinkClosed (c : ℕ) (invite : Invite) (columns : List Column) (listed : List Heard)
+    (coming : Option (List (List ℕ))) (kicked : Bool) (fixed : ℕ)
+    (back : Option (Option TakenBack)) (how : LinkEnd) : Type 0 where
+  pub input : SourceState
+  pub input_after : SourceState
+  pub output : SinkState
+  pub output_after : SinkState
+  pub is_new : IsNewLink (option_map (drop c) coming) input output
+  pub is_back : back ≡ Some (Some (taken_back input_after output_after))
+  pub bytes : List ℕ
+  pub took : Took input.left input_after.left bytes
+  pub few : length bytes ≤ MAX_LINK_BYTES
+  pub session : Session
+  pub rest : List ℕ
+  pub makes : Makes c invite.rules bytes session rest
+  pub plays : column_of columns c ≡ record { plays = session.plays; left = true }
+  pub ends : (fixed ≡ 0 → kicked ≡ true) →
+      EndTells c invite.rules bytes session rest input input_after kicked (faults_taken_back back) how
+  pub reports : listed ≡ session.reports
+  pub own : AreOf c listed
+  pub sends :
+      SendsBy (greeting_in invite.rules bytes) (invite_of invite c) columns output.written
+      output_after.written
+  pub sends_all : how ≢ end.Memory → faults_taken_back back ≡ 0 →
+      SendsAllBy (greeting_in invite.rules bytes) (invite_of invite c) columns output.written
+      output_after.written

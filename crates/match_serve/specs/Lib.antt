@@ -1,4 +1,6 @@
 pub mod Passes
+pub mod Console
+pub mod Watching
 pub mod Ticks
 pub mod Seats
 pub mod Heard

@@ -1,5 +1,6 @@
 -- What the passes of a match over links know while it runs.
-use Rattle.std.specs.Prelude.{◌≡◌, ◌≢◌, ℕ, ◌<◌, ◌≤◌, true, false, List, length, map}
+use Rattle.std.specs.Prelude.{◌≡◌, ◌≢◌, ℕ, ◌<◌, ◌≤◌, Bool, true, false, List, length, map}
+use Rattle.std.specs.Prelude.{slice_index_or}
 use Rattle.frame_core.specs.Column.{Column, no_column}
 use Rattle.frame_core.specs.declared.leaving.Leaving.{Leaving}
 use Rattle.frame_core.specs.Grows.{GrowsTo}
@@ -68,7 +69,11 @@ pub record AllGone (clients : ℕ) (old new : View) : Type 0 where
   pub left : (c : ℕ) → c < clients → (part_of c new).known.left ≡ true
   pub reach : (c : ℕ) → c < clients → (part_of c new).reach ≡ whole_of (part_of c new).known
 
--- The pass still serves: it has its share, and what it knew, and may have let clients leave.
-pub record IsKicking (clients : ℕ) (table : FrameTable) (old new : Pass) : Type 0 where
+-- The pass still serves: it has its share, and what it knew. It has let no clients leave but those
+-- that are listed as kicked.
+pub record IsKicking (clients : ℕ) (table : FrameTable) (kicked : List Bool) (old new : Pass) :
+    Type 0 where
   pub is : IsServePass clients table new
   pub share : (view_of new).share ≡ (view_of old).share
+  pub stays : (c : ℕ) → c < clients → slice_index_or kicked c false ≡ false →
+      (standing new c).made ≡ (standing old c).made

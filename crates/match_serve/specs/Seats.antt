@@ -6,7 +6,6 @@ use Rattle.game_io.specs.NetState.{IsNewLink}
 use Rattle.game_io.specs.SourceState.{SourceState}
 use Rattle.game_io.specs.SinkState.{SinkState}
 use Rattle.order_packets.specs.Feed.{unfed}
-use Rattle.order_packets.specs.PacketReading.{packet_at, up_at}
 use Rattle.frame_table.specs.declared.planned.Planned.TheVariants.{Free}
 use Rattle.frame_table.specs.declared.view.View.{View}
 use Rattle.frame_table.specs.declared.pass.Pass.{Pass}
@@ -20,14 +19,14 @@ use Rattle.match_net.specs.declared.reader_end.ReaderEnd.{ReaderEnd}
 use Rattle.match_net.specs.declared.reader_end.ReaderEnd.TheVariants as reader
 use Rattle.match_net.specs.declared.sender_end.SenderEnd.{SenderEnd}
 use Rattle.match_net.specs.declared.sender_end.SenderEnd.TheVariants as sender
-use Rattle.match_net.specs.Greeting.{IsGreeted, decided}
+use Rattle.match_net.specs.Greeting.{IsGreeted}
 use Rattle.match_net.specs.Reading.{MayPlay}
 use Rattle.match_net.specs.Sessions.{ReadsAs, ReadsLink}
 use Rattle.match_net.specs.SenderSession.{SendsAs}
 use Rattle.match_serve.specs.declared.link_seat.ReadSeat.{ReadSeat}
 use Rattle.match_serve.specs.declared.link_seat.LinkSeat.{LinkSeat}
 use Rattle.match_serve.specs.Passes.{IsServePass, FixedNone}
-use Rattle.match_serve.specs.Sent.{greeting_by}
+use Rattle.match_serve.specs.Sent.{greeting_in}
 
 -- The invite of client c.
 abbrev pub invite_of : Invite → ℕ → Invite
@@ -83,7 +82,7 @@ pub record HasSent (table : FrameTable) (invite : Invite) (greeting : Greeting) 
 abbrev pub SendsSo :
     Invite → List ℕ → SinkState → SinkState → View → View → ReaderEnd → SenderEnd → Type 0
 SendsSo invite bytes old new before after read answer =
-    SendsAs (greeting_by (decided invite.rules (packet_at up_at bytes))) invite old new before after answer
+    SendsAs (greeting_in invite.rules bytes) invite old new before after answer
     ⊎ ((new ≡ old) × (after ≡ before) × (read ≡ reader.NoMemory) × (answer ≡ sender.Sent))
 
 -- A link was served: what its two sessions did, over all bytes that were taken from it.
@@ -105,6 +104,10 @@ pub record ServesSeat (clients : ℕ) (table : FrameTable) (old new : LinkSeat)
 -- The shares of the passes of a link.
 abbrev pub seat_share : LinkSeat → ℕ
 seat_share seat = (view_of seat.reading.pass).share + (view_of seat.sending).share
+
+-- How many departures the passes of a link have fixed in column c.
+abbrev pub made_by : LinkSeat → ℕ → ℕ
+made_by seat c = (standing seat.reading.pass c).made + (standing seat.sending c).made
 
 -- A link that is served: what it is served with, and its halves.
 pub record PieceState : Type 0 where
@@ -156,3 +159,7 @@ AreDone clients table invite hearer coming c (piece ∷ pieces) =
 abbrev pub shares_of : List PieceState → ℕ
 shares_of [] = 0
 shares_of (piece ∷ pieces) = seat_share piece.seat + shares_of pieces
+
+abbrev pub made_in : List PieceState → ℕ → ℕ
+made_in [] c = 0
+made_in (piece ∷ pieces) c = made_by piece.seat c + made_in pieces c

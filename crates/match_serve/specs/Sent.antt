@@ -4,9 +4,11 @@ use Rattle.base.specs.Written.{Wrote, WrotePrefix}
 use Rattle.frame_core.specs.Column.{Column, column_of}
 use Rattle.order_packets.specs.declared.down.Down.TheVariants as down
 use Rattle.order_packets.specs.PacketBytes.{down_bytes}
+use Rattle.order_packets.specs.PacketReading.{packet_at, up_at}
 use Rattle.match_net.specs.declared.invite.Invite.{Invite}
 use Rattle.match_net.specs.declared.greeting.Greeting.{Greeting}
 use Rattle.match_net.specs.declared.greeting.Greeting.TheVariants as greeting
+use Rattle.match_net.specs.Greeting.{decided}
 use Rattle.match_net.specs.Sending.{At, entries_bytes, of_client, entries_of, SentColumn}
 use Rattle.match_net.specs.SenderSession.{welcome_of}
 
@@ -54,3 +56,7 @@ SendsAllBy greeting.Lost invite columns old new = new ≡ old
 abbrev pub greeting_by : Option Greeting → Greeting
 greeting_by (Some decided) = decided
 greeting_by None = greeting.Ended
+
+-- How the link is greeted whose bytes begin so.
+abbrev pub greeting_in : ℕ → List ℕ → Greeting
+greeting_in here bytes = greeting_by (decided here (packet_at up_at bytes))

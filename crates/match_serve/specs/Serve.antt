@@ -1,10 +1,10 @@
 -- A match that was served over links, and what is handed back of it.
-use Rattle.std.specs.Prelude.{◌≡◌, ℕ, ◌^◌, ◌<◌, ◌≤◌, ◌⊎◌, true}
+use Rattle.std.specs.Prelude.{◌≡◌, ◌≢◌, ℕ, ◌^◌, ◌<◌, ◌≤◌, ◌⊎◌, Bool, true, false}
 use Rattle.std.specs.Prelude.{List, length, drop, slice_get, slice_index_or, Option, Some}
 use Rattle.std.specs.Option.{option_map}
 use Rattle.game_io.specs.SourceState.{SourceState}
 use Rattle.game_io.specs.SinkState.{SinkState}
-use Rattle.game_io.specs.NetState.{NetState, TakenBack, IsNewLink, taken_back}
+use Rattle.game_io.specs.NetState.{NetState, TakenBack, IsNewLink, taken_back, faults_taken_back}
 use Rattle.game_orders.specs.declared.limits.TheConstants.{MAX_FRAMES}
 use Rattle.frame_core.specs.Column.{Column, column_of, length_of}
 use Rattle.frame_core.specs.Agreed.{IsAt}
@@ -24,6 +24,9 @@ use Rattle.match_net.specs.Reading.{EndMeans}
 use Rattle.match_serve.specs.declared.link_end.LinkEnd.{LinkEnd}
 use Rattle.match_serve.specs.declared.link_end.LinkEnd.TheVariants as end
 use Rattle.match_serve.specs.Passes.{columns_of}
+use Rattle.match_serve.specs.Console.{ConsoleRead, holds_kick}
+use Rattle.match_serve.specs.Seats.{invite_of}
+use Rattle.match_serve.specs.Sent.{SendsBy, SendsAllBy, greeting_in}
 use Rattle.match_serve.specs.Heard.{first_report}
 
 -- The table of a match that is over, with a pass that has the whole share: so each other pass was
@@ -54,26 +57,29 @@ StopsAt c here bytes session rest old new at =
     × (EndMeans c here bytes session rest old new reader.Ended
     ⊎ EndMeans c here bytes session rest old new (reader.LeftAt at))
 
--- What the end of a link says of its bytes. It says nothing where memory ran out.
+-- What the end of a link says of its bytes, of whether the console kicked its client, and of how often
+-- the link failed. It says nothing where memory ran out.
 abbrev pub EndTells :
-    ℕ → ℕ → List ℕ → Session → List ℕ → SourceState → SourceState → LinkEnd → Type 0
-EndTells c here bytes session rest old new end.Ended =
+    ℕ → ℕ → List ℕ → Session → List ℕ → SourceState → SourceState → Bool → ℕ → LinkEnd → Type 0
+EndTells c here bytes session rest old new kicked faults end.Ended =
     EndMeans c here bytes session rest old new reader.Ended
-EndTells c here bytes session rest old new (end.Refused cause) =
+EndTells c here bytes session rest old new kicked faults (end.Refused cause) =
     EndMeans c here bytes session rest old new (reader.Refused cause)
-EndTells c here bytes session rest old new (end.Kicked at) =
-    StopsAt c here bytes session rest old new at
-EndTells c here bytes session rest old new end.Lost =
-    EndMeans c here bytes session rest old new reader.Lost
-    ⊎ ((at : ℕ) × StopsAt c here bytes session rest old new at)
-EndTells c here bytes session rest old new end.Memory = Unit {0}
+EndTells c here bytes session rest old new kicked faults (end.Kicked at) =
+    (kicked ≡ true) × StopsAt c here bytes session rest old new at
+EndTells c here bytes session rest old new kicked faults end.Lost =
+    (0 < faults)
+    × (EndMeans c here bytes session rest old new reader.Lost
+    ⊎ ((kicked ≡ false) × ((at : ℕ) × StopsAt c here bytes session rest old new at)))
+EndTells c here bytes session rest old new kicked faults end.Memory = Unit {0}
 
 -- How link c was served. Its halves were in these states when the net gave it and when the net took
 -- it back. These bytes were taken from it; their first packets make this session, and this is left of
 -- them. The session's plays and then the departure are the client's column; of its reports the board
--- has the first for each frame.
+-- has the first for each frame. Written to it was what its greeting is answered, and all of that where
+-- the link has not failed and memory did not run out for it.
 pub record ServesLink (c : ℕ) (invite : Invite) (columns : List Column)
-    (reports : List (Option ℕ)) (coming : Option (List (List ℕ)))
+    (reports : List (Option ℕ)) (coming : Option (List (List ℕ))) (kicked : Bool)
     (back : Option (Option TakenBack)) (how : LinkEnd) : Type 0 where
   pub input : SourceState
   pub input_after : SourceState
@@ -88,16 +94,24 @@ pub record ServesLink (c : ℕ) (invite : Invite) (columns : List Column)
   pub rest : List ℕ
   pub makes : Makes c invite.rules bytes session rest
   pub column : column_of columns c ≡ record { plays = session.plays; left = true }
-  pub ends : EndTells c invite.rules bytes session rest input input_after how
+  pub ends :
+      EndTells c invite.rules bytes session rest input input_after kicked (faults_taken_back back) how
   pub kept : (n : ℕ) → n < MAX_FRAMES → report_at reports n ≡ first_report session.reports n
+  pub sends :
+      SendsBy (greeting_in invite.rules bytes) (invite_of invite c) columns output.written
+      output_after.written
+  pub sends_all : how ≢ end.Memory → faults_taken_back back ≡ 0 →
+      SendsAllBy (greeting_in invite.rules bytes) (invite_of invite c) columns output.written
+      output_after.written
 
 -- A match was served. The world is the agreed world of all frames, as many as the longest column has
 -- plays, and the board's wanted hashes are those of the agreed worlds after each. `coming` is what the
--- net told of the links to come.
+-- net told of the links to come. Of the console's bytes those that were taken are known.
 pub record ServesMatch {W : Type 0} (of_match : Match W) (invite : Invite)
-    (coming : Option (List (List ℕ))) (net_after : NetState)
-    (world : W) (steps : ℕ) (table : FrameTable) (pass : Pass) (board : BoardState)
-    (ends : List LinkEnd) : Type 0 where
+    (coming : Option (List (List ℕ))) (console_old console_new : SourceState)
+    (net_after : NetState) (world : W) (steps : ℕ) (table : FrameTable) (pass : Pass)
+    (board : BoardState) (ends : List LinkEnd) : Type 0 where
+  pub console : ConsoleRead console_old console_new
   pub over : IsOver invite.clients table pass
   pub greatest : IsGreatest invite.clients (columns_of pass) steps
   pub at : IsAt of_match.after of_match.start (columns_of pass) steps world
@@ -108,4 +122,4 @@ pub record ServesMatch {W : Type 0} (of_match : Match W) (invite : Invite)
   pub ends_count : length ends ≡ invite.clients
   pub links : (c : ℕ) → c < invite.clients →
       ServesLink c invite (columns_of pass) (reports_of board.reports c) coming
-      (slice_get net_after.given c) (slice_index_or ends c end.Memory)
+      (holds_kick console.bytes c) (slice_get net_after.given c) (slice_index_or ends c end.Memory)

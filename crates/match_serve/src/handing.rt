@@ -1,11 +1,11 @@
 //! How all links of a match are handed back.
-ghost use Rattle.std.specs.Prelude.{◌≡◌, ◌+◌, ◌<◌, ◌≤◌, ℕ, List, Option, [], true, length};
+ghost use Rattle.std.specs.Prelude.{◌≡◌, ◌+◌, ◌<◌, ◌≤◌, ℕ, List, Option, [], true, false, length};
 ghost use Rattle.std.specs.Prelude.{slice_get, slice_index_or};
 ghost use Rattle.frame_table.specs.Calls.{view_of, standing};
 ghost use Rattle.report_line.specs.Reports.{heard, joined, IsSameHearer};
 ghost use Rattle.match_serve.specs.declared.link_end.LinkEnd.TheVariants as end;
-ghost use Rattle.match_serve.specs.Passes.{IsServePass};
-ghost use Rattle.match_serve.specs.Seats.{AreDone, shares_of};
+ghost use Rattle.match_serve.specs.Passes.{IsServePass, columns_of};
+ghost use Rattle.match_serve.specs.Seats.{AreDone, shares_of, made_in};
 ghost use Rattle.match_serve.specs.Closed.{LinkClosed};
 
 use crate::closing::{close_link, link_end};
@@ -40,11 +40,13 @@ pub(crate) fn close_links<N: Net>(
         ≡ (view_of pass.old).share + shares_of pieces.items }
     ensures known { (c : ℕ) → c < invite.now.clients →
         (standing pass.new c).known ≡ (standing pass.old c).known }
+    ensures made { (c : ℕ) → c < invite.now.clients →
+        (standing pass.new c).made ≡ (standing pass.old c).made + made_in pieces.items c }
     ensures links { (coming : Option (List (List ℕ))) → AreDone invite.now.clients table.now
         invite.now hearer.old coming 0 pieces.items → (c : ℕ) → c < invite.now.clients →
-        LinkClosed c invite.now (standing pass.old c).known
-        (slice_index_or (joined hearer.new) c []) coming (slice_get (N.state net.new).given c)
-        (slice_index_or ends.new c end.Memory) }
+        LinkClosed c invite.now (columns_of pass.old) (slice_index_or (joined hearer.new) c [])
+        coming (slice_index_or kicked.now c false) (made_in pieces.items c)
+        (slice_get (N.state net.new).given c) (slice_index_or ends.new c end.Memory) }
     ensures given { length (N.state net.new).given ≡ invite.now.clients }
     ensures coming { (N.state net.new).coming ≡ (N.state net.old).coming }
     ensures joined { length (joined hearer.new) ≡ invite.now.clients }

@@ -1,5 +1,8 @@
 use arrayvec::ArrayVec;
 
+/// A line of the console ends with it.
+pub(crate) const LINE_END: u8 = 10;
+
 /// Room for the longest line that kicks, and one more byte.
 pub(crate) const LINE_ROOM: usize = 8;
 

@@ -7,9 +7,9 @@ pub enum LinkEnd {
     Ended,
     /// The client's bytes were refused.
     Refused(ReadCause),
-    /// The console let the client leave at this frame.
+    /// The client was let go at this frame, and the console kicked it.
     Kicked(u32),
-    /// The link failed.
+    /// A half of the link failed.
     Lost,
     /// Memory ran out for this link.
     Memory,

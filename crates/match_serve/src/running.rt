@@ -5,7 +5,8 @@ ghost use Rattle.base.specs.Cause.{Rose};
 ghost use Rattle.game_orders.specs.declared.limits.TheConstants.{MAX_CLIENTS};
 ghost use Rattle.frame_table.specs.Calls.{view_of};
 ghost use Rattle.report_line.specs.Reports.{heard, joined, IsSameHearer};
-ghost use Rattle.match_serve.specs.Passes.{IsServePass, IsKicking};
+ghost use Rattle.match_serve.specs.Passes.{IsServePass};
+ghost use Rattle.match_serve.specs.Watching.{AreNewKicks, WatchesConsole};
 ghost use Rattle.match_serve.specs.Heard.{HasHeard};
 ghost use Rattle.match_serve.specs.Seats.{IsNewSeat, AreServed};
 ghost use Rattle.match_serve.specs.Ticks.{TicksAll};
@@ -39,7 +40,7 @@ fn watch_and_tick<S: Sim, C: Source + Send, R: Threads + Wait + Sync>(
     sim: &mut S,
 ) -> Result<(), NoMemory>
     requires watching { IsServePass clients table.now watching.old }
-    requires kicked { length kicks.old.kicked.items ≡ clients }
+    requires kicks { AreNewKicks clients kicks.old }
     requires pass { IsServePass clients table.now pass.old }
     requires unwanted { board.old.wanted ≡ [] }
     requires boards { length board.old.reports ≡ clients }
@@ -63,14 +64,15 @@ fn watch_and_tick<S: Sim, C: Source + Send, R: Threads + Wait + Sync>(
     ensures heard { OnOk result (HasHeard clients board.new.reports (heard hearer.new)) }
     ensures joined { joined hearer.new ≡ joined hearer.old }
     ensures same { IsSameHearer hearer.old hearer.new }
-    ensures watching { IsKicking clients table.now watching.old watching.new }
-    ensures kicked { length kicks.new.kicked.items ≡ clients }
+    ensures watches { WatchesConsole clients table.now (C.state console.old) (C.state console.new)
+        watching.old watching.new kicks.new.kicked.items }
 {
     let mut watch = ||
-        requires { IsServePass clients table.now watching.now
-            × (length kicks.now.kicked.items ≡ clients) }
-        ensures { IsKicking clients table.entry.now watching.entry.now watching.exit.now
-            × (length kicks.exit.now.kicked.items ≡ clients) }
+        requires { IsServePass clients table.now watching.now × (clients ≤ MAX_CLIENTS)
+            × AreNewKicks clients kicks.now }
+        ensures { WatchesConsole clients table.entry.now (C.state console.entry.now)
+            (C.state console.exit.now) watching.entry.now watching.exit.now
+            kicks.exit.now.kicked.items }
     { watch_console(rt, table, watching, clients, console, kicks) };
     let mut tick = || tick_all(rt, table, pass, clients, hearer, board, sim);
     let (_watched, ticked) = join_mut(rt, &mut watch, &mut tick);
@@ -101,7 +103,7 @@ pub(crate) fn run_threads<
     requires pieces { All (λ piece. IsNewSeat piece.seat.invite.clients table.now piece.seat)
         pieces.old }
     requires watching { IsServePass clients table.now watching.old }
-    requires kicked { length kicks.old.kicked.items ≡ clients }
+    requires kicks { AreNewKicks clients kicks.old }
     requires pass { IsServePass clients table.now pass.old }
     requires unwanted { board.old.wanted ≡ [] }
     requires boards { length board.old.reports ≡ clients }
@@ -126,8 +128,8 @@ pub(crate) fn run_threads<
     ensures joined { joined hearer.new ≡ joined hearer.old }
     ensures same { IsSameHearer hearer.old hearer.new }
     ensures pieces { AreServed table.now pieces.old pieces.new }
-    ensures watching { IsKicking clients table.now watching.old watching.new }
-    ensures kicked { length kicks.new.kicked.items ≡ clients }
+    ensures watches { WatchesConsole clients table.now (C.state console.old) (C.state console.new)
+        watching.old watching.new kicks.new.kicked.items }
 {
     let mut serve = ||
         requires { IsSync R.row × All (λ piece. IsNewSeat piece.seat.invite.clients table.now
@@ -136,7 +138,7 @@ pub(crate) fn run_threads<
     { serve_links(rt, alloc, table, pieces) };
     let mut run = || -> Result<(), NoMemory>
         requires { IsSync R.row × IsSend C.row × IsServePass clients table.now watching.now
-            × (length kicks.now.kicked.items ≡ clients) × IsServePass clients table.now pass.now
+            × AreNewKicks clients kicks.now × IsServePass clients table.now pass.now
             × (board.now.wanted ≡ []) × (length board.now.reports ≡ clients)
             × (S.clients_of sim.now ≡ clients) × (clients ≤ MAX_CLIENTS)
             × (S.steps sim.now ≡ 0) × HasHeard clients board.now.reports (heard hearer.now) }
@@ -157,8 +159,9 @@ pub(crate) fn run_threads<
             × OnOk result (HasHeard clients board.exit.now.reports (heard hearer.exit.now))
             × (joined hearer.exit.now ≡ joined hearer.entry.now)
             × IsSameHearer hearer.entry.now hearer.exit.now
-            × IsKicking clients table.entry.now watching.entry.now watching.exit.now
-            × (length kicks.exit.now.kicked.items ≡ clients) }
+            × WatchesConsole clients table.entry.now (C.state console.entry.now)
+            (C.state console.exit.now) watching.entry.now watching.exit.now
+            kicks.exit.now.kicked.items }
     {
         watch_and_tick(
             rt, table, clients, watching, console, kicks, pass, hearer, board, sim,

@@ -8,6 +8,7 @@ ghost use Rattle.frame_table.specs.Calls.{view_of};
 ghost use Rattle.report_line.specs.Reports.{heard, joined, ends_of};
 ghost use Rattle.match_serve.specs.Passes.{IsOpening};
 ghost use Rattle.match_serve.specs.Heard.{HasHeard};
+ghost use Rattle.match_serve.specs.Watching.{AreNewKicks};
 ghost use Rattle.match_serve.specs.Seats.{AreNewPieces, shares_of};
 ghost use Rattle.match_serve.specs.Serve.{ServesMatch};
 
@@ -49,6 +50,11 @@ use std::thread::Threads;
 /// the one that was given, stepped by the frames of these columns, as many as the longest has. Each
 /// link was handed back to the net. A link that fails, is refused or finds no memory ends alone.
 ///
+/// What was written to a link is of what its greeting is answered: the welcome and the first entries
+/// of each column, in order, or the refusal. It is all of that where no half of the link failed and
+/// memory did not run out for it. The end is `Kicked` only where a line of the console kicked the
+/// client, and `Lost` only where a half of the link failed.
+///
 /// `Net` only where the net's count of faults rose in this call.
 pub fn serve_match<S: Sim, N: Net, C: Source + Send, R: Threads + Wait + Sync>(
     rt: &R,
@@ -72,7 +78,8 @@ pub fn serve_match<S: Sim, N: Net, C: Source + Send, R: Threads + Wait + Sync>(
       clients = invite.now.clients;
       lag = 0;
     })
-        invite.now (N.state net.old).coming (N.state net.new) served.sim (S.steps served.sim)
+        invite.now (N.state net.old).coming (C.state console.old) (C.state console.new)
+        (N.state net.new) served.sim (S.steps served.sim)
         served.table served.pass served.board served.ends) }
     ensures clients { IfOk result (λ served. S.clients_of served.sim ≡ S.clients_of sim) }
     ensures net { IfErr result (λ fault. fault ≡ ServeFault.Net →
@@ -110,7 +117,7 @@ pub fn serve_match<S: Sim, N: Net, C: Source + Send, R: Threads + Wait + Sync>(
 
 /// Nothing was read of the console, and nobody was kicked.
 fn no_kicks(alloc: Global, clients: u8) -> Result<Kicks, NoMemory>
-    ensures { IfOk result (λ kicks. length kicks.kicked.items ≡ clients) }
+    ensures { IfOk result (λ kicks. AreNewKicks clients kicks) }
 {
     let mut kicked = Vec::new(alloc);
     for _client in 0..clients {
@@ -162,7 +169,7 @@ fn serve_opened<S: Sim, N: Net, C: Source + Send, R: Threads + Wait + Sync>(
     requires unjoined { joined hearer ≡ [] }
     requires board { board.reports ≡ replicate invite.now.clients [] }
     requires unwanted { board.wanted ≡ [] }
-    requires kicked { length kicks.kicked.items ≡ invite.now.clients }
+    requires kicks { AreNewKicks invite.now.clients kicks }
     requires ends { length ends.items ≡ invite.now.clients }
     requires clients { S.clients_of sim ≡ invite.now.clients }
     requires fresh { S.steps sim ≡ 0 }
@@ -176,7 +183,7 @@ fn serve_opened<S: Sim, N: Net, C: Source + Send, R: Threads + Wait + Sync>(
           summary = S.summary_of;
           clients = invite.now.clients;
           lag = 0;
-        }) invite.now coming
+        }) invite.now coming (C.state console.old) (C.state console.new)
         (N.state net.new) served.sim (S.steps served.sim) served.table served.pass served.board
         served.ends) }
     ensures clients { IfOk result (λ served. S.clients_of served.sim ≡ S.clients_of sim) }

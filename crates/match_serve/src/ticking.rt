@@ -15,10 +15,10 @@ use base::NoMemory;
 use frame_core::{Ready, Sim};
 use frame_table::{FrameTable, Pass};
 use game_orders::Frame;
+use idle_pause::Pause;
 use match_net::Hearer;
 use server_core::Board;
 use std::sync::Wait;
-use std::thread;
 
 /// Ticks each frame that is ready and takes the reports that have come, until the match is over. It
 /// fails only where it is out of memory; then every client has left.
@@ -97,14 +97,16 @@ fn tick_ready<S: Sim, R: Wait>(
     ensures same { IsSameHearer hearer.old hearer.new }
 {
     let mut n: u32 = 0;
+    let mut pause = Pause::new();
     for _turn in rt.forever() {
         take_reports(rt, hearer, board)?;
         match table.ready(pass, n) {
             Ready::Yes => {
                 tick(rt, table, pass, n, clients, board, sim)?;
                 n += 1;
+                pause.end();
             }
-            Ready::NotYet(_) => thread::yield_now(),
+            Ready::NotYet(_) => pause.rest(rt),
             Ready::Over => {
                 let _departures = take_frame(rt, table, pass, n, clients);
                 return Ok(());

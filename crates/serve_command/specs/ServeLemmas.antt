@@ -37,7 +37,7 @@ printed_of reply status s s' quiet own (inl (inr cut)) = absurd (quiet cut.1)
 printed_of reply status s s' quiet own (inr memory) = inr memory.0
 
 pub serves_caused : {W : Type 0} (of_match : Match W) (invite : Invite) (fine : Type 0) (status : ℕ) (old new : WithLinks) →
-    ServesBy of_match invite status old.net new.net old.sink new.sink →
+    ServesBy of_match invite status old.net new.net old.console new.console old.sink new.sink →
     IsCaused IsServeDone fine status (causes_by (NetFailed old.net new.net) old new)
 serves_caused of_match invite fine status old new (inl out) =
     let reply = served_reply of_match.hash of_match.summary (columns_of out.pass) out.ends out.world out.board in

@@ -39,8 +39,8 @@ pub fn serve_over<M: Maker, K: Sink, N: Net, C: Source + Send, R: Threads + Wait
       summary = M.World.summary_of;
       clients = invite.now.clients;
       lag = 0;
-    }) invite.now result (N.state net.old) (N.state net.new) (K.state out.old)
-        (K.state out.new) }
+    }) invite.now result (N.state net.old) (N.state net.new) (C.state console.old)
+        (C.state console.new) (K.state out.old) (K.state out.new) }
     ensures later { (K.state out.old).faults ≤ (K.state out.new).faults }
 {
     let Ok(sim) = maker.make(alloc, invite.seed, invite.clients) else {

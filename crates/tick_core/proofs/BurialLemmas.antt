@@ -37,7 +37,7 @@ later R (x ∷ xs) zero a within is pairs =
 later R (x ∷ xs) (suc i) a within is pairs = later R xs i a (omega arith) is (pairs_tail R x xs pairs)
 
 -- A test that each element passes keeps the list.
-filter_keeps : {X : Type 0} (p : X → Bool) (xs : List X) → All (λ x. p x ≡ true) xs → filter p xs ≡ xs
+pub filter_keeps : {X : Type 0} (p : X → Bool) (xs : List X) → All (λ x. p x ≡ true) xs → filter p xs ≡ xs
 filter_keeps p [] all = refl
 filter_keeps p (x ∷ xs) all =
     rw (All-head (λ y. p y ≡ true) x xs all) (ap (λ l. x ∷ l) (filter_keeps p xs (All-tail (λ y. p y ≡ true) x xs all)))
@@ -122,16 +122,6 @@ pub kept_next :
 kept_next start now new actors i a rise at is_now is_new =
     is_new ∙ ap (λ (k : Kept). record k { actors = without_dead k.actors a }) is_now
     ∙ ap (λ l. with_actors start l) (forgot_next actors i a (map numbered (buried_up_to actors i)) rise at refl)
-
--- One more of the first actors lives.
-pub alive_next :
-    (actors : List Actor) (i : ℕ) (a : Actor) → slice_get actors i ≡ Some a →
-    filter is_alive (take i actors) ≡ take i actors → is_alive a ≡ true →
-    filter is_alive (take (i + 1) actors) ≡ take (i + 1) actors
-alive_next actors i a at so_far alive =
-    let one : filter is_alive (a ∷ []) ≡ a ∷ [] = rw alive refl in
-    rw (add-one, take_at actors i a at)
-    (filter-append is_alive (take i actors) (a ∷ []) ∙ ap₂ (λ (l r : List Actor). l ++ r) so_far one)
 
 -- A cell that none of the actors has is free.
 pub is_free :

@@ -1,10 +1,10 @@
 -- What is kept after a step, and a turn step by step.
 use Rattle.std.proofs.Common.{◌≡◌, ◌≢◌, ℕ, zero, suc, cond, ◌+◌, ◌<◌, ◌≤◌, Bool, true, false, eqb, List, [], ◌∷◌, length, map, drop, get_or, Option, Some, None, inl, inr, refl, sym, ap, ap₂, subst, ◌∙◌, add-one, arith}
-use Rattle.std.specs.Prelude.{◌==◌, ◌⊎◌, ◌-◌, if◌then◌else◌, nat_le, not, slice_get, slice_set, IfSome, fold}
+use Rattle.std.specs.Prelude.{◌==◌, ◌⊎◌, ◌-◌, ◌&&◌, if◌then◌else◌, is_some, nat_le, not, slice_get, slice_set, IfSome, fold}
 use Rattle.std.specs.List.{All, AllPairs}
 use Rattle.std.specs.Option.{unwrap_or}
 use Rattle.std.proofs.lemmas.List.Elements.{All-head}
-use Rattle.std.proofs.lemmas.Bool.{or_right}
+use Rattle.std.proofs.lemmas.Bool.{and_parts, or_right}
 use Rattle.std.proofs.lemmas.Option.{get_or_from_slice_get}
 use Rattle.std.proofs.lemmas.Bool.Decides.{eqb_tells}
 use Rattle.world_units.specs.declared.cell.CPos.{CPos}
@@ -32,7 +32,7 @@ use Rattle.game_tick.specs.Nearest.{nearest_ore, ore_at}
 use Rattle.game_tick.specs.Turn.{after_first, after_step, after_steps, after_turn, after_way, blocks_of, buried, harvest_of, reloaded, with_build, with_reload, with_way}
 use Rattle.game_tick.specs.TurnLemmas.{length-ids_of, living_steps}
 use Rattle.game_tick.specs.SoundLemmas.{body_of}
-use Rattle.game_model.specs.FoundLemmas.{IdsRise, changed_as}
+use Rattle.game_model.specs.FoundLemmas.{IdsRise}
 use Rattle.game_model.specs.LivingLemmas.{found_at, living_actor, living_found}
 use Rattle.sync_hash.specs.declared.actor_number.ActorNumber.{ActorNumber}
 use Rattle.sync_hash.specs.Kept.{IsKeptOf, Kept, cell_number, cell_numbers, numbered}
@@ -43,28 +43,15 @@ use Rattle.actor_table.specs.Idle.{IsIdle}
 use Rattle.actor_table.specs.Table.{Table, IsTable}
 use Rattle.tick_core.specs.Telling.{cell_in, cell_of, target_of, told_ore, with_some}
 use Rattle.tick_core.specs.Touched.{GrowsBut, KeptBut, SameBut, is_among}
+use Rattle.tick_core.specs.Waiting.{IsWaiting}
 use Rattle.tick_core.proofs.ChoiceLemmas.{by_if}
 use Rattle.tick_core.proofs.SceneLemmas.{with_list}
 use Rattle.tick_core.proofs.StepLemmas.{prepared_same, step_is, way_same}
 use Rattle.tick_core.proofs.TickLemmas.{drop_at, drop_past, the_standing}
-use Rattle.tick_core.proofs.TouchedLemmas.{grows_then, kept_from}
+use Rattle.tick_core.proofs.TouchedLemmas.{grows_then, kept_from, same_all, same_grows}
+use Rattle.tick_core.proofs.WaitingLemmas.{loaded_same, unchanged, waiting_same, way_next}
 
 -- The parts of a step and what they leave.
-way_next :
-    (setup : Setup) (w : World) (found : Option Actor) → (with_way setup w found).next_id ≡ w.next_id
-way_next setup w None = refl
-way_next setup w (Some a) = legged a.body.leg where
-  first : (acts : List Activity) → (after_first setup w a acts).next_id ≡ w.next_id
-  first [] = refl
-  first (Move goal waits ∷ later) = refl
-  first (Attack target waits ∷ later) = refl
-  first (Harvest cell timer waits ∷ later) = refl
-  first (Deliver home timer waits ∷ later) = refl
-
-  legged : (leg : Option Leg) → (after_way setup w a leg).next_id ≡ w.next_id
-  legged None = first a.body.acts
-  legged (Some leg) = refl
-
 build_drawn : (setup : Setup) (w : World) (found : Option Actor) → (with_build setup w found).drawn ≡ w.drawn
 build_drawn setup w None = refl
 build_drawn setup w (Some a) = refl
@@ -102,23 +89,21 @@ differ m n other = elim (eqb_tells m n) [
   | inr there ↦ there.0
 ]
 
-pub busy_told :
-    (setup : Setup) (w p n : World) (id : ℕ) (kept : List ActorNumber) (target added : Option ℕ) →
-    kept ≡ map numbered w.actors → p ≡ prepared setup w id → n ≡ with_way setup p (living_of p.actors id) →
+moved_grows :
+    (setup : Setup) (w p n : World) (id : ℕ) (target added : Option ℕ) →
+    p ≡ prepared setup w id → n ≡ with_way setup p (living_of p.actors id) →
     target ≡ (if w.drawn == n.drawn then None else target_of (living_of p.actors id)) →
     added ≡ (if w.next_id == n.next_id then None else Some w.next_id) →
-    KeptBut (with_some (Some id) (with_some target (with_some added []))) kept n.actors
-busy_told setup w p n id kept target added kept_is p_is n_is target_is added_is =
+    GrowsBut (id ∷ with_some target (with_some added [])) w.actors n.actors
+moved_grows setup w p n id target added p_is n_is target_is added_is =
     let ids : List ℕ = id ∷ with_some target (with_some added []) in
     let drawn : p.drawn ≡ w.drawn = ap (λ (v : World). v.drawn) p_is ∙ prepared_drawn_by setup w id (living_of w.actors id) in
     let next : n.next_id ≡ p.next_id = ap (λ (v : World). v.next_id) n_is ∙ way_next setup p (living_of p.actors id) in
     let grows = prepared_same ids setup w id (among_first id _) (λ other. new_among (λ is. other (ap (λ (v : World). v.next_id) (sym p_is) ∙ sym next ∙ is))) in
     let same = way_same ids setup p id (living_of p.actors id) refl (among_first id _)
     (λ t is drew. hit_among t is (λ none. drew (ap (λ (v : World). v.drawn) (sym n_is) ∙ none ∙ sym drawn))) in
-    subst (λ k. KeptBut ids k n.actors) (sym kept_is)
-    (kept_from ids w.actors n.actors
-    (grows_then ids w.actors p.actors n.actors (subst (λ (v : World). GrowsBut ids w.actors v.actors) (sym p_is) grows)
-    (subst (λ (v : World). SameBut ids p.actors v.actors) (sym n_is) same)))
+    grows_then ids w.actors p.actors n.actors (subst (λ (v : World). GrowsBut ids w.actors v.actors) (sym p_is) grows)
+    (subst (λ (v : World). SameBut ids p.actors v.actors) (sym n_is) same)
   where
     new_among : n.next_id ≢ w.next_id → is_among (id ∷ with_some target (with_some added [])) w.next_id ≡ true
     new_among other =
@@ -132,6 +117,43 @@ busy_told setup w p n id kept target added kept_is p_is n_is target_is added_is 
     hit_among t aimed other =
         let is : target ≡ Some t = (rw (differ w.drawn n.drawn other) at target_is) ∙ aimed in
         or_right (t == id) _ (subst (λ o. is_among (with_some o (with_some added [])) t ≡ true) (sym is) (among_first t (with_some added [])))
+
+no_more : (added : Option ℕ) → not (is_some added) ≡ true → added ≡ None
+no_more None is = refl
+no_more (Some id) is = absurd (let never : false ≡ true = is in cc)
+
+-- A step leaves all actors as they are but those of which the hasher is told.
+pub busy_grows :
+    (setup : Setup) (w p n : World) (id : ℕ) (waited : Bool) (stepped target added : Option ℕ) → IdsRise w.actors →
+    (waited ≡ true → IfSome (living_of w.actors id) IsWaiting) →
+    p ≡ prepared setup w id → n ≡ with_way setup p (living_of p.actors id) →
+    target ≡ (if w.drawn == n.drawn then None else target_of (living_of p.actors id)) →
+    added ≡ (if w.next_id == n.next_id then None else Some w.next_id) →
+    stepped ≡ (if waited && not (is_some added) then None else Some id) →
+    GrowsBut (with_some stepped (with_some target (with_some added []))) w.actors n.actors
+busy_grows setup w p n id waited stepped target added rise waits p_is n_is target_is added_is stepped_is =
+    by_stay (waited && not (is_some added)) refl
+  where
+    by_stay :
+        (stays : Bool) → (waited && not (is_some added)) ≡ stays →
+        GrowsBut (with_some stepped (with_some target (with_some added []))) w.actors n.actors
+    by_stay false is =
+        let one : stepped ≡ Some id = stepped_is ∙ ap (λ b. if b then None else Some id) is in
+        subst (λ o. GrowsBut (with_some o (with_some target (with_some added []))) w.actors n.actors) (sym one)
+        (moved_grows setup w p n id target added p_is n_is target_is added_is)
+    by_stay true is =
+        let both = and_parts waited (not (is_some added)) is in
+        let none : added ≡ None = no_more added both.1 in
+        let next : n.next_id ≡ w.next_id =
+        elim (eqb_tells w.next_id n.next_id) [
+          | inl here ↦ sym here.1
+          | inr there ↦
+              let more : added ≡ Some w.next_id = rw there.0 at added_is in
+              absurd (let never : None ≡ Some w.next_id = sym none ∙ more in cc)
+        ] in
+        subst (λ l. GrowsBut (with_some stepped (with_some target (with_some added []))) w.actors l)
+        (sym (waiting_same setup w p n id rise (waits both.0) p_is n_is next))
+        (same_grows _ w.actors w.actors (same_all _ w.actors))
 
 -- The ore is the same, or that of the cell has changed.
 abbrev pub OreChange : (old new : Grid ℕ) → Option CPos → Type 0
@@ -256,19 +278,27 @@ turn_drawn setup w few =
     let most = (steps_keep setup w (ids_of w.actors)).drawn_most in
     omega (arith, most, length-ids_of w.actors, few)
 
-pub busy_told_by :
-    (setup : Setup) (w p n : World) (id : ℕ) (kept : List ActorNumber) (target added aim : Option ℕ) (d0 d1 n0 n1 f0 f1 : ℕ) →
-    kept ≡ map numbered w.actors → p ≡ prepared setup w id → n ≡ with_way setup p (living_of p.actors id) →
+pub busy_grows_by :
+    (setup : Setup) (w p n : World) (id : ℕ) (waited : Bool) (stepped target added aim : Option ℕ) (d0 d1 n0 n1 f0 f1 : ℕ) →
+    IdsRise w.actors → (waited ≡ true → IfSome (living_of w.actors id) IsWaiting) →
+    p ≡ prepared setup w id → n ≡ with_way setup p (living_of p.actors id) →
     d0 ≡ w.drawn → d1 ≡ n.drawn → n0 ≡ w.next_id → n1 ≡ n.next_id → f0 ≡ n0 → f1 ≡ n1 →
     aim ≡ target_of (living_of p.actors id) → target ≡ (if d0 == d1 then None else aim) →
     added ≡ (if f0 == f1 then None else Some n0) →
-    KeptBut (with_some (Some id) (with_some target (with_some added []))) kept n.actors
-busy_told_by setup w p n id kept target added aim d0 d1 n0 n1 f0 f1 kept_is p_is n_is d0_is d1_is n0_is n1_is f0_is f1_is aim_is target_is added_is =
-    busy_told setup w p n id kept target added kept_is p_is n_is
+    stepped ≡ (if waited && not (is_some added) then None else Some id) →
+    GrowsBut (with_some stepped (with_some target (with_some added []))) w.actors n.actors
+busy_grows_by setup w p n id waited stepped target added aim d0 d1 n0 n1 f0 f1 rise waits p_is n_is d0_is d1_is n0_is n1_is f0_is f1_is aim_is target_is added_is =
+    busy_grows setup w p n id waited stepped target added rise waits p_is n_is
     (target_is ∙ ap (λ d. if d == d1 then None else aim) d0_is ∙ ap (λ d. if w.drawn == d then None else aim) d1_is
     ∙ ap (λ o. if w.drawn == n.drawn then None else o) aim_is)
     (added_is ∙ ap (λ f. if f == f1 then None else Some n0) (f0_is ∙ n0_is) ∙ ap (λ f. if w.next_id == f then None else Some n0) (f1_is ∙ n1_is)
     ∙ ap (λ m. if w.next_id == n.next_id then None else Some m) n0_is)
+
+-- So the numbers of all others are right.
+pub grown_told :
+    (ids : List ℕ) (old new : List Actor) (kept : List ActorNumber) → kept ≡ map numbered old → GrowsBut ids old new →
+    KeptBut ids kept new
+grown_told ids old new kept is grows = subst (λ k. KeptBut ids k new) (sym is) (kept_from ids old new grows)
 
 pub way_is :
     (s p n : Standing) (id : ℕ) → p ≡ record s { world = prepared s.setup s.world id } →
@@ -382,21 +412,12 @@ busy_kept setup w p n id kept mid new cell p_is n_is cell_is is numbers cells wi
     (kept_told mid n.actors w.ore n.ore cell (wide ∙ is.width) (high ∙ is.height) numbers (cells ∙ is.cells) change on)
 
 -- Who has nothing to do stays.
-changed_self : (actors : List Actor) (id : ℕ) → changed_at actors id (λ x. x) ≡ actors
-changed_self [] id = refl
-changed_self (a ∷ actors) id =
-    ap₂ (λ (x : Actor) (xs : List Actor). x ∷ xs) (by_if (λ (x : Actor). x ≡ a) (a.id == id) a a refl refl) (changed_self actors id)
-
-abbrev charged : Actor → ℕ → Actor
-charged a n = record a { body = record a.body { reload = n } }
-
 pub not_reloading :
     (t : Table) (id : ℕ) (a : Actor) → IsTable t → Some a ≡ actor_of t.actors id → a.body.reload ≡ 0 →
     t ≡ record t { actors = changed_at t.actors id reloaded }
 not_reloading t id a valid found none =
-    let same : reloaded a ≡ a = ap (λ n. charged a n) (let less : a.body.reload - 1 ≡ a.body.reload = omega (arith, none) in less) in
     ap (λ xs. record { width = t.width; height = t.height; actors = xs })
-    (sym (changed_as t.actors id a reloaded (λ x. x) valid.rise (sym found) same ∙ changed_self t.actors id))
+    (sym (unchanged t.actors id a reloaded valid.rise (sym found) (loaded_same a none)))
 
 idle_by :
     (s : Standing) (id : ℕ) (found : Option Actor) → living_of s.world.actors id ≡ found →
@@ -404,9 +425,8 @@ idle_by :
     s ≡ record s { world = after_step s.setup s.world id }
 idle_by s id None found rise idle = ap (the_standing s.setup) (sym (dead_stay s.setup s.world id found))
 idle_by s id (Some a) found rise idle =
-    let same : reloaded a ≡ a = ap (λ n. charged a n) (let less : a.body.reload - 1 ≡ a.body.reload = omega (arith, idle.reload) in less) in
     let list : changed_at s.world.actors id reloaded ≡ s.world.actors =
-    changed_as s.world.actors id a reloaded (λ x. x) rise (living_actor s.world.actors id a rise found) same ∙ changed_self s.world.actors id in
+    unchanged s.world.actors id a reloaded rise (living_actor s.world.actors id a rise found) (loaded_same a idle.reload) in
     let stays : after_step s.setup s.world id ≡ with_reload s.world id =
     idle_stays s.setup s.world id a found (record { acts = idle.acts; leg = idle.leg; builds = idle.builds }) in
     ap (the_standing s.setup) (sym (stays ∙ ap (with_list s.world) list))

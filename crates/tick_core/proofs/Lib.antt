@@ -6,5 +6,7 @@ pub mod SceneLemmas
 pub mod OrderLemmas
 pub mod StepLemmas
 pub mod TellLemmas
+pub mod WaitingLemmas
 pub mod BusyLemmas
+pub mod LiveLemmas
 pub mod BlocksLemmas

@@ -3,6 +3,7 @@ pub mod Burial
 pub mod Game
 pub mod Live
 pub mod Idle
+pub mod Waiting
 pub mod Touched
 pub mod Scene
 pub mod Telling

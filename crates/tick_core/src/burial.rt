@@ -1,46 +1,44 @@
-ghost use Rattle.std.specs.Prelude.{◌≡◌, false, filter, map};
-ghost use Rattle.std.specs.List.{All};
-ghost use Rattle.game_model.specs.declared.actor.Actor.{Actor as TheActor};
-ghost use Rattle.game_model.specs.Grid.{IsOn};
+ghost use Rattle.std.specs.Prelude.{◌≡◌, filter, map};
 ghost use Rattle.game_model.specs.World.{is_alive};
 ghost use Rattle.game_tick.specs.Turn.{buried};
 ghost use Rattle.sync_hash.specs.Kept.{numbered};
 ghost use Rattle.tick_core.specs.Burial.{without_dead};
 
-use crate::blocks::is_building;
 use crate::live::LiveWorld;
+use crate::scene::Scene;
 use actor_table::ActorTable;
-use game_model::{Actor, Blocks};
-use rule_traits::Rules;
+use game_model::Actor;
 use sync_hash::Hasher;
 
 impl LiveWorld {
-    /// Removes the actors without health. Where there is none, it costs a look at each actor.
+    /// Removes the actors without health. Where nobody has died since the last burial it looks at
+    /// nobody.
     pub(crate) fn bury(&mut self)
         ensures { self.new ≡ (record self.old { world = buried self.old.world }) }
     {
-        if !has_dead(&self.scene.table) {
-            return;
+        if self.deaths {
+            self.bury_dead();
         }
-        forget_the_dead(&self.scene.table, &mut self.hasher);
+    }
+
+    /// Removes the actors without health.
+    fn bury_dead(&mut self)
+        ensures { self.new ≡ (record self.old { world = buried self.old.world }) }
+    {
+        self.scene.forget_the_dead(&mut self.hasher);
         self.scene.bury();
+        self.deaths = false;
     }
 }
 
-/// Whether an actor has no health.
-#[tactic(auto, using(crate::proofs::BurialLemmas::alive_next))]
-pub(crate) fn has_dead(table: &ActorTable) -> bool
-    ensures { result ≡ false → filter is_alive table.now.actors ≡ table.now.actors }
-{
-    for i in 0..table.len() {
-        let Some(actor) = table.nth_actor(i) else {
-            unreachable!()
-        };
-        if !is_alive(actor) {
-            return true;
-        }
+impl Scene {
+    /// Takes the numbers of the actors without health out.
+    fn forget_the_dead(&self, hasher: &mut Hasher)
+        requires { hasher.old.actors ≡ map numbered self.now.world.actors }
+        ensures { hasher.new ≡ (record hasher.old { actors = map numbered (filter is_alive self.now.world.actors) }) }
+    {
+        forget_the_dead(&self.table, hasher);
     }
-    false
 }
 
 /// Takes the numbers of the actors without health out.

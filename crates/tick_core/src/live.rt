@@ -13,17 +13,21 @@ use sync_hash::Hasher;
 pub(crate) struct LiveWorld {
     pub(crate) scene: Scene,
     pub(crate) hasher: Hasher,
+    /// Whether somebody may have died since the last burial. Where it is false all have health.
+    pub(crate) deaths: bool,
 }
 
 impl Model for LiveWorld {
+    ghost use Rattle.std.specs.Prelude.{◌≡◌, false};
     ghost use Rattle.sync_hash.specs.Kept.{IsKeptOf};
-    ghost use Rattle.tick_core.specs.Live.{Standing};
+    ghost use Rattle.tick_core.specs.Live.{AllLive, Standing};
 
     ghost Value = { Standing };
 
     ghost view = { λ live. live.scene };
 
-    ghost invariant = { λ live. IsKeptOf live.hasher live.scene.world.actors live.scene.world.ore };
+    ghost invariant = { λ live. IsKeptOf live.hasher live.scene.world.actors live.scene.world.ore ×
+        (live.deaths ≡ false → AllLive live.scene.world.actors) };
 }
 
 impl LiveWorld {
@@ -46,7 +50,11 @@ impl LiveWorld {
     {
         let hasher = Hasher::create(alloc, map.width, map.height, &world)?;
         let scene = Scene::of(alloc, rules, map, world)?;
-        Ok(LiveWorld { scene, hasher })
+        Ok(LiveWorld {
+            scene,
+            hasher,
+            deaths: false,
+        })
     }
 
     /// The world as it is now. Out of memory is the only error.

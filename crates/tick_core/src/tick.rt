@@ -102,7 +102,7 @@ impl LiveWorld {
     {
         self.scene.apply_order(client, order);
         let subject = subject_of(order);
-        self.scene.tell(&mut self.hasher, subject, None, None);
+        let _died = self.scene.tell(&mut self.hasher, subject, None, None);
     }
 
     /// Runs so many turns.

@@ -1,20 +1,24 @@
-ghost use Rattle.std.specs.Prelude.{◌≡◌, ℕ, ◌==◌, ◌+◌, ◌-◌, ◌≤◌, ◌<◌, ◌^◌, [], true, false, if◌then◌else◌, length, map, slice_get, IfSome, None, Some};
+ghost use Rattle.std.specs.Prelude.{◌≡◌, ℕ, ◌==◌, ◌+◌, ◌-◌, ◌≤◌, ◌<◌, ◌^◌, ◌&&◌, ◌||◌, [], true, false, not, if◌then◌else◌, is_some, length, map, slice_get, IfSome, None, Some};
 ghost use Rattle.actor_table.specs.Idle.{IsIdle};
+ghost use Rattle.game_model.specs.declared.actor.Actor.{Actor};
 ghost use Rattle.game_model.specs.Grid.{IsOn};
 ghost use Rattle.game_model.specs.ValidMap.{IsSetup};
 ghost use Rattle.game_model.specs.World.{ids_of, living_of};
 ghost use Rattle.game_model.specs.declared.limits.TheConstants.{MAX_ACTORS};
 ghost use Rattle.game_tick.specs.Turn.{after_step, after_steps, after_turn};
 ghost use Rattle.sync_hash.specs.Kept.{numbered};
+ghost use Rattle.tick_core.specs.Live.{AreLive, LivesOf};
 ghost use Rattle.tick_core.specs.Scene.{IsActing};
 ghost use Rattle.tick_core.specs.Telling.{HasPlaceFor, cell_of, target_of, told_of, told_ore, with_some};
 ghost use Rattle.tick_core.specs.Touched.{KeptBut};
+ghost use Rattle.tick_core.specs.Waiting.{IsDone, IsWaiting};
 
+use crate::burial::is_alive;
 use crate::live::LiveWorld;
 use crate::scene::Scene;
 use activities::Activity;
 use actor_table::ActorTable;
-use game_model::Ore;
+use game_model::{Body, Build, Ore};
 use sync_hash::Hasher;
 use world_units::CPos;
 
@@ -73,37 +77,82 @@ fn aim_of(table: &ActorTable, id: u32) -> Aim
     }
 }
 
-/// Tells the hasher of the actor of an id, if it is there.
-fn tell_actor(table: &ActorTable, hasher: &mut Hasher, id: Option<u32>)
-    requires { HasPlaceFor hasher.old.actors table.now.actors id }
-    ensures { hasher.new ≡ told_of hasher.old table.now.actors id }
+/// Whether the actor of an id, if it lives, waits for a unit that it has built, and has nothing else
+/// to do.
+fn is_waiting(table: &ActorTable, id: u32) -> bool
+    ensures { result ≡ true → IfSome (living_of table.now.actors id) IsWaiting }
 {
-    if let Some(id) = id
-        && let Some(a) = table.get(id)
-    {
-        hasher.actor_set(a);
+    match table.living(id) {
+        Some(a) => waits(&a.body),
+        None => false,
     }
 }
 
+/// Whether an actor with this body has nothing to load, to do or to go, and no turn is left of its
+/// first build.
+fn waits(body: &Body) -> bool
+    ensures { (a : Actor) → a.body ≡ body.now → result ≡ true → IsWaiting a }
+{
+    body.reload == 0
+        && body.leg.is_none()
+        && body.acts.as_slice().is_empty()
+        && is_done(body.builds.as_slice())
+}
+
+/// Whether no turn is left of the first of these builds, if there is one.
+fn is_done(builds: &[Build]) -> bool
+    ensures { result ≡ true → IsDone builds.now }
+{
+    match builds.first() {
+        Some(build) => build.left == 0,
+        None => true,
+    }
+}
+
+/// One of the two, or both.
+fn either(one: bool, other: bool) -> bool
+    ensures { result ≡ (one || other) }
+{
+    one | other
+}
+
+/// Tells the hasher of the actor of an id, if it is there. Returns whether it has no health.
+fn tell_actor(table: &ActorTable, hasher: &mut Hasher, id: Option<u32>) -> bool
+    requires { HasPlaceFor hasher.old.actors table.now.actors id }
+    ensures told { hasher.new ≡ told_of hasher.old table.now.actors id }
+    ensures living { result ≡ false → LivesOf table.now.actors id }
+{
+    let Some(id) = id else {
+        return false;
+    };
+    let Some(a) = table.get(id) else {
+        return false;
+    };
+    hasher.actor_set(a);
+    !is_alive(a)
+}
+
 /// Tells the hasher of the actors of these ids, as far as they are there: the numbers of all others
-/// are right.
+/// are right. Returns whether one of these has no health.
 fn tell_actors(
     table: &ActorTable,
     hasher: &mut Hasher,
     id: Option<u32>,
     target: Option<u32>,
     added: Option<u32>,
-)
+) -> bool
     requires { KeptBut (with_some id (with_some target (with_some added []))) hasher.old.actors table.now.actors }
     ensures numbers { hasher.new.actors ≡ map numbered table.now.actors }
     ensures cells { hasher.new.cells ≡ hasher.old.cells }
     ensures width { hasher.new.width ≡ hasher.old.width }
     ensures height { hasher.new.height ≡ hasher.old.height }
+    ensures living { result ≡ false → AreLive (with_some id (with_some target (with_some added []))) table.now.actors }
 {
     let _ids_rise = table.len();
-    tell_actor(table, hasher, id);
-    tell_actor(table, hasher, target);
-    tell_actor(table, hasher, added);
+    let own = tell_actor(table, hasher, id);
+    let hit = tell_actor(table, hasher, target);
+    let new = tell_actor(table, hasher, added);
+    either(own, either(hit, new))
 }
 
 /// The id, where these differ.
@@ -111,6 +160,18 @@ fn if_changed(before: u64, after: u64, id: Option<u32>) -> Option<u32>
     ensures { result ≡ (if before == after then None else id) }
 {
     if before == after { None } else { id }
+}
+
+/// The id of the actor that made a step, where it may have changed: not where it waited and no unit
+/// came out.
+fn if_stepped(waited: bool, added: Option<u32>, id: u32) -> Option<u32>
+    ensures { result ≡ (if waited && not (is_some added) then None else Some id) }
+{
+    if waited && added.is_none() {
+        None
+    } else {
+        Some(id)
+    }
 }
 
 /// Tells the hasher of the ore of a cell of the map.
@@ -167,22 +228,31 @@ impl Scene {
         lives_at(&self.table, i, id)
     }
 
+    /// Whether the actor of an id, if it lives, waits for a unit that it has built, and has nothing
+    /// else to do.
+    fn is_waiting(&self, id: u32) -> bool
+        ensures { result ≡ true → IfSome (living_of self.now.world.actors id) IsWaiting }
+    {
+        is_waiting(&self.table, id)
+    }
+
     /// Tells the hasher of the actors of these ids, as far as they are there: the numbers of all
-    /// others are right.
+    /// others are right. Returns whether one of these has no health.
     pub(crate) fn tell(
         &self,
         hasher: &mut Hasher,
         id: Option<u32>,
         target: Option<u32>,
         added: Option<u32>,
-    )
+    ) -> bool
         requires { KeptBut (with_some id (with_some target (with_some added []))) hasher.old.actors self.now.world.actors }
         ensures numbers { hasher.new.actors ≡ map numbered self.now.world.actors }
         ensures cells { hasher.new.cells ≡ hasher.old.cells }
         ensures width { hasher.new.width ≡ hasher.old.width }
         ensures height { hasher.new.height ≡ hasher.old.height }
+        ensures living { result ≡ false → AreLive (with_some id (with_some target (with_some added []))) self.now.world.actors }
     {
-        tell_actors(&self.table, hasher, id, target, added);
+        tell_actors(&self.table, hasher, id, target, added)
     }
 
     /// Tells the hasher of the ore of a cell of the map.
@@ -250,7 +320,8 @@ impl LiveWorld {
         }
     }
 
-    /// The step of the actor of an id by its parts, and the telling.
+    /// The step of the actor of an id by its parts, and the telling: of the actor itself where it may
+    /// have changed, of who was hit, and of who came out. It is noted where one of them has died.
     fn step_busy(&mut self, id: u32)
         requires { self.old.world.drawn < 2 ^ 64 - 1 }
         ensures { self.new ≡ (record self.old { world = after_step self.old.setup self.old.world id }) }
@@ -258,6 +329,7 @@ impl LiveWorld {
         self.scene.known();
         let next_id = self.scene.next_id();
         let drawn = self.scene.drawn();
+        let waited = self.scene.is_waiting(id);
         self.scene.prepare(id);
         self.scene.known();
         let aim = self.scene.aim(id);
@@ -266,7 +338,9 @@ impl LiveWorld {
         let new_id = self.scene.next_id();
         let added = if_changed(u64::from(next_id), u64::from(new_id), Some(next_id));
         self.scene.known();
-        self.scene.tell(&mut self.hasher, Some(id), target, added);
+        let stepped = if_stepped(waited, added, id);
+        let died = self.scene.tell(&mut self.hasher, stepped, target, added);
+        self.deaths = either(self.deaths, died);
         self.scene.tell_ore(&mut self.hasher, aim.cell);
     }
 }

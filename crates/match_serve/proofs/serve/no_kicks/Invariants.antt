@@ -1,5 +1,5 @@
-use Rattle.std.proofs.Common.{◌≡◌, ◌≤◌, length}
+use Rattle.std.proofs.Common.{◌≡◌, ◌≤◌, false, replicate}
 use Rattle.match_serve.proofs.serve.no_kicks.Given as goal
 
 abbrev pub invariant-loop-client : goal.invariant-loop-client
-invariant-loop-client l = (length l.kicked.items ≡ l._client) × (l._client ≤ l.clients)
+invariant-loop-client l = (l.kicked.items ≡ replicate l._client false) × (l._client ≤ l.clients)

@@ -1,17 +1,19 @@
-use Rattle.std.proofs.Common.{length, List, subst, ap, sym, ◌∙◌}
+use Rattle.std.proofs.Common.{ℕ, ◌<◌, Bool, length, List, subst, ap, sym, ◌∙◌}
 use Rattle.std.specs.Prelude.{All}
 use Rattle.frame_table.specs.Calls.{view_of}
 use Rattle.report_line.specs.declared.heard.Heard.{Heard}
 use Rattle.report_line.specs.Order.{IsInterleaving}
 use Rattle.report_line.specs.Reports.{heard, joined}
+use Rattle.frame_core.specs.Column.{Column}
 use Rattle.frame_core.specs.Match.{Match}
 use Rattle.match_serve.specs.declared.link_end.LinkEnd.{LinkEnd}
+use Rattle.match_serve.specs.Watching.{WatchesConsole}
 use Rattle.match_serve.specs.Serve.{ServesMatch}
 use Rattle.match_serve.specs.Heard.{HasHeard}
 use Rattle.match_serve.specs.Seats.{PieceState, IsNewSeat}
-use Rattle.match_serve.proofs.MatchLemmas.{may_serve, serves, joined_left, joined_grows, hears_nothing, still_heard, split_shares, total}
-use Rattle.match_serve.proofs.SplitLemmas.{kept_still, given_still}
-use Rattle.match_serve.proofs.CloseLemmas.{joined_pass, joined_share}
+use Rattle.match_serve.proofs.MatchLemmas.{may_serve, serves, fixed_by, joined_left, joined_grows, hears_nothing, still_heard, split_shares, total}
+use Rattle.match_serve.proofs.SplitLemmas.{kept_still, given_still, kept_made, given_made}
+use Rattle.match_serve.proofs.CloseLemmas.{joined_pass, joined_share, joined_made}
 use Rattle.match_serve.proofs.PieceLemmas.{done_back, written_back}
 use Rattle.match_serve.proofs.serve.serve_opened.Goals as goal
 
@@ -31,7 +33,7 @@ run_threads-requires-clause-heard g c κs within = hears_nothing _ _ _ c.require
 pub close_links-requires-clause-pass : goal.close_links-requires-clause-pass
 close_links-requires-clause-pass g c κs within =
     let ran = c.in_ok-run_threads.ensures in
-    joined_pass _ _ _ _ _ ran.pass ran.watching.is c.join.ensures.pass c.join.ensures.joined
+    joined_pass _ _ _ _ _ ran.pass ran.watches.pass.is c.join.ensures.pass c.join.ensures.joined
 
 pub close_links-requires-clause-left : goal.close_links-requires-clause-left
 close_links-requires-clause-left g c κs within =
@@ -60,9 +62,18 @@ returns-clause-served g c = λ coming are still.
     let has = subst (λ k. HasHeard k c.take_reports.new.board.reports (heard c.take_reports.new.hearer)) ran.boards told.board in
     let of_match : Match g.row.S.Denot = record { start = c.args.sim; after = g.S.Sim.after; hash = g.S.Sim.hash_of; summary = g.S.Sim.summary_of; clients = c.args.invite.now.clients; lag = 0 } in
     let ends = c.from_vec.ensures ∙ written_back c.args.ends.items c.close_links.new.ends c.args.ends.len (sym c.as_mut_slice-2.ensures.len ∙ ap length c.as_mut_slice-2.ensures.value) (handed.ends ∙ sym c.requires.ends) in
-    subst (λ (e : List LinkEnd). ServesMatch of_match c.args.invite.now coming (g.N.Net.state c.close_links.new.net) c.run_threads.new.sim (g.S.Sim.steps c.run_threads.new.sim) c.args.table c.leave_all.new.pass c.take_reports.new.board e) (sym ends)
-    (serves of_match c.args.invite.now coming (g.N.Net.state c.close_links.new.net) c.args.table (view_of c.split-watching.new.pass) c.run_threads.new.pass c.join.new.pass c.close_links.new.pass c.leave_all.new.pass c.run_threads.new.board c.take_reports.new.board c.close_links.new.ends (g.S.Sim.steps c.run_threads.new.sim) c.run_threads.new.sim (heard c.take_reports.new.hearer) (joined c.close_links.new.hearer)
-    ran.pass gone.pass ran.ticked (joined_grows _ _ c.run_threads.new.pass c.join.new.pass ran.pass c.join.ensures.mine) handed.known gone.gone
-    (total _ _ _ _ _ _ _ _ _ _ (split_shares c.args.pass c.split-watching.new.pass c.split-watching.result c.split-watching.ensures.kept c.split-watching.ensures.given) ran.share ran.watching.share
-    (joined_share _ _ _ _ _ ran.pass ran.watching.is c.join.ensures.pass c.join.ensures.joined) handed.share gone.gone.share done.1 c.requires.shares)
-    told.wanted (told.boards ∙ ran.boards) handed.given (handed.coming ∙ still) handed.ends (handed.links coming done.0) has handed.joined between c.reports_of_each_client_are_heard.ensures)
+    let watches = subst (λ (l : List Bool). WatchesConsole c.args.invite.now.clients c.args.table (g.C.Source.state c.args.console.now) (g.C.Source.state c.run_threads.new.console) c.split-watching.result c.run_threads.new.watching l) (sym c.as_slice.ensures.value) ran.watches in
+    let split = c.split-watching.ensures in
+    let of_joined = joined_pass _ _ _ _ _ ran.pass ran.watches.pass.is c.join.ensures.pass c.join.ensures.joined in
+    let share = total _ _ _ _ _ _ _ _ _ _ (split_shares c.args.pass c.split-watching.new.pass c.split-watching.result split.kept split.given) ran.share ran.watches.pass.share
+    (joined_share _ _ _ _ _ ran.pass ran.watches.pass.is c.join.ensures.pass c.join.ensures.joined) handed.share gone.gone.share done.1 c.requires.shares in
+    let was_left = joined_left _ _ c.run_threads.new.pass c.join.new.pass ran.pass ran.ticked.left.left c.join.ensures.mine in
+    let once = λ (d : ℕ) (below : d < c.args.invite.now.clients). gone.once (sym gone.gone.share ∙ share) d below (ap (λ (k : Column). k.left) (handed.known d below) ∙ was_left d below) in
+    let by = fixed_by _ _ _ c.split-watching.new.pass c.run_threads.new.pass c.split-watching.result c.run_threads.new.watching c.join.new.pass c.close_links.new.pass _
+    (λ d. kept_made _ _ c.args.pass c.split-watching.new.pass c.split-watching.result c.requires.opening.is split.kept d ∙ c.requires.opening.fixed_none d) ran.ticked.learns
+    (given_made _ _ c.args.pass c.split-watching.new.pass c.split-watching.result c.requires.opening.is split.given) watches.pass
+    (joined_made _ _ _ _ _ ran.pass ran.watches.pass.is c.join.ensures.pass c.join.ensures.joined) handed.made once in
+    subst (λ (e : List LinkEnd). ServesMatch of_match c.args.invite.now coming (g.C.Source.state c.args.console.now) (g.C.Source.state c.run_threads.new.console) (g.N.Net.state c.close_links.new.net) c.run_threads.new.sim (g.S.Sim.steps c.run_threads.new.sim) c.args.table c.leave_all.new.pass c.take_reports.new.board e) (sym ends)
+    (serves of_match c.args.invite.now coming (g.C.Source.state c.args.console.now) (g.C.Source.state c.run_threads.new.console) watches.read (g.N.Net.state c.close_links.new.net) c.args.table (view_of c.split-watching.new.pass) c.run_threads.new.pass c.join.new.pass c.close_links.new.pass c.leave_all.new.pass c.run_threads.new.board c.take_reports.new.board c.close_links.new.ends (g.S.Sim.steps c.run_threads.new.sim) c.run_threads.new.sim (heard c.take_reports.new.hearer) (joined c.close_links.new.hearer) _ _
+    ran.pass of_joined gone.pass ran.ticked (joined_grows _ _ c.run_threads.new.pass c.join.new.pass ran.pass c.join.ensures.mine) handed.known gone.gone share
+    told.wanted (told.boards ∙ ran.boards) handed.given (handed.coming ∙ still) handed.ends (handed.links coming done.0) watches.kicked_are by has handed.joined between c.reports_of_each_client_are_heard.ensures)
