@@ -8,10 +8,10 @@ use Rattle.std.proofs.lemmas.List.{map_push, get_or_append_left}
 use Rattle.std.proofs.Math.Seq.{get_or-append_seam}
 use Rattle.std.proofs.lemmas.List.Folds.{list_all-append}
 use Rattle.std.proofs.lemmas.Option.{slice_get_read, get_or_from_slice_get}
+use Rattle.game_orders.specs.declared.order.Order.{Order}
 use Rattle.game_orders.specs.declared.entry.Entry.{Entry}
 use Rattle.game_orders.specs.declared.entry.Entry.TheVariants.{Play, Leave}
-use Rattle.game_orders.specs.Entry.{is_play}
-use Rattle.frame_core.specs.StoredPlays.{orders_of, play_at, plays_at, is_place, is_empty_play}
+use Rattle.frame_core.specs.StoredPlays.{orders_of, play_at, plays_at, is_place}
 use Rattle.frame_core.specs.StoredPlays.{ArePlays, Keeps}
 
 -- An entry that is kept is a play.
@@ -31,11 +31,10 @@ lent_full full i place e next there plays at =
     sym (get_or_from_slice_get full i e Leave (slice_get_read full (length full) i e refl below at))
     ∙ kept_play full i plays below ∙ ap (λ p. Play (play_at full p)) next
 
-ArePlays-push : (full : List Entry) (e : Entry) → ArePlays full → is_play e ≡ true → ArePlays (full ++ e ∷ [])
-ArePlays-push [] (Play orders) plays play = tt
-ArePlays-push [] Leave plays play = absurd cc
-ArePlays-push (Play first ∷ full) e plays play = ArePlays-push full e plays play
-ArePlays-push (Leave ∷ full) e plays play = absurd plays
+ArePlays-push : (full : List Entry) (orders : List Order) → ArePlays full → ArePlays (full ++ Play orders ∷ [])
+ArePlays-push [] orders plays = tt
+ArePlays-push (Play first ∷ full) orders plays = ArePlays-push full orders plays
+ArePlays-push (Leave ∷ full) orders plays = absurd plays
 
 -- With one more play that has orders all others stay.
 play_at-more : (full : List Entry) (e : Entry) (place : ℕ) → place ≤ length full → play_at (full ++ e ∷ []) place ≡ play_at full place
@@ -66,32 +65,28 @@ all_places-push size places place all there =
     ∙ and_from (list_all (is_place size) places) (list_all (is_place size) (place ∷ [])) all
     (and_from (is_place size place) true (le-leb place size there) refl)
 
-empty_orders : (e : Entry) → is_empty_play e ≡ true → [] ≡ orders_of e
-empty_orders (Play []) is = refl
-empty_orders (Play (order ∷ orders)) is = absurd cc
-empty_orders Leave is = absurd cc
-
 -- The plays with one more.
-pub record Pushed (full full' : List Entry) (places places' : List ℕ) (e : Entry) : Type 0 where
+pub record Pushed (full full' : List Entry) (places places' : List ℕ) (orders : List Order) : Type 0 where
   pub there : list_all (is_place (length full')) places' ≡ true
   pub plays : ArePlays full'
-  pub seen : plays_at full' places' ≡ plays_at full places ++ orders_of e ∷ []
+  pub seen : plays_at full' places' ≡ plays_at full places ++ orders ∷ []
 
 pushed_at :
-    (full full' : List Entry) (places : List ℕ) (e : Entry) (place : ℕ) → is_play e ≡ true →
-    list_all (is_place (length full)) places ≡ true → ArePlays full → Keeps full full' e place →
-    Pushed full full' places (places ++ place ∷ []) e
-pushed_at full full' places e place play all plays (inl empty) =
+    (full full' : List Entry) (places : List ℕ) (orders : List Order) (place : ℕ) →
+    list_all (is_place (length full)) places ≡ true → ArePlays full → Keeps full full' orders place →
+    Pushed full full' places (places ++ place ∷ []) orders
+pushed_at full full' places orders place all plays (inl empty) =
     rw empty.1 (
     rw empty.2 (
     record {
       there = all_places-push (length full) places 0 all (omega arith);
       plays = plays;
-      seen = map_push (play_at full) places 0 ∙ ap (λ o. plays_at full places ++ o ∷ []) (empty_orders e empty.0);
+      seen = map_push (play_at full) places 0 ∙ ap (λ o. plays_at full places ++ o ∷ []) (sym empty.0);
     }
     )
     )
-pushed_at full full' places e place play all plays (inr more) =
+pushed_at full full' places orders place all plays (inr more) =
+    let e = Play orders in
     let long = length-append full (e ∷ []) in
     rw more.0 (
     rw more.1 (
@@ -99,7 +94,7 @@ pushed_at full full' places e place play all plays (inr more) =
       there =
           all_places-push (length (full ++ e ∷ [])) places (suc (length full))
           (all_places-more (length full) (length (full ++ e ∷ [])) places (omega arith) all) (omega arith);
-      plays = ArePlays-push full e plays play;
+      plays = ArePlays-push full orders plays;
       seen =
           map_push (play_at (full ++ e ∷ [])) places (suc (length full))
           ∙ ap₂ (λ xs x. xs ++ x ∷ []) (plays_at-more full e places all) (ap orders_of (get_or-append_seam full e [] Leave));
@@ -108,8 +103,8 @@ pushed_at full full' places e place play all plays (inr more) =
     )
 
 pub pushed :
-    (full full' : List Entry) (places reserved places' : List ℕ) (e : Entry) (place : ℕ) → is_play e ≡ true →
+    (full full' : List Entry) (places reserved places' : List ℕ) (orders : List Order) (place : ℕ) →
     list_all (is_place (length full)) places ≡ true → ArePlays full → reserved ≡ places →
-    places' ≡ reserved ++ place ∷ [] → Keeps full full' e place → Pushed full full' places places' e
-pushed full full' places reserved places' e place play all plays same is kept =
-    rw is (rw same (pushed_at full full' places e place play all plays kept))
+    places' ≡ reserved ++ place ∷ [] → Keeps full full' orders place → Pushed full full' places places' orders
+pushed full full' places reserved places' orders place all plays same is kept =
+    rw is (rw same (pushed_at full full' places orders place all plays kept))

@@ -1,5 +1,5 @@
 -- How a client's plays are stored: a place for each, and apart those that have orders.
-use Rattle.std.specs.Prelude.{◌≡◌, ℕ, zero, suc, ◌⊎◌, nat_le, Bool, true, false}
+use Rattle.std.specs.Prelude.{◌≡◌, ℕ, zero, suc, ◌⊎◌, nat_le, Bool}
 use Rattle.std.specs.Prelude.{List, [], ◌∷◌, ◌++◌, length, map, slice_index_or}
 use Rattle.game_orders.specs.declared.order.Order.{Order}
 use Rattle.game_orders.specs.declared.entry.Entry.{Entry}
@@ -29,13 +29,8 @@ ArePlays [] = Unit {0}
 ArePlays (Play orders ∷ rest) = ArePlays rest
 ArePlays (Leave ∷ rest) = ⊥
 
-abbrev pub is_empty_play : Entry → Bool
-is_empty_play (Play []) = true
-is_empty_play (Play (order ∷ orders)) = false
-is_empty_play Leave = false
-
--- An entry was kept at this place: one without orders at 0, any other last.
-abbrev pub Keeps : List Entry → List Entry → Entry → ℕ → Type 0
-Keeps old new e place =
-    ((is_empty_play e ≡ true) × (new ≡ old) × (place ≡ 0))
-    ⊎ ((new ≡ old ++ e ∷ []) × (place ≡ suc (length old)))
+-- A play was kept at this place: one without orders at 0, any other last.
+abbrev pub Keeps : List Entry → List Entry → List Order → ℕ → Type 0
+Keeps old new orders place =
+    ((orders ≡ []) × (new ≡ old) × (place ≡ 0))
+    ⊎ ((new ≡ old ++ Play orders ∷ []) × (place ≡ suc (length old)))

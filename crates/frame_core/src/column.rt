@@ -1,5 +1,7 @@
-ghost use Rattle.std.specs.Prelude.{◌≡◌, ◌<◌, ◌≤◌, true, OnOk, OnErr, IfOk, IfSome};
-ghost use Rattle.game_orders.specs.Entry.{is_play};
+ghost use Rattle.std.specs.Prelude.{◌≡◌, ◌<◌, ◌≤◌, true, length, OnOk, OnErr, IfOk, IfSome};
+ghost use Rattle.game_orders.specs.declared.entry.Entry.TheVariants.{Play, Leave};
+ghost use Rattle.game_orders.specs.declared.limits.TheConstants.{MAX_ORDERS};
+ghost use Rattle.game_orders.specs.Entry.{is_play, same_entry};
 ghost use Rattle.std.specs.Option.{option_copied};
 ghost use Rattle.frame_core.specs.Input.{input_of};
 ghost use Rattle.frame_core.specs.Column.{length_of, entry_at, has_at, put_answer, put_column};
@@ -10,7 +12,7 @@ use crate::leaving::Leaving;
 use crate::put::Put;
 use crate::stored_plays::StoredPlays;
 use base::NoMemory;
-use game_orders::{Entry, MAX_FRAMES};
+use game_orders::{Entry, MAX_FRAMES, Order};
 use std::alloc::Global;
 use std::marker::Model;
 
@@ -85,8 +87,21 @@ impl StoredColumn {
         ensures after { OnOk result (self.new ≡ put_column self.old n e) }
         ensures err { OnErr result (self.new ≡ self.old) }
     {
+        match &e {
+            Entry::Play(orders) => self.put_play(n, orders.as_slice()),
+            Entry::Leave => Ok(self.put_leave(n)),
+        }
+    }
+
+    /// Puts a play at frame `n`. Out of memory, its one error, it changes nothing.
+    pub(crate) fn put_play(&mut self, n: u32, orders: &[Order]) -> Result<Put, NoMemory>
+        requires { length orders.now ≤ MAX_ORDERS }
+        ensures answer { IfOk result (λ put. put ≡ put_answer self.old n (Play orders.now)) }
+        ensures after { OnOk result (self.new ≡ put_column self.old n (Play orders.now)) }
+        ensures err { OnErr result (self.new ≡ self.old) }
+    {
         if let Some(kept) = self.entry(n) {
-            if e == *kept {
+            if is_play_of(kept, orders) {
                 return Ok(Put::Repeat);
             }
             return Ok(Put::Conflict(kept.copy()));
@@ -98,11 +113,33 @@ impl StoredColumn {
         if length < n {
             return Ok(Put::Ahead(length));
         }
-        if e.is_play() && n == MAX_FRAMES {
+        if n == MAX_FRAMES {
             return Ok(Put::Full);
         }
-        self.add(e)?;
+        self.add_play(orders)?;
         Ok(Put::Fixed)
+    }
+
+    /// Puts a departure at frame `n`.
+    fn put_leave(&mut self, n: u32) -> Put
+        ensures answer { result ≡ put_answer self.old n Leave }
+        ensures after { self.new ≡ put_column self.old n Leave }
+    {
+        if let Some(there) = self.entry(n) {
+            if !there.is_play() {
+                return Put::Repeat;
+            }
+            return Put::Conflict(there.copy());
+        }
+        let length = self.plays();
+        if self.left && length < n {
+            return Put::Left(length);
+        }
+        if length < n {
+            return Put::Ahead(length);
+        }
+        self.left = true;
+        Put::Fixed
     }
 
     /// What the client has for frame `n`: its play there, or its departure at `n` or before it.
@@ -144,17 +181,23 @@ impl StoredColumn {
         Leaving::Fixed(length)
     }
 
-    /// Adds an entry last: a play to the plays, or the departure after them.
-    fn add(&mut self, e: Entry) -> Result<(), NoMemory>
-        requires { is_play e ≡ true → length_of self.old < MAX_FRAMES }
-        ensures added { OnOk result (self.new ≡ with_entry self.old e) }
+    /// Adds a play last.
+    fn add_play(&mut self, orders: &[Order]) -> Result<(), NoMemory>
+        requires room { length_of self.old < MAX_FRAMES }
+        requires limit { length orders.now ≤ MAX_ORDERS }
+        ensures added { OnOk result (self.new ≡ with_entry self.old (Play orders.now)) }
         ensures err { OnErr result (self.new ≡ self.old) }
     {
-        if e.is_play() {
-            self.plays.push(e)?;
-        } else {
-            self.left = true;
-        }
-        Ok(())
+        self.plays.push(orders)
+    }
+}
+
+/// Whether an entry is the play of these orders.
+fn is_play_of(kept: &Entry, orders: &[Order]) -> bool
+    ensures { result ≡ same_entry (Play orders.now) kept.now }
+{
+    match kept {
+        Entry::Play(others) => orders == others.as_slice(),
+        Entry::Leave => false,
     }
 }

@@ -1,5 +1,7 @@
 ghost use Rattle.std.specs.Prelude.{◌≡◌, ◌<◌, ◌≤◌, length, replicate, IfOk, OnOk, OnErr, slice_set};
 ghost use Rattle.std.specs.Option.{option_copied};
+ghost use Rattle.game_orders.specs.declared.entry.Entry.TheVariants.{Play};
+ghost use Rattle.game_orders.specs.declared.limits.TheConstants.{MAX_ORDERS};
 ghost use Rattle.frame_core.specs.Column.{column_of, length_of, entry_at, put_answer, put_column};
 ghost use Rattle.frame_core.specs.Column.{no_column, leave_answer, left_column};
 ghost use Rattle.frame_core.specs.Put.{PutMeans};
@@ -13,7 +15,7 @@ use crate::leaving::Leaving;
 use crate::put::Put;
 use crate::ready::Ready;
 use base::NoMemory;
-use game_orders::{Entry, Frame, MAX_CLIENTS, MAX_FRAMES};
+use game_orders::{Entry, Frame, MAX_CLIENTS, MAX_FRAMES, Order};
 use std::alloc::Global;
 use std::marker::Model;
 
@@ -108,6 +110,23 @@ impl Columns {
         ensures err { OnErr result (self.new ≡ self.old) }
     {
         self.held[c as usize].put(n, e)
+    }
+
+    /// Puts a play of client `c`, which is below the number of clients, at frame `n`, as
+    /// [`put`](Self::put) does, of orders that are lent, at most
+    /// [`MAX_ORDERS`](game_orders::MAX_ORDERS).
+    pub fn put_play(&mut self, c: u8, n: u32, orders: &[Order]) -> Result<Put, NoMemory>
+        requires client { c < length self.old }
+        requires limit { length orders.now ≤ MAX_ORDERS }
+        ensures answer { IfOk result (λ put. put
+            ≡ put_answer (column_of self.old c) n (Play orders.now)) }
+        ensures after { OnOk result (self.new ≡ slice_set self.old c
+            (put_column (column_of self.old c) n (Play orders.now))) }
+        ensures means { IfOk result (λ put. PutMeans (column_of self.new c) n (Play orders.now) put) }
+        ensures grows { Grows self.old self.new }
+        ensures err { OnErr result (self.new ≡ self.old) }
+    {
+        self.held[c as usize].put_play(n, orders)
     }
 
     /// Lets client `c`, which is below the number of clients, leave: its departure stands at the

@@ -123,7 +123,7 @@ fn pool_part(pool: &[Order], first: usize, count: usize) -> &[Order]
 }
 
 /// Orders of their own.
-fn orders_of(part: &[Order]) -> Orders
+pub(crate) fn orders_of(part: &[Order]) -> Orders
     requires { length part.now ≤ MAX_ORDERS }
     ensures { result ≡ part.now }
 {

@@ -1,12 +1,13 @@
-ghost use Rattle.std.specs.Prelude.{◌≡◌, [], ◌∷◌, ◌++◌, true, length, nat_le, slice_get};
+ghost use Rattle.std.specs.Prelude.{◌≡◌, ◌≤◌, [], ◌∷◌, ◌++◌, true, length, nat_le, slice_get};
 ghost use Rattle.std.specs.Prelude.{IfOk, OnOk, OnErr};
 ghost use Rattle.std.specs.Option.{option_copied, option_map};
 ghost use Rattle.game_orders.specs.declared.entry.Entry.TheVariants.{Play};
-ghost use Rattle.game_orders.specs.Entry.{is_play};
-ghost use Rattle.frame_core.specs.StoredPlays.{orders_of, play_at, is_empty_play, ArePlays, Keeps};
+ghost use Rattle.game_orders.specs.declared.limits.TheConstants.{MAX_ORDERS};
+ghost use Rattle.frame_core.specs.StoredPlays.{play_at, ArePlays, Keeps};
 
+use crate::play_list::orders_of;
 use base::NoMemory;
-use game_orders::{Entry, Orders};
+use game_orders::{Entry, Order, Orders};
 use std::alloc::{AllocError, Global};
 use std::marker::Model;
 
@@ -64,13 +65,13 @@ impl StoredPlays {
     }
 
     /// Adds a play last. Out of memory is its one error, and then nothing has changed.
-    pub(crate) fn push(&mut self, e: Entry) -> Result<(), NoMemory>
-        requires { is_play e ≡ true }
-        ensures added { OnOk result (self.new ≡ self.old ++ orders_of e ∷ []) }
+    pub(crate) fn push(&mut self, orders: &[Order]) -> Result<(), NoMemory>
+        requires { length orders.now ≤ MAX_ORDERS }
+        ensures added { OnOk result (self.new ≡ self.old ++ orders.now ∷ []) }
         ensures err { OnErr result (self.new ≡ self.old) }
     {
         self.places.reserve(1)?;
-        let place = keep(&mut self.full, e)?;
+        let place = keep(&mut self.full, orders)?;
         self.places.push_reserved(place);
         Ok(())
     }
@@ -91,27 +92,17 @@ fn lent<'a>(full: &'a [Entry], empty: &'a Entry, place: u32) -> &'a Entry
 }
 
 /// Keeps a play, if it has orders, and gives its place.
-fn keep(full: &mut Vec<Entry>, e: Entry) -> Result<u32, NoMemory>
-    requires { is_play e ≡ true }
-    ensures kept { IfOk result (Keeps full.old.items full.new.items e) }
+fn keep(full: &mut Vec<Entry>, orders: &[Order]) -> Result<u32, NoMemory>
+    requires { length orders.now ≤ MAX_ORDERS }
+    ensures kept { IfOk result (Keeps full.old.items full.new.items orders.now) }
     ensures err { OnErr result (full.new.items ≡ full.old.items) }
 {
-    if is_empty_play(&e) {
+    if orders.is_empty() {
         return Ok(0);
     }
     let Ok(place) = u32::try_from(full.len() + 1) else {
         return Err(AllocError);
     };
-    full.push(e)?;
+    full.push(Entry::Play(orders_of(orders)))?;
     Ok(place)
-}
-
-/// Whether an entry is a play without orders.
-fn is_empty_play(e: &Entry) -> bool
-    ensures { result ≡ is_empty_play e.now }
-{
-    match e {
-        Entry::Play(orders) => orders.is_empty(),
-        Entry::Leave => false,
-    }
 }
