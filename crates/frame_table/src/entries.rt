@@ -1,7 +1,9 @@
 //! The calls that take a column's lock.
-ghost use Rattle.std.specs.Prelude.{◌≡◌, ◌<◌, length, IfOk, OnErr};
+ghost use Rattle.std.specs.Prelude.{◌≡◌, ◌<◌, ◌≤◌, length, IfOk, OnErr};
 ghost use Rattle.std.specs.Option.{option_copied};
 ghost use Rattle.frame_core.specs.Ready.{or_leave};
+ghost use Rattle.game_orders.specs.declared.entry.Entry.TheVariants.{Play};
+ghost use Rattle.game_orders.specs.declared.limits.TheConstants.{MAX_ORDERS};
 ghost use Rattle.frame_table.specs.Calls.{plan_of, view_of, standing, IsPassOf, HasSeen, MayPut};
 ghost use Rattle.frame_table.specs.Calls.{MayLeaveBy, PutsSo, LeavesSo, TakesSo, Unchanged};
 
@@ -9,7 +11,7 @@ use crate::pass::Pass;
 use crate::table::FrameTable;
 use base::NoMemory;
 use frame_core::{Columns, Leaving, Put};
-use game_orders::{Entry, Orders};
+use game_orders::{Entry, Order, Orders};
 use std::sync::Wait;
 
 impl FrameTable {
@@ -36,6 +38,38 @@ impl FrameTable {
     {
         let mut column = self.lock(rt, pass, c);
         match column.put(0, n, e) {
+            Ok(answer) => {
+                self.publish(pass, c, column);
+                Ok(answer)
+            }
+            Err(error) => {
+                self.give_back(pass, c, column);
+                Err(error)
+            }
+        }
+    }
+
+    /// Puts a play of client `c`, which is below the number of clients, at frame `n`, as
+    /// [`put`](Self::put) does, of orders that are lent, at most
+    /// [`MAX_ORDERS`](game_orders::MAX_ORDERS).
+    pub fn put_play<R: Wait>(
+        &self,
+        rt: &R,
+        pass: &mut Pass,
+        c: u8,
+        n: u32,
+        orders: &[Order],
+    ) -> Result<Put, NoMemory>
+        requires pass { IsPassOf self.now pass.old }
+        requires client { c < length (plan_of self.now) }
+        requires limit { length orders.now ≤ MAX_ORDERS }
+        requires may { MayPut (standing pass.old c) n (Play orders.now) }
+        ensures pass { IsPassOf self.now pass.new }
+        ensures ok { IfOk result (PutsSo c (view_of pass.old) (view_of pass.new) n (Play orders.now)) }
+        ensures err { OnErr result (Unchanged (view_of pass.old) (view_of pass.new)) }
+    {
+        let mut column = self.lock(rt, pass, c);
+        match column.put_play(0, n, orders) {
             Ok(answer) => {
                 self.publish(pass, c, column);
                 Ok(answer)

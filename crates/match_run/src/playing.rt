@@ -11,7 +11,7 @@ use base::NoMemory;
 use drill_words::Scripts;
 use frame_table::{FrameTable, Pass};
 use game_io::Gate;
-use game_orders::{Entry, MAX_CLIENTS};
+use game_orders::MAX_CLIENTS;
 use std::sync::Wait;
 use std::sync::atomic::{AtomicBool, Ordering};
 use std::thread;
@@ -81,7 +81,7 @@ fn play_script<R: Wait, G: Gate>(
     let plays = scripts.plays(c);
     for n in 0..plays.len() as u32 {
         gate.before(c, n);
-        let _answer = table.put(rt, pass, c, n, Entry::Play(plays.get(n as usize)))?;
+        let _answer = table.put_play(rt, pass, c, n, plays.play(n as usize))?;
         gate.after(c, n);
         give_way(n);
     }

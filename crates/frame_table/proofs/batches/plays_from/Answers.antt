@@ -1,6 +1,6 @@
 use Rattle.std.proofs.Common.{◌∙◌, ◌≤◌, ap, length, subst}
 use Rattle.std.specs.Prelude.{min}
-use Rattle.frame_core.specs.Column.{Column, column_of, length_of}
+use Rattle.frame_core.specs.Column.{column_of, length_of}
 use Rattle.frame_table.proofs.Copied.{none_copied, one_copied, all_copied, end_is}
 use Rattle.frame_table.proofs.batches.plays_from.Goals as goal
 
