@@ -8,9 +8,9 @@ use Rattle.match_run.proofs.playing.play_script.Goals as goal
 
 pub loop-n-preserved : goal.loop-n-preserved
 loop-n-preserved g c =
-    let at : slice_get (plays_of c.args.scripts.now c.args.c) c.loop-n.n ≡ Some c.get.result =
-    ap (λ (xs : List (List Order)). slice_get xs c.loop-n.n) (sym c.plays-plays.ensures.value) ∙ c.get.ensures in (
-      put_more _ _ _ _ _ _ _ c.requires.client c.loop-n.invariant.0 c.put.ensures.pass _ _ at (let v = c.plays-plays.ensures.value in let l = c.plays-plays.ensures.limit in subst (λ (xs : List (List Order)). length xs ≤ MAX_FRAMES) v l) c.in_ok-_answer.ensures.ok,
+    let at : slice_get (plays_of c.args.scripts.now c.args.c) c.loop-n.n ≡ Some c.play.result.now =
+    ap (λ (xs : List (List Order)). slice_get xs c.loop-n.n) (sym c.plays-plays.ensures.value) ∙ c.play.ensures.value in (
+      put_more _ _ _ _ _ _ _ c.requires.client c.loop-n.invariant.0 c.put_play.ensures.pass _ _ at (let v = c.plays-plays.ensures.value in let l = c.plays-plays.ensures.limit in subst (λ (xs : List (List Order)). length xs ≤ MAX_FRAMES) v l) c.in_ok-_answer.ensures.ok,
       c.loop-n.invariant.1,
     )
 
