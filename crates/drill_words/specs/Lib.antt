@@ -6,6 +6,7 @@ pub mod MatchLine
 pub mod OrderList
 pub mod EventLine
 pub mod Event
+pub mod BareEvent
 pub mod EventView
 pub mod EventList
 pub mod DrillFault

@@ -3,8 +3,10 @@ ghost use Rattle.std.specs.Prelude.{◌≡◌, ◌+◌, ◌∷◌, ◌<◌, ◌�
 ghost use Rattle.std.specs.Prelude.{slice_get, OnOk, OnErr};
 ghost use Rattle.game_orders.specs.declared.limits.TheConstants.{MAX_ORDERS};
 ghost use Rattle.drill_words.specs.EventView.{event_of};
+ghost use Rattle.drill_words.specs.BareEvent.{with_orders};
 ghost use Rattle.drill_words.specs.EventList.{event_from, is_stored, orders_in, head_of};
 
+use crate::bare_event::BareEvent;
 use crate::event::Event;
 use crate::event_head::EventHead;
 use crate::event_view::EventView;
@@ -51,10 +53,22 @@ impl EventList {
         ensures ok { OnOk result (self.new ≡ self.old ++ event ∷ []) }
         ensures err { OnErr result (self.new ≡ self.old) }
     {
+        let bare = bare_of(&event);
+        match event {
+            Event::Seal { orders, .. } => self.push_bare(bare, &orders),
+            _ => self.push_bare(bare, &Orders::empty()),
+        }
+    }
+
+    /// Adds an event last, as `push` does, whose orders are lent.
+    pub(crate) fn push_bare(&mut self, bare: BareEvent, orders: &Orders) -> Result<(), NoMemory>
+        ensures ok { OnOk result (self.new ≡ self.old ++ with_orders orders.now bare ∷ []) }
+        ensures err { OnErr result (self.new ≡ self.old) }
+    {
         let first = self.pool.len();
         self.heads.reserve(1)?;
-        add_orders(&mut self.pool, &event)?;
-        self.heads.push_reserved(head_of(first, &event));
+        add_orders(&mut self.pool, bare, orders)?;
+        self.heads.push_reserved(head_of(first, bare, orders));
         Ok(())
     }
 
@@ -74,69 +88,87 @@ impl EventList {
     }
 }
 
-/// Adds the orders of an event, which are those of a seal. It fails only where it is out of memory,
-/// and then nothing changes.
-fn add_orders(pool: &mut Vec<Order>, event: &Event) -> Result<(), NoMemory>
-    ensures ok { OnOk result (pool.new.items ≡ pool.old.items ++ orders_in event.now) }
-    ensures err { OnErr result (pool.new.items ≡ pool.old.items) }
+/// The event without its orders.
+fn bare_of(event: &Event) -> BareEvent
+    ensures { with_orders (orders_in event.now) result ≡ event.now }
 {
-    match event {
-        Event::Seal { orders, .. } => add_all(pool, orders),
-        _ => Ok(()),
-    }
-}
-
-/// Adds orders. It fails only where it is out of memory, and then nothing changes.
-fn add_all(pool: &mut Vec<Order>, orders: &Orders) -> Result<(), NoMemory>
-    ensures ok { OnOk result (pool.new.items ≡ pool.old.items ++ orders.now) }
-    ensures err { OnErr result (pool.new.items ≡ pool.old.items) }
-{
-    let count = orders.len();
-    pool.reserve(count)?;
-    for index in 0..count {
-        let Some(order) = orders.get(index) else {
-            unreachable!()
-        };
-        pool.push_reserved(*order);
-    }
-    Ok(())
-}
-
-/// The head of an event whose orders stand in the pool from `first` on.
-fn head_of(first: usize, event: &Event) -> EventHead
-    ensures head { result ≡ head_of first event.now }
-    ensures few { length (orders_in event.now) ≤ MAX_ORDERS }
-{
-    match event {
-        Event::Seal { peer, orders } => EventHead::Seal {
-            peer: *peer,
-            count: orders.len() as u8,
-            first,
-        },
-        Event::Up { packet } => EventHead::Up { packet: *packet },
+    match *event {
+        Event::Seal { peer, .. } => BareEvent::Seal { peer },
+        Event::Up { packet } => BareEvent::Up { packet },
         Event::Down {
             peer,
             client,
             frame,
-        } => EventHead::Down {
-            peer: *peer,
-            client: *client,
-            frame: *frame,
+        } => BareEvent::Down {
+            peer,
+            client,
+            frame,
         },
-        Event::Tick { peer } => EventHead::Tick { peer: *peer },
-        Event::TickServer => EventHead::TickServer,
-        Event::DropClient { client } => EventHead::DropClient { client: *client },
-        Event::Report { peer } => EventHead::Report { peer: *peer },
+        Event::Tick { peer } => BareEvent::Tick { peer },
+        Event::TickServer => BareEvent::TickServer,
+        Event::DropClient { client } => BareEvent::DropClient { client },
+        Event::Report { peer } => BareEvent::Report { peer },
         Event::Forge {
             client,
             frame,
             hash,
-        } => EventHead::Forge {
-            client: *client,
-            frame: *frame,
-            hash: *hash,
+        } => BareEvent::Forge {
+            client,
+            frame,
+            hash,
         },
-        Event::Bye { peer } => EventHead::Bye { peer: *peer },
+        Event::Bye { peer } => BareEvent::Bye { peer },
+    }
+}
+
+/// Adds these orders where the event is a seal. It fails only where it is out of memory, and then
+/// nothing changes.
+fn add_orders(pool: &mut Vec<Order>, bare: BareEvent, orders: &Orders) -> Result<(), NoMemory>
+    ensures ok { OnOk result (pool.new.items
+        ≡ pool.old.items ++ orders_in (with_orders orders.now bare)) }
+    ensures err { OnErr result (pool.new.items ≡ pool.old.items) }
+{
+    match bare {
+        BareEvent::Seal { .. } => pool.extend_from_slice(orders.as_slice()),
+        _ => Ok(()),
+    }
+}
+
+/// The head of an event with these orders, which stand in the pool from `first` on.
+fn head_of(first: usize, bare: BareEvent, orders: &Orders) -> EventHead
+    ensures head { result ≡ head_of first (with_orders orders.now bare) }
+    ensures few { length (orders_in (with_orders orders.now bare)) ≤ MAX_ORDERS }
+{
+    match bare {
+        BareEvent::Seal { peer } => EventHead::Seal {
+            peer,
+            count: orders.len() as u8,
+            first,
+        },
+        BareEvent::Up { packet } => EventHead::Up { packet },
+        BareEvent::Down {
+            peer,
+            client,
+            frame,
+        } => EventHead::Down {
+            peer,
+            client,
+            frame,
+        },
+        BareEvent::Tick { peer } => EventHead::Tick { peer },
+        BareEvent::TickServer => EventHead::TickServer,
+        BareEvent::DropClient { client } => EventHead::DropClient { client },
+        BareEvent::Report { peer } => EventHead::Report { peer },
+        BareEvent::Forge {
+            client,
+            frame,
+            hash,
+        } => EventHead::Forge {
+            client,
+            frame,
+            hash,
+        },
+        BareEvent::Bye { peer } => EventHead::Bye { peer },
     }
 }
 

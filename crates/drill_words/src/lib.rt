@@ -13,6 +13,7 @@
 //! script as its plays ([`scripts_read_back`]).
 #![tactic(auto)]
 
+mod bare_event;
 mod drill;
 mod drill_fault;
 mod event;

@@ -10,16 +10,15 @@ use crate::word_fault::WordFault;
 use game_orders::{MAX_ORDERS, Order, Orders};
 use world_units::CPos;
 
-/// Takes orders with the word `;` between them, or none, to the end of the line.
-pub(crate) fn take_orders(cursor: &mut WordCursor<'_>) -> Result<Orders, WordFault>
-    ensures { Takes result cursor.new (orders_at cursor.old) }
+/// Drops all orders.
+pub(crate) fn clear(orders: &mut Orders)
+    ensures { orders.new ≡ [] }
 {
-    let mut orders = Orders::empty();
-    take_orders_into(cursor, &mut orders)?;
-    Ok(orders)
+    orders.replace([].as_slice());
 }
 
-/// Takes orders as [`take_orders`] does, and puts them where there are none.
+/// Takes orders with the word `;` between them, or none, to the end of the line, and puts them where
+/// there are none.
 #[tactic(auto, using(crate::proofs::OrderListLemmas::order_steps))]
 pub(crate) fn take_orders_into(
     cursor: &mut WordCursor<'_>,

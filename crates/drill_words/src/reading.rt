@@ -1,20 +1,23 @@
 //! Reads drills.
-ghost use Rattle.std.specs.Prelude.{◌≡◌, ◌≢◌, ◌≤◌, true, length, IfOk};
+ghost use Rattle.std.specs.Prelude.{◌≡◌, ◌≢◌, ◌≤◌, true, [], length, IfOk, MatchResult, Ok, Err};
 ghost use Rattle.std.specs.List.{list_all};
 ghost use Rattle.drill_words.specs.Event.{event_fits};
+ghost use Rattle.drill_words.specs.BareEvent.{with_orders};
 ghost use Rattle.drill_words.specs.DrillFault.{at_line};
 ghost use Rattle.drill_words.specs.Drill.{event_on, events_from, ReturnsRead, plain_of, read_of};
 
+use crate::bare_event::BareEvent;
 use crate::drill::Drill;
 use crate::drill_fault::DrillFault;
-use crate::event::Event;
 use crate::event_line::read_event;
 use crate::event_list::EventList;
 use crate::kept_lines::KeptLines;
 use crate::limits::{MAX_DRILL_BYTES, MAX_EVENTS};
 use crate::match_line::read_match;
+use crate::order_list::clear;
 use crate::word_cursor::WordCursor;
 use crate::word_fault::WordFault;
+use game_orders::Orders;
 use std::alloc::Global;
 
 /// Reads a drill from at most [`MAX_DRILL_BYTES`] bytes.
@@ -62,33 +65,42 @@ fn read_events(
     ensures fit { IfOk result (λ events. list_all (event_fits clients) events ≡ true) }
 {
     let mut events = EventList::new(alloc);
+    let mut orders = Orders::empty();
     while let Some((number, cursor)) = lines.next() {
+        clear(&mut orders);
         let before = events.len();
-        let event = read_event_on(clients, before, number, cursor)?;
-        let Ok(()) = events.push(event) else {
+        let bare = read_event_on(clients, before, number, cursor, &mut orders)?;
+        let Ok(()) = events.push_bare(bare, &orders) else {
             return Err(DrillFault::NoMemory);
         };
     }
     Ok(events)
 }
 
-/// The event of a line that follows so many others.
+/// The event of a line that follows so many others. The orders of a seal are put where there are
+/// none.
 #[tactic(auto, unfolding(crate::specs::Drill::event_on))]
 fn read_event_on(
     clients: u8,
     before: usize,
     number: u32,
     mut cursor: WordCursor<'_>,
-) -> Result<Event, DrillFault>
-    ensures line { result
-        ≡ event_on clients before (record { number = number; words = cursor.entry }) }
+    orders: &mut Orders,
+) -> Result<BareEvent, DrillFault>
+    requires { orders.old ≡ [] }
+    ensures line { MatchResult result (λ bare.
+        event_on clients before (record { number = number; words = cursor.entry })
+        ≡ Ok (with_orders orders.new bare))
+        (λ fault. event_on clients before (record { number = number; words = cursor.entry })
+        ≡ Err fault) }
     ensures room { IfOk result (λ _. before ≢ MAX_EVENTS) }
-    ensures fits { IfOk result (λ event. event_fits clients event ≡ true) }
+    ensures fits { IfOk result (λ bare.
+        event_fits clients (with_orders orders.new bare) ≡ true) }
 {
     if before == MAX_EVENTS as usize {
         return Err(DrillFault::TooManyEvents { line: number });
     }
-    read_event(clients, &mut cursor).map_err(|fault| fault_at(fault, number))
+    read_event(clients, &mut cursor, orders).map_err(|fault| fault_at(fault, number))
 }
 
 /// The fault of a line, by that of its word.

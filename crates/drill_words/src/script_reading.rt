@@ -8,6 +8,7 @@ ghost use Rattle.game_orders.specs.declared.limits.TheConstants.{MAX_CLIENTS};
 use crate::drill_fault::DrillFault;
 use crate::kept_lines::KeptLines;
 use crate::limits::{MAX_DRILL_BYTES, MAX_EVENTS};
+use crate::order_list::clear;
 use crate::reading::fault_at;
 use crate::script_line::{read_script_head, read_script_play};
 use crate::scripts::Scripts;
@@ -63,15 +64,6 @@ fn read_plays(alloc: Global, clients: u8, lines: &mut KeptLines<'_>) -> Result<S
         before += 1;
     }
     Ok(scripts)
-}
-
-/// Drops all orders.
-fn clear(orders: &mut Orders)
-    ensures { orders.new ≡ [] }
-{
-    if !orders.is_empty() {
-        *orders = Orders::empty();
-    }
 }
 
 /// The play of a line that follows so many others: who plays, and the orders, which are put where
