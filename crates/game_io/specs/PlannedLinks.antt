@@ -1,8 +1,8 @@
 -- Links in a memory form, of which chosen calls fail.
-use Rattle.std.specs.Prelude.{ℕ, List, [], ◌∷◌, map, Option, None, Some}
+use Rattle.std.specs.Prelude.{ℕ, List, [], ◌∷◌, ◌++◌, drop, map, slice_set, Option, None, Some}
 use Rattle.game_io.specs.declared.failing_call.FailingCall.{FailingCall}
 use Rattle.game_io.specs.NetState.{NetState, TakenBack}
-use Rattle.game_io.specs.Plan.{Plan, fresh, faults_of}
+use Rattle.game_io.specs.Plan.{Plan, fresh, faults_of, called}
 use Rattle.game_io.specs.PlannedBytes.{PlannedBytes}
 
 -- A link that is to come: the bytes of its source, and the calls of both halves that are to fail.
@@ -53,6 +53,20 @@ net_state held =
       given = held.given;
       faults = faults_of held.plan;
     }
+
+-- One call more, which gave no link.
+abbrev pub without_link : PlannedLinks → PlannedLinks
+without_link held = record held { plan = called held.plan }
+
+-- One call more, which gave the next link.
+abbrev pub with_link : PlannedLinks → PlannedLinks
+with_link held =
+    record { coming = drop 1 held.coming; given = held.given ++ None ∷ []; plan = called held.plan }
+
+-- The link of this number was taken back as it was then. This counts as no call.
+abbrev pub with_link_back : ℕ → TakenBack → PlannedLinks → PlannedLinks
+with_link_back number link held =
+    record held { given = slice_set held.given number (Some link) }
 
 -- The bytes that the source of a link had left as it was taken back, and those that were written to
 -- its sink. None before that.

@@ -1,12 +1,13 @@
 ghost use Rattle.std.specs.Prelude.{◌≡◌, ◌<◌, ◌++◌, ◌∷◌, [], length, slice_get, slice_set, None, Some};
-ghost use Rattle.std.specs.Prelude.{IfOk, OnOk, OnErr, is_err, is_some, drop};
+ghost use Rattle.std.specs.Prelude.{IfOk, OnOk, OnErr, IfNone, is_err, is_some, drop};
 ghost use Rattle.std.specs.Option.{option_map};
 ghost use Rattle.game_io.specs.declared.net.TheConstants.{MAX_LINKS};
-ghost use Rattle.game_io.specs.NetState.{GivesLink, Listens};
-ghost use Rattle.game_io.specs.Plan.{called, fresh, next_remains};
+ghost use Rattle.game_io.specs.NetState.{GivesLink, Listens, TakesBack, taken_back};
+ghost use Rattle.game_io.specs.Plan.{called, faults_of, fresh, next_remains};
 ghost use Rattle.game_io.specs.PlannedBytes.{sink_state, source_state};
 ghost use Rattle.game_io.specs.PlannedLinks.{PlannedLinks, halves_of, net_state, next_link};
-ghost use Rattle.game_io.specs.PlannedLinks.{left_of, written_of};
+ghost use Rattle.game_io.specs.PlannedLinks.{left_of, written_of, with_link, with_link_back};
+ghost use Rattle.game_io.specs.PlannedLinks.{without_link};
 
 use crate::coming_link::ComingLink;
 use crate::failed::Failed;
@@ -123,7 +124,11 @@ impl MemNet {
         ensures planned { is_err result ≡ is_some (next_remains self.old.plan) }
         ensures link { IfOk result (λ link. record { input = link.0; output = link.1 }
             ≡ halves_of (next_link self.old.coming)) }
+        ensures given { OnOk result (self.new ≡ with_link self.old) }
+        ensures none_given { OnErr result (self.new ≡ without_link self.old) }
         ensures plan { self.new.plan ≡ called self.old.plan }
+        ensures steady { IfNone (next_remains self.old.plan)
+            (faults_of self.new.plan ≡ faults_of self.old.plan) }
     {
         if self.schedule.next().is_some() {
             return Err(Failed);
@@ -150,7 +155,10 @@ impl Net for MemNet {
     fn listen(&mut self, _at: &str) -> Result<(), Failed>
         ensures listens { Listens (net_state self.old) (net_state self.new) result }
         ensures planned { is_err result ≡ is_some (next_remains self.old.plan) }
+        ensures called { self.new ≡ without_link self.old }
         ensures plan { self.new.plan ≡ called self.old.plan }
+        ensures steady { IfNone (next_remains self.old.plan)
+            (faults_of self.new.plan ≡ faults_of self.old.plan) }
     {
         match self.schedule.next() {
             Some(_) => Err(Failed),
@@ -165,7 +173,11 @@ impl Net for MemNet {
         ensures planned { is_err result ≡ is_some (next_remains self.old.plan) }
         ensures link { IfOk result (λ link. record { input = link.0; output = link.1 }
             ≡ halves_of (next_link self.old.coming)) }
+        ensures given { OnOk result (self.new ≡ with_link self.old) }
+        ensures none_given { OnErr result (self.new ≡ without_link self.old) }
         ensures plan { self.new.plan ≡ called self.old.plan }
+        ensures steady { IfNone (next_remains self.old.plan)
+            (faults_of self.new.plan ≡ faults_of self.old.plan) }
     {
         self.give()
     }
@@ -177,12 +189,22 @@ impl Net for MemNet {
         ensures planned { is_err result ≡ is_some (next_remains self.old.plan) }
         ensures link { IfOk result (λ link. record { input = link.0; output = link.1 }
             ≡ halves_of (next_link self.old.coming)) }
+        ensures given { OnOk result (self.new ≡ with_link self.old) }
+        ensures none_given { OnErr result (self.new ≡ without_link self.old) }
         ensures plan { self.new.plan ≡ called self.old.plan }
+        ensures steady { IfNone (next_remains self.old.plan)
+            (faults_of self.new.plan ≡ faults_of self.old.plan) }
     {
         self.give()
     }
 
-    fn take_back(&mut self, i: u32, input: MemSource, output: MemSink) {
+    fn take_back(&mut self, i: u32, input: MemSource, output: MemSink)
+        requires { i < length self.old.given }
+        ensures back { TakesBack i (source_state input) (sink_state output) (net_state self.old)
+            (net_state self.new) }
+        ensures whole { self.new ≡ with_link_back i
+            (taken_back (source_state input) (sink_state output)) self.old }
+    {
         self.given.as_mut_slice()[i as usize] = Some(MemLink { input, output });
     }
 

@@ -1,4 +1,4 @@
-ghost use Rattle.std.specs.Prelude.{◌≡◌, ℕ, ◌+◌, ◌^◌, ◌<◌, ◌≤◌, List, [], OnSome};
+ghost use Rattle.std.specs.Prelude.{◌≡◌, ℕ, ◌+◌, ◌^◌, ◌<◌, ◌≤◌, List, [], OnSome, IfNone};
 ghost use Rattle.base.specs.Cause.{Rose};
 ghost use Rattle.game_io.specs.Plan.{Plan, remains_at, next_remains, fresh, faults_of, called};
 ghost use Rattle.game_io.specs.Plan.{missed};
@@ -57,6 +57,7 @@ impl Schedule {
         ensures after { self.new ≡ called self.old }
         ensures later { faults_of self.old ≤ faults_of self.new }
         ensures rose { OnSome result (Rose (faults_of self.old) (faults_of self.new)) }
+        ensures steady { IfNone result (faults_of self.new ≡ faults_of self.old) }
     {
         let remains = remains_at(self.calls, &self.failing);
         self.calls = self.calls.saturating_add(1);

@@ -1,6 +1,3 @@
-use Rattle.std.proofs.Common.{rules, ◌≡◌, ◌≤◌, ◌++◌, ◌∷◌, [], drop, None}
-use Rattle.game_io.specs.Plan.{faults_of}
-use Rattle.game_io.specs.PlannedLinks.{halves_of, next_link}
 use Rattle.game_io.proofs.LinkLemmas.{given_link}
 use Rattle.game_io.proofs.mem_net.MemNet.give.Goals as goal
 
