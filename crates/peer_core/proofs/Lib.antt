@@ -8,3 +8,4 @@ pub mod EachLemmas
 pub mod LeastLemmas
 pub mod PeerLemmas
 pub mod SameLemmas
+pub mod SealLemmas

@@ -9,3 +9,4 @@ pub mod Tick
 pub mod Faithful
 pub mod FaithfulLemmas
 pub mod DeliveryLemmas
+pub mod Seal

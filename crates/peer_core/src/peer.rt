@@ -5,6 +5,7 @@ ghost use Rattle.peer_core.specs.Delivery.{delivery_of, KeepsEntries, MeansDeliv
 ghost use Rattle.peer_core.specs.Peer.{fresh_peer, delivered_peer, seal_answer, sealed_peer};
 ghost use Rattle.peer_core.specs.Peer.{ticked_peer, report_of};
 ghost use Rattle.peer_core.specs.Receipt.{receipt_of};
+ghost use Rattle.peer_core.specs.Seal.{MeansSeal};
 ghost use Rattle.peer_core.specs.Tick.{MeansTick};
 
 use crate::client_entries::ClientEntries;
@@ -196,6 +197,7 @@ impl<S: Sim> Peer<S> {
         ensures answer { result ≡ seal_answer self.old.arrived self.old.me self.old.lag
             self.old.ticked self.old.sealed }
         ensures after { self.new ≡ sealed_peer self.old }
+        ensures means { MeansSeal self.old self.new result }
     {
         if left(&self.entries, self.me) {
             return Err(SealFault::LeftAlready);
@@ -468,8 +470,18 @@ mod tests {
             deliver(&rt, &mut peer, 1, 0, Entry::Leave)?,
             Delivered::Kept
         );
-        for n in 0..MAX_FRAMES {
-            assert_eq!(rt; peer.seal(), Ok(n));
+        assert_eq!(rt; peer.seal(), Ok(0));
+        assert_eq!(rt; peer.seal(), Ok(1));
+        for n in 0..262_142 {
+            assert_eq!(rt; peer.seal(), Err(SealFault::TooEarly));
+            assert_eq!(rt; deliver(&rt, &mut peer, 0, n, play())?, Delivered::Kept);
+            assert_eq!(rt; peer.tick(), TickAnswer::Ticked(n));
+            assert_eq!(rt; peer.seal(), Ok(n + 2));
+        }
+        // Its lag lets it seal no more either, but that the match is full comes first.
+        assert_eq!(rt; (peer.ticked(), peer.sealed()), (262_142, 262_144));
+        assert_eq!(rt; peer.seal(), Err(SealFault::MatchFull));
+        for n in 262_142..262_144 {
             assert_eq!(rt; deliver(&rt, &mut peer, 0, n, play())?, Delivered::Kept);
             assert_eq!(rt; peer.tick(), TickAnswer::Ticked(n));
         }
