@@ -1,5 +1,8 @@
-use crate::case::{Case, CaseFile};
+use crate::case::Case;
+use crate::case_file::CaseFile;
+use crate::ending::Ending;
 use crate::read_fault::ReadFault;
+use crate::sent::Sent;
 use std::alloc::Global;
 
 /// Reads the cases of a file one by one. Each is a line `case NAME`, and then lines
@@ -7,8 +10,13 @@ use std::alloc::Global;
 /// - `word WORD`, an argument;
 /// - `file LENGTH NAME` and so many bytes, a file that is there before;
 /// - `written LENGTH NAME` and so many bytes, a file that must be there after;
-/// - `status N`;
-/// - `text LENGTH` and so many bytes, what must be printed;
+/// - `link LENGTH` and so many bytes, what the next link gives;
+/// - `console LENGTH` and so many bytes, what the console gives;
+/// - `status N`, with which a way begins in which the case may end;
+/// - `text LENGTH` and so many bytes, what must then be printed;
+/// - `sent LENGTH` and so many bytes, what must then have been written to the next link;
+/// - `columns LENGTH` and so many bytes, the same of a server, one column after another;
+/// - `beside-reports LENGTH` and so many bytes, the same of a player, without its reports;
 /// - `world LENGTH` and so many bytes, the world that the server of a drill must be left in.
 ///
 /// A line feed ends each line and follows all bytes.
@@ -40,8 +48,9 @@ impl<'a> CaseReader<'a> {
             words,
             files: Vec::new(alloc),
             written: Vec::new(alloc),
-            status: 0,
-            text: &[],
+            links: Vec::new(alloc),
+            console: &[],
+            endings: Vec::new(alloc),
             world: None,
         };
         for _ in 0..self.rest.len() {
@@ -55,25 +64,21 @@ impl<'a> CaseReader<'a> {
 
     /// Reads one field of a case.
     fn read_field(&mut self, alloc: Global, case: &mut Case<'a>) -> Result<(), ReadFault> {
-        match self.field() {
-            Some(("word", word)) => case.words.push(String::from_str(alloc, word)?)?,
-            Some(("file", of)) => {
-                let file = self.file(of)?;
-                case.files.push(file)?;
+        let Some((kind, of)) = self.field() else {
+            return Err(ReadFault::NoCase);
+        };
+        match kind {
+            "word" => case.words.push(String::from_str(alloc, of)?)?,
+            "file" => case.files.push(self.file(of)?)?,
+            "written" => case.written.push(self.file(of)?)?,
+            "link" => case.links.push(self.bytes(of)?)?,
+            "console" => case.console = self.bytes(of)?,
+            "status" => case.endings.push(first_ending(alloc, of)?)?,
+            "world" => case.world = Some(self.bytes(of)?),
+            _ => {
+                let bytes = self.bytes(of)?;
+                add_to_ending(case, kind, bytes)?;
             }
-            Some(("written", of)) => {
-                let file = self.file(of)?;
-                case.written.push(file)?;
-            }
-            Some(("status", number)) => {
-                let Ok(status) = number.parse::<u8>() else {
-                    return Err(ReadFault::NoCase);
-                };
-                case.status = status;
-            }
-            Some(("text", length)) => case.text = self.bytes(length)?,
-            Some(("world", length)) => case.world = Some(self.bytes(length)?),
-            _ => return Err(ReadFault::NoCase),
         }
         Ok(())
     }
@@ -109,4 +114,31 @@ impl<'a> CaseReader<'a> {
             _ => Err(ReadFault::NoCase),
         }
     }
+}
+
+/// An ending with this status, in which nothing is printed or sent.
+fn first_ending<'a>(alloc: Global, number: &str) -> Result<Ending<'a>, ReadFault> {
+    match number.parse::<u8>() {
+        Ok(status) => Ok(Ending {
+            status,
+            text: &[],
+            sent: Vec::new(alloc),
+        }),
+        Err(_) => Err(ReadFault::NoCase),
+    }
+}
+
+/// Adds a field of this kind to the last ending of a case.
+fn add_to_ending<'a>(case: &mut Case<'a>, kind: &str, bytes: &'a [u8]) -> Result<(), ReadFault> {
+    let Some(ending) = case.endings.last_mut() else {
+        return Err(ReadFault::NoCase);
+    };
+    match kind {
+        "text" => ending.text = bytes,
+        "sent" => ending.sent.push(Sent::Whole(bytes))?,
+        "columns" => ending.sent.push(Sent::ByColumns(bytes))?,
+        "beside-reports" => ending.sent.push(Sent::BesideReports(bytes))?,
+        _ => return Err(ReadFault::NoCase),
+    }
+    Ok(())
 }

@@ -1,10 +1,13 @@
-use crate::case::{Case, CaseFile};
+use crate::case::Case;
 use crate::case_reader::CaseReader;
+use crate::ending::Ending;
+use crate::left::Left;
 use crate::read_fault::ReadFault;
+use crate::running::run_case;
+use crate::sent::Sent;
 use crate::server_world::server_world;
 use base::NoMemory;
-use game_io::{MemDisk, MemNet, MemSink, MemSource, NoGate};
-use match_commands::{may_wait, run, run_waiting};
+use game_io::{MemDisk, MemNet, Net};
 use std::alloc::Global;
 use std::sync::Wait;
 use std::thread::Threads;
@@ -42,11 +45,41 @@ fn is_right<R: Threads + Wait + Sync>(
     alloc: Global,
     case: &Case<'_>,
 ) -> Result<bool, NoMemory> {
-    let mut disk = case.disk(alloc)?;
-    let mut out = MemSink::new(alloc, Vec::new(alloc));
-    let status = run_case(rt, alloc, &case.words, &mut disk, &mut out);
-    let answered = status == case.status && out.bytes() == case.text;
-    Ok(answered && is_left(&disk, case) && is_world_right(alloc, case)?)
+    let left = run_case(rt, alloc, case)?;
+    let answered = is_ended(alloc, case, &left)? && is_left(&left.disk, case);
+    Ok(answered && is_world_right(alloc, case)?)
+}
+
+/// Whether a run ended in one of the ways in which the case may end.
+fn is_ended(alloc: Global, case: &Case<'_>, left: &Left) -> Result<bool, NoMemory> {
+    for ending in &case.endings {
+        if is_ending(alloc, ending, left)? {
+            return Ok(true);
+        }
+    }
+    Ok(false)
+}
+
+/// Whether a run ended in this way.
+fn is_ending(alloc: Global, ending: &Ending<'_>, left: &Left) -> Result<bool, NoMemory> {
+    if left.status != ending.status || left.out.bytes() != ending.text {
+        return Ok(false);
+    }
+    is_sent(alloc, ending.sent.as_slice(), &left.net)
+}
+
+/// Whether this was written to the links of a net, and nothing to any further one.
+fn is_sent(alloc: Global, sent: &[Sent<'_>], net: &MemNet) -> Result<bool, NoMemory> {
+    if net.links() as usize > sent.len() {
+        return Ok(false);
+    }
+    for (link, sent) in (0..u32::MAX).zip(sent) {
+        let written = net.written(link).unwrap_or(&[]);
+        if !sent.is_in(alloc, written)? {
+            return Ok(false);
+        }
+    }
+    Ok(true)
 }
 
 /// Whether the server of a drill is left in the world that the case has, if it has one.
@@ -58,22 +91,6 @@ fn is_world_right(alloc: Global, case: &Case<'_>) -> Result<bool, NoMemory> {
         Some(text) => Ok(text.as_bytes() == wanted),
         None => Ok(false),
     }
-}
-
-/// Runs a command line, by the top call that has its command.
-fn run_case<R: Threads + Wait + Sync>(
-    rt: &R,
-    alloc: Global,
-    words: &[String],
-    disk: &mut MemDisk,
-    out: &mut MemSink,
-) -> u8 {
-    if !may_wait(words) {
-        return run(alloc, words, disk, out);
-    }
-    let mut net = MemNet::new(alloc, Vec::new(alloc));
-    let mut console = MemSource::new(Vec::new(alloc), Vec::new(alloc));
-    run_waiting(rt, alloc, words, disk, out, &mut net, &mut console, &NoGate)
 }
 
 /// Whether each file that the case names is there as it should be after the run.

@@ -1,11 +1,19 @@
-//! The program `case_runs`: it runs recorded command lines over files in memory, and names the
-//! first of each file that isn't answered as recorded. Its arguments are files of cases.
+//! The program `case_runs`: it runs recorded command lines over files and links in memory, and
+//! names the first of each file that isn't answered as recorded. Its arguments are files of cases.
 #![tactic(auto)]
 
 mod case;
+mod case_file;
 mod case_reader;
 mod checking;
+mod ending;
+mod left;
+mod packets;
 mod read_fault;
+mod running;
+mod sent;
+mod sent_columns;
+mod sent_reports;
 mod server_world;
 mod world_text;
 
