@@ -205,8 +205,8 @@ impl Roster {
         self.slots[key].body.reload = reload;
     }
 
-    /// Makes an activity the first one of the actor of an id, which is there: in place of the first
-    /// one that it has, or alone where it has none.
+    /// Puts an activity in place of the first one, if there is one, of the actor of an id, which is
+    /// there.
     pub(crate) fn set_first(&mut self, id: u32, activity: Activity)
         requires { IsSome (actor_of self.old id) }
         ensures value { self.new ≡ changed_at self.old id (with_first activity) }
@@ -268,7 +268,7 @@ impl Roster {
     }
 }
 
-/// Makes an activity the first one: in place of the first one, or alone where there is none.
+/// Puts the activity in place of the first, if there is one.
 fn put_first(acts: &mut Queue, activity: Activity)
     ensures { acts.new ≡ activity ∷ drop 1 acts.old }
 {

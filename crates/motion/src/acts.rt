@@ -32,8 +32,7 @@ pub(crate) fn with_waits(activity: Activity, waits: u8) -> Activity
     }
 }
 
-/// Makes the activity the first one of the actor of an id, if the actor is there: in place of the
-/// first one that it has, or alone where it has none.
+/// Puts the activity in place of the first one of the actor of an id, if the actor is there.
 pub fn set_head(t: &mut ActorTable, id: u32, activity: Activity)
     ensures { t.new ≡ record t.old { actors = changed_at t.old.actors id (with_first activity) } }
 {
