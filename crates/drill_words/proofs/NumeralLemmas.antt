@@ -1,11 +1,10 @@
 -- The first word of a line, where it writes a number.
-use Rattle.std.proofs.Common.{◌≡◌, ℕ, zero, suc, ◌+◌, ◌<◌, ◌≤◌, true, false, List, [], ◌∷◌, length}
+use Rattle.std.proofs.Common.{◌≡◌, ℕ, zero, suc, ◌<◌, ◌≤◌, true, false, List, [], ◌∷◌, length}
 use Rattle.std.proofs.Common.{take, drop, refl, ap, sym, ◌∙◌, arith, cond}
 use Rattle.std.specs.Prelude.{not, nat_lt, nat_le, ◌&&◌, Some, None}
 use Rattle.std.specs.Char.{is_ascii_digit}
 use Rattle.std.specs.List.{list_all, prefix_len}
 use Rattle.std.proofs.lemmas.Bool.{and_parts, and_from, leb-true, le-leb, lt-ltb}
-use Rattle.std.proofs.lemmas.List.{length_take_le}
 use Rattle.base.specs.Numbers.{number_of, value_of}
 use Rattle.base.specs.declared.numbers.TheConstants.{MAX_DIGITS}
 use Rattle.drill_words.specs.Words.{is_blank, is_of_word, words_of, ends_word}
