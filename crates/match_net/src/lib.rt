@@ -41,7 +41,7 @@ mod sending;
 mod taking;
 mod turns;
 
-pub use first_packet::greet;
+pub use first_packet::{greet, greet_counted};
 pub use greeting::Greeting;
 pub use invite::Invite;
 pub use law::{
@@ -54,7 +54,7 @@ pub use play_end::PlayEnd;
 pub use played::Played;
 pub use playthrough::play_match;
 pub use read_cause::ReadCause;
-pub use reader::reader_session;
+pub use reader::{reader_session, reader_session_counted};
 pub use reader_end::ReaderEnd;
 pub use report_line::{
     Heard, Hearer, ReportEnds, Reports, report_queue, reports_of_each_client_are_heard,
