@@ -84,7 +84,7 @@ module _ (c here : ℕ) (bytes : List ℕ) (session : Session) (rest : List ℕ)
         | inl is ↦ absurd cc
         | inr some ↦ (some, inr (refl, (at, (ends.0.at_end, ends.1))))
       ]
-  reader_tells reader.Lost kicked ends by = (failed ends.1, inl ends)
+  reader_tells reader.Lost kicked ends by = (failed ends.2, inl ends)
   reader_tells reader.NoMemory kicked ends by = tt
 
   link_tells : (read : ReaderEnd) (sent : SenderEnd) (kicked : Bool) → SessionEnds c here bytes session rest old new before after read → (sent ≡ sender.Lost → 0 < faults) →
@@ -123,7 +123,7 @@ made_before clients table invite hearer coming c (piece ∷ pieces) are d below 
     omega arith
 
 -- So many links were handed back.
-pub record HandedSoFar (table : FrameTable) (invite : Invite) (all left : List PieceState) (start pass : Pass) (first hearer : Hearer) (net now : NetState) (flags : List Bool) (ends : List LinkEnd) (c : ℕ) : Type 0 where
+pub record HandedSoFar (table : FrameTable) (invite : Invite) (all left : List PieceState) (start pass : Pass) (first hearer : Hearer) (net now : NetState) (flags : List Bool) (ends : List LinkEnd) (counts : List ℕ) (c : ℕ) : Type 0 where
   pub from : IsServePass invite.clients table start
   pub is : IsServePass invite.clients table pass
   pub known : (d : ℕ) → d < invite.clients → (standing pass d).known ≡ (standing start d).known
@@ -140,12 +140,13 @@ pub record HandedSoFar (table : FrameTable) (invite : Invite) (all left : List P
   pub given : length now.given ≡ invite.clients
   pub coming_same : now.coming ≡ net.coming
   pub ends_long : length ends ≡ invite.clients
+  pub counts_long : length counts ≡ invite.clients
   pub links : (coming : Option (List (List ℕ))) → AreDone invite.clients table invite first coming 0 all → (d : ℕ) → d < c →
-      LinkClosed d invite (columns_of start) (get_or (joined hearer) d []) coming (get_or flags d false) (made_in all d) (slice_get now.given d) (get_or ends d end.Memory)
+      LinkClosed d invite (columns_of start) (get_or (joined hearer) d []) coming (get_or flags d false) (made_in all d) (slice_get now.given d) (get_or ends d end.Memory) (get_or counts d 0)
 
-pub handed_none : (table : FrameTable) (invite : Invite) (all : List PieceState) (pass : Pass) (hearer : Hearer) (net : NetState) (flags : List Bool) (ends : List LinkEnd) → IsServePass invite.clients table pass → ((d : ℕ) → d < invite.clients → (standing pass d).known.left ≡ true) →
-    (coming : Option (List (List ℕ))) × AreDone invite.clients table invite hearer coming 0 all → length all ≡ invite.clients → length net.given ≡ invite.clients → joined hearer ≡ [] → length ends ≡ invite.clients → HandedSoFar table invite all all pass pass hearer hearer net net flags ends 0
-handed_none table invite all pass hearer net flags ends is closed some count given unjoined long =
+pub handed_none : (table : FrameTable) (invite : Invite) (all : List PieceState) (pass : Pass) (hearer : Hearer) (net : NetState) (flags : List Bool) (ends : List LinkEnd) (counts : List ℕ) → IsServePass invite.clients table pass → ((d : ℕ) → d < invite.clients → (standing pass d).known.left ≡ true) →
+    (coming : Option (List (List ℕ))) × AreDone invite.clients table invite hearer coming 0 all → length all ≡ invite.clients → length net.given ≡ invite.clients → joined hearer ≡ [] → length ends ≡ invite.clients → length counts ≡ invite.clients → HandedSoFar table invite all all pass pass hearer hearer net net flags ends counts 0
+handed_none table invite all pass hearer net flags ends counts is closed some count given unjoined long counts_long =
     record {
       from = is;
       is = is;
@@ -163,12 +164,13 @@ handed_none table invite all pass hearer net flags ends is closed some count giv
       given = given;
       coming_same = refl;
       ends_long = long;
+      counts_long = counts_long;
       links = λ coming are d below. absurd (omega arith);
     }
 
-module _ (table : FrameTable) (invite : Invite) (all rest : List PieceState) (piece : PieceState) (start p q : Pass) (first hearer after : Hearer) (net now next : NetState) (flags : List Bool) (ends ends_after : List LinkEnd) (c : ℕ)
-    (below : c < invite.clients) (far : HandedSoFar table invite all (piece ∷ rest) start p first hearer net now flags ends c) (closes : Closes invite.clients table piece.seat p q) (back : TakesBack c piece.input piece.output now next)
-    (list : joined after ≡ joined hearer ++ pushed piece.seat.reading.reports ∷ []) (same_heard : heard after ≡ heard hearer) (same : IsSameHearer hearer after) (noted : ends_after ≡ slice_set ends c (link_end_of piece.seat.ends.reader piece.seat.ends.sender (get_or flags c false))) where
+module _ (table : FrameTable) (invite : Invite) (all rest : List PieceState) (piece : PieceState) (start p q : Pass) (first hearer after : Hearer) (net now next : NetState) (flags : List Bool) (ends ends_after : List LinkEnd) (counts counts_after : List ℕ) (c : ℕ)
+    (below : c < invite.clients) (far : HandedSoFar table invite all (piece ∷ rest) start p first hearer net now flags ends counts c) (closes : Closes invite.clients table piece.seat p q) (back : TakesBack c piece.input piece.output now next)
+    (list : joined after ≡ joined hearer ++ pushed piece.seat.reading.reports ∷ []) (same_heard : heard after ≡ heard hearer) (same : IsSameHearer hearer after) (noted : ends_after ≡ slice_set ends c (link_end_of piece.seat.ends.reader piece.seat.ends.sender (get_or flags c false))) (told : counts_after ≡ slice_set counts c piece.seat.reading.taken) where
   abbrev kicked : Bool
   kicked = get_or flags c false
 
@@ -197,15 +199,16 @@ module _ (table : FrameTable) (invite : Invite) (all rest : List PieceState) (pi
       let all_left = far.alone coming are d (omega arith) in
       omega arith
 
-  link_here : (coming : Option (List (List ℕ))) (fixed : ℕ) → fixed ≡ made_by piece.seat c → IsDone invite.clients table invite first coming c piece → LinkClosed c invite (columns_of start) (pushed piece.seat.reading.reports) coming kicked fixed (Some (Some (taken_back piece.input piece.output))) (link_end_of piece.seat.ends.reader piece.seat.ends.sender kicked)
+  link_here : (coming : Option (List (List ℕ))) (fixed : ℕ) → fixed ≡ made_by piece.seat c → IsDone invite.clients table invite first coming c piece → LinkClosed c invite (columns_of start) (pushed piece.seat.reading.reports) coming kicked fixed (Some (Some (taken_back piece.input piece.output))) (link_end_of piece.seat.ends.reader piece.seat.ends.sender kicked) piece.seat.reading.taken
   link_here coming fixed fixed_is done =
       let before = done.before in
       let serves = done.serves in
       let new_link = done.is_new.link in
       let both = subst (λ (i : Invite). (r : ReadsLink i.client i.rules [] before.input piece.input (view_of before.seat.reading.pass) (view_of piece.seat.reading.pass) [] (pushed piece.seat.reading.reports) piece.seat.ends.reader)
-      × SendsSo i r.taken before.output piece.output (view_of before.seat.sending) (view_of piece.seat.sending) piece.seat.ends.reader piece.seat.ends.sender) done.is_new.told (serves.reads, serves.sends) in
+      × SendsSo i r.taken before.output piece.output (view_of before.seat.sending) (view_of piece.seat.sending) piece.seat.ends.reader piece.seat.ends.sender × (piece.seat.reading.taken ≡ length r.taken)) done.is_new.told (serves.reads, serves.sends, serves.counted) in
       let reads = both.0 in
       let sends = both.1 in
+      let counted = both.2 in
       let column = ap (λ (r : Part). r.known) reads.column.part in
       let whole = (closes.reads c below).closed (ap (λ (k : Column). k.left) column) ∙ column in
       let stays = subst (λ (i : Invite). AreOf i.client (pushed before.seat.reading.reports) → AreOf i.client (pushed piece.seat.reading.reports)) done.is_new.told serves.reports.own in
@@ -221,6 +224,7 @@ module _ (table : FrameTable) (invite : Invite) (all rest : List PieceState) (pi
         bytes = reads.taken;
         took = reads.took;
         few = reads.few;
+        counted = counted;
         session = reads.session;
         rest = reads.rest;
         makes = reads.makes;
@@ -240,27 +244,31 @@ module _ (table : FrameTable) (invite : Invite) (all rest : List PieceState) (pi
   before_or_at : (d : ℕ) → d < c + 1 → (d < c) ⊎ (d ≡ c)
   before_or_at d less = grind arith
 
-  links_more : (coming : Option (List (List ℕ))) → AreDone invite.clients table invite first coming 0 all → (d : ℕ) → (d < c) ⊎ (d ≡ c) → LinkClosed d invite (columns_of start) (get_or (joined after) d []) coming (get_or flags d false) (made_in all d) (slice_get next.given d) (get_or ends_after d end.Memory)
+  links_more : (coming : Option (List (List ℕ))) → AreDone invite.clients table invite first coming 0 all → (d : ℕ) → (d < c) ⊎ (d ≡ c) → LinkClosed d invite (columns_of start) (get_or (joined after) d []) coming (get_or flags d false) (made_in all d) (slice_get next.given d) (get_or ends_after d end.Memory) (get_or counts_after d 0)
   links_more coming are d (inl less) =
       let listed : get_or (joined after) d [] ≡ get_or (joined hearer) d [] = ap (λ l. get_or l d []) list ∙ push_there (joined hearer) (pushed piece.seat.reading.reports) [] d (let k = far.count in omega arith) in
       let taken : slice_get next.given d ≡ slice_get now.given d = ap (λ l. slice_get l d) back.given ∙ set_there now.given c d (Some (taken_back piece.input piece.output)) less in
       let how : get_or ends_after d end.Memory ≡ get_or ends d end.Memory = ap (λ l. get_or l d end.Memory) noted ∙ read_there ends c d _ end.Memory less in
-      let K : List Heard → Option (Option TakenBack) → LinkEnd → Type 0 = λ a b e. LinkClosed d invite (columns_of start) a coming (get_or flags d false) (made_in all d) b e in
-      subst (λ a. K a (slice_get next.given d) (get_or ends_after d end.Memory)) (sym listed)
-      (subst (λ b. K (get_or (joined hearer) d []) b (get_or ends_after d end.Memory)) (sym taken)
-      (subst (λ e. K (get_or (joined hearer) d []) (slice_get now.given d) e) (sym how) (far.links coming are d less)))
+      let count : get_or counts_after d 0 ≡ get_or counts d 0 = ap (λ l. get_or l d 0) told ∙ read_there counts c d _ 0 less in
+      let K : List Heard → Option (Option TakenBack) → LinkEnd → ℕ → Type 0 = λ a b e k. LinkClosed d invite (columns_of start) a coming (get_or flags d false) (made_in all d) b e k in
+      subst (λ a. K a (slice_get next.given d) (get_or ends_after d end.Memory) (get_or counts_after d 0)) (sym listed)
+      (subst (λ b. K (get_or (joined hearer) d []) b (get_or ends_after d end.Memory) (get_or counts_after d 0)) (sym taken)
+      (subst (λ e. K (get_or (joined hearer) d []) (slice_get now.given d) e (get_or counts_after d 0)) (sym how)
+      (subst (λ k. K (get_or (joined hearer) d []) (slice_get now.given d) (get_or ends d end.Memory) k) (sym count) (far.links coming are d less))))
   links_more coming are d (inr at) =
       let here = link_here coming (made_in all c) (fixed_here coming are) (far.done coming are).0 in
       let listed : get_or (joined after) c [] ≡ pushed piece.seat.reading.reports = ap (λ l. get_or l c []) list ∙ ap (λ k. get_or (joined hearer ++ pushed piece.seat.reading.reports ∷ []) k []) (sym far.count) ∙ push_here (joined hearer) (pushed piece.seat.reading.reports) [] in
       let taken : slice_get next.given c ≡ Some (Some (taken_back piece.input piece.output)) = ap (λ l. slice_get l c) back.given ∙ set_here now.given c (Some (taken_back piece.input piece.output)) (let g = far.given in omega arith) in
       let how : get_or ends_after c end.Memory ≡ link_end_of piece.seat.ends.reader piece.seat.ends.sender kicked = ap (λ l. get_or l c end.Memory) noted ∙ read_here ends c _ end.Memory (let g = far.ends_long in omega arith) in
-      let K : List Heard → Option (Option TakenBack) → LinkEnd → Type 0 = λ a b e. LinkClosed c invite (columns_of start) a coming kicked (made_in all c) b e in
-      subst (λ e. LinkClosed e invite (columns_of start) (get_or (joined after) e []) coming (get_or flags e false) (made_in all e) (slice_get next.given e) (get_or ends_after e end.Memory)) (sym at)
-      (subst (λ a. K a (slice_get next.given c) (get_or ends_after c end.Memory)) (sym listed)
-      (subst (λ b. K (pushed piece.seat.reading.reports) b (get_or ends_after c end.Memory)) (sym taken)
-      (subst (λ e. K (pushed piece.seat.reading.reports) (Some (Some (taken_back piece.input piece.output))) e) (sym how) here)))
+      let count : get_or counts_after c 0 ≡ piece.seat.reading.taken = ap (λ l. get_or l c 0) told ∙ read_here counts c _ 0 (let g = far.counts_long in omega arith) in
+      let K : List Heard → Option (Option TakenBack) → LinkEnd → ℕ → Type 0 = λ a b e k. LinkClosed c invite (columns_of start) a coming kicked (made_in all c) b e k in
+      subst (λ e. LinkClosed e invite (columns_of start) (get_or (joined after) e []) coming (get_or flags e false) (made_in all e) (slice_get next.given e) (get_or ends_after e end.Memory) (get_or counts_after e 0)) (sym at)
+      (subst (λ a. K a (slice_get next.given c) (get_or ends_after c end.Memory) (get_or counts_after c 0)) (sym listed)
+      (subst (λ b. K (pushed piece.seat.reading.reports) b (get_or ends_after c end.Memory) (get_or counts_after c 0)) (sym taken)
+      (subst (λ e. K (pushed piece.seat.reading.reports) (Some (Some (taken_back piece.input piece.output))) e (get_or counts_after c 0)) (sym how)
+      (subst (λ k. K (pushed piece.seat.reading.reports) (Some (Some (taken_back piece.input piece.output))) (link_end_of piece.seat.ends.reader piece.seat.ends.sender kicked) k) (sym count) here))))
 
-  handed_next : HandedSoFar table invite all rest start q first after net next flags ends_after (c + 1)
+  handed_next : HandedSoFar table invite all rest start q first after net next flags ends_after counts_after (c + 1)
   handed_next =
       record {
         from = far.from;
@@ -279,17 +287,18 @@ module _ (table : FrameTable) (invite : Invite) (all rest : List PieceState) (pi
         given = ap length back.given ∙ set_long now.given c (Some (taken_back piece.input piece.output)) ∙ far.given;
         coming_same = back.coming ∙ far.coming_same;
         ends_long = ap length noted ∙ set_long ends c _ ∙ far.ends_long;
+        counts_long = ap length told ∙ set_long counts c _ ∙ far.counts_long;
         links = λ coming are d less. links_more coming are d (before_or_at d less);
       }
 
 -- The first of the links that are left.
-pub handed_first : (table : FrameTable) (invite : Invite) (all xs ys : List PieceState) (x : PieceState) (start pass : Pass) (first hearer : Hearer) (net now : NetState) (flags : List Bool) (ends : List LinkEnd) (c : ℕ) → HandedSoFar table invite all xs start pass first hearer net now flags ends c → c < invite.clients → x ≡ get_or xs 0 x → ys ≡ remove xs 0 → HandedSoFar table invite all (x ∷ ys) start pass first hearer net now flags ends c
-handed_first table invite all xs ys x start pass first hearer net now flags ends c far below is rest =
+pub handed_first : (table : FrameTable) (invite : Invite) (all xs ys : List PieceState) (x : PieceState) (start pass : Pass) (first hearer : Hearer) (net now : NetState) (flags : List Bool) (ends : List LinkEnd) (counts : List ℕ) (c : ℕ) → HandedSoFar table invite all xs start pass first hearer net now flags ends counts c → c < invite.clients → x ≡ get_or xs 0 x → ys ≡ remove xs 0 → HandedSoFar table invite all (x ∷ ys) start pass first hearer net now flags ends counts c
+handed_first table invite all xs ys x start pass first hearer net now flags ends counts c far below is rest =
     let few = far.few in
-    subst (λ l. HandedSoFar table invite all l start pass first hearer net now flags ends c) (first_taken xs ys x (omega arith) is rest) far
+    subst (λ l. HandedSoFar table invite all l start pass first hearer net now flags ends counts c) (first_taken xs ys x (omega arith) is rest) far
 
-pub first_reads : (table : FrameTable) (invite : Invite) (all ys : List PieceState) (x : PieceState) (start pass : Pass) (first hearer : Hearer) (net now : NetState) (flags : List Bool) (ends : List LinkEnd) (c : ℕ) → HandedSoFar table invite all (x ∷ ys) start pass first hearer net now flags ends c → IsServePass invite.clients table x.seat.reading.pass × IsServePass invite.clients table x.seat.sending × (queue_of x.seat.reading.reports ≡ queue_heard hearer) × (number_of x.seat.reading.reports ≡ length (joined hearer))
-first_reads table invite all ys x start pass first hearer net now flags ends c far =
+pub first_reads : (table : FrameTable) (invite : Invite) (all ys : List PieceState) (x : PieceState) (start pass : Pass) (first hearer : Hearer) (net now : NetState) (flags : List Bool) (ends : List LinkEnd) (counts : List ℕ) (c : ℕ) → HandedSoFar table invite all (x ∷ ys) start pass first hearer net now flags ends counts c → IsServePass invite.clients table x.seat.reading.pass × IsServePass invite.clients table x.seat.sending × (queue_of x.seat.reading.reports ≡ queue_heard hearer) × (number_of x.seat.reading.reports ≡ length (joined hearer))
+first_reads table invite all ys x start pass first hearer net now flags ends counts c far =
     let done = far.some.1.0 in (
       done.serves.reading_pass,
       done.serves.sending_pass,
@@ -297,17 +306,17 @@ first_reads table invite all ys x start pass first hearer net now flags ends c f
       done.serves.reports.same.number ∙ done.is_new.number ∙ sym far.count,
     )
 
-pub handed_more : (table : FrameTable) (invite : Invite) (all rest : List PieceState) (piece : PieceState) (start p q : Pass) (first hearer after : Hearer) (net now next : NetState) (flags : List Bool) (ends ends_after : List LinkEnd) (c : ℕ) → c < invite.clients → HandedSoFar table invite all (piece ∷ rest) start p first hearer net now flags ends c → Closes invite.clients table piece.seat p q → TakesBack c piece.input piece.output now next →
-    joined after ≡ joined hearer ++ pushed piece.seat.reading.reports ∷ [] → heard after ≡ heard hearer → IsSameHearer hearer after → ends_after ≡ slice_set ends c (link_end_of piece.seat.ends.reader piece.seat.ends.sender (get_or flags c false)) → HandedSoFar table invite all rest start q first after net next flags ends_after (c + 1)
-handed_more table invite all rest piece start p q first hearer after net now next flags ends ends_after c below far closes back list same_heard same noted =
-    handed_next table invite all rest piece start p q first hearer after net now next flags ends ends_after c below far closes back list same_heard same noted
+pub handed_more : (table : FrameTable) (invite : Invite) (all rest : List PieceState) (piece : PieceState) (start p q : Pass) (first hearer after : Hearer) (net now next : NetState) (flags : List Bool) (ends ends_after : List LinkEnd) (counts counts_after : List ℕ) (c : ℕ) → c < invite.clients → HandedSoFar table invite all (piece ∷ rest) start p first hearer net now flags ends counts c → Closes invite.clients table piece.seat p q → TakesBack c piece.input piece.output now next →
+    joined after ≡ joined hearer ++ pushed piece.seat.reading.reports ∷ [] → heard after ≡ heard hearer → IsSameHearer hearer after → ends_after ≡ slice_set ends c (link_end_of piece.seat.ends.reader piece.seat.ends.sender (get_or flags c false)) → counts_after ≡ slice_set counts c piece.seat.reading.taken → HandedSoFar table invite all rest start q first after net next flags ends_after counts_after (c + 1)
+handed_more table invite all rest piece start p q first hearer after net now next flags ends ends_after counts counts_after c below far closes back list same_heard same noted told =
+    handed_next table invite all rest piece start p q first hearer after net now next flags ends ends_after counts counts_after c below far closes back list same_heard same noted told
 
 -- All were handed back.
-pub handed_shares : (table : FrameTable) (invite : Invite) (all left : List PieceState) (start pass : Pass) (first hearer : Hearer) (net now : NetState) (flags : List Bool) (ends : List LinkEnd) (c : ℕ) → HandedSoFar table invite all left start pass first hearer net now flags ends c → invite.clients ≤ c → (view_of pass).share ≡ (view_of start).share + shares_of all
-handed_shares table invite all [] start pass first hearer net now flags ends c far end = (let s = far.shares in omega arith)
-handed_shares table invite all (x ∷ left) start pass first hearer net now flags ends c far end = absurd (let f = far.few in omega arith)
+pub handed_shares : (table : FrameTable) (invite : Invite) (all left : List PieceState) (start pass : Pass) (first hearer : Hearer) (net now : NetState) (flags : List Bool) (ends : List LinkEnd) (counts : List ℕ) (c : ℕ) → HandedSoFar table invite all left start pass first hearer net now flags ends counts c → invite.clients ≤ c → (view_of pass).share ≡ (view_of start).share + shares_of all
+handed_shares table invite all [] start pass first hearer net now flags ends counts c far end = (let s = far.shares in omega arith)
+handed_shares table invite all (x ∷ left) start pass first hearer net now flags ends counts c far end = absurd (let f = far.few in omega arith)
 
-pub handed_made : (table : FrameTable) (invite : Invite) (all left : List PieceState) (start pass : Pass) (first hearer : Hearer) (net now : NetState) (flags : List Bool) (ends : List LinkEnd) (c : ℕ) → HandedSoFar table invite all left start pass first hearer net now flags ends c → invite.clients ≤ c →
+pub handed_made : (table : FrameTable) (invite : Invite) (all left : List PieceState) (start pass : Pass) (first hearer : Hearer) (net now : NetState) (flags : List Bool) (ends : List LinkEnd) (counts : List ℕ) (c : ℕ) → HandedSoFar table invite all left start pass first hearer net now flags ends counts c → invite.clients ≤ c →
     (d : ℕ) → d < invite.clients → (standing pass d).made ≡ (standing start d).made + made_in all d
-handed_made table invite all [] start pass first hearer net now flags ends c far end d below = (let m = far.made d below in omega arith)
-handed_made table invite all (x ∷ left) start pass first hearer net now flags ends c far end d below = absurd (let f = far.few in omega arith)
+handed_made table invite all [] start pass first hearer net now flags ends counts c far end d below = (let m = far.made d below in omega arith)
+handed_made table invite all (x ∷ left) start pass first hearer net now flags ends counts c far end d below = absurd (let f = far.few in omega arith)

@@ -1,6 +1,6 @@
 -- The whole match, from what its parts did.
-use Rattle.std.proofs.Common.{◌≡◌, ℕ, zero, suc, ◌+◌, ◌-◌, ◌/◌, ◌^◌, ◌<◌, ◌≤◌, ◌⊎◌, Bool, true, false, List, [], ◌∷◌, length, map, drop, replicate, get_or, Option, refl, sym, ap, ap₂, ◌∙◌, subst, inl, inr, arith}
-use Rattle.std.specs.Prelude.{slice_get, All}
+use Rattle.std.proofs.Common.{◌≡◌, ℕ, zero, suc, ◌+◌, ◌-◌, ◌/◌, ◌^◌, ◌<◌, ◌≤◌, ◌⊎◌, Bool, true, false, List, [], ◌∷◌, ◌++◌, length, map, take, drop, replicate, get_or, Option, Some, None, refl, sym, ap, ap₂, ◌∙◌, subst, inl, inr, arith}
+use Rattle.std.specs.Prelude.{slice_get, All, IfSome}
 use Rattle.std.specs.Option.{option_map}
 use Rattle.std.proofs.lemmas.Bool.{cases_lt}
 use Rattle.std.proofs.lemmas.List.Elements.{All-nil, All-cons}
@@ -23,6 +23,7 @@ use Rattle.report_line.specs.declared.heard.Heard.{Heard}
 use Rattle.report_line.specs.declared.hearer.Hearer.{Hearer}
 use Rattle.report_line.specs.Order.{AreOf, of_client, IsInterleaving}
 use Rattle.match_net.specs.declared.invite.Invite.{Invite}
+use Rattle.match_net.specs.Taking.{Took}
 use Rattle.match_serve.specs.declared.link_end.LinkEnd.{LinkEnd}
 use Rattle.match_serve.specs.declared.link_end.LinkEnd.TheVariants as end
 use Rattle.match_serve.specs.Passes.{IsServePass, Learns, FixedNone, IsKicking, AllGone, columns_of}
@@ -93,9 +94,21 @@ module _ (clients : ℕ) (table : FrameTable) (ticked joined handed gone : Pass)
       reach (inl none) = inl none
       reach (inr (c, below, has)) = inr (c, below, subst (λ (k : Column). n ≤ length_of k) (sym (column_known (view_of gone) c ∙ gone_known c below)) has)
 
+-- What was taken of told bytes are their first ones.
+first_ones : (old new : Option (List ℕ)) (bytes : List ℕ) (count : ℕ) → Took old new bytes → count ≡ length bytes → IfSome old (λ told. bytes ≡ take count told)
+first_ones None new bytes count took counted = tt
+first_ones (Some told) None bytes count took counted = absurd cc
+first_ones (Some told) (Some left) bytes count took counted =
+    let all : told ≡ bytes ++ left = cc in
+    sym (ap₂ (λ (k : ℕ) (l : List ℕ). take k l) counted all ∙ front bytes left)
+  where
+    front : (xs ys : List ℕ) → take (length xs) (xs ++ ys) ≡ xs
+    front [] ys = refl
+    front (x ∷ xs) ys = ap (λ l. x ∷ l) (front xs ys)
+
 -- A link, with what was heard over it.
-served_link : (c : ℕ) (invite : Invite) (columns : List Column) (reports : List (List (Option ℕ))) (clients : ℕ) (heard : List Heard) (lists : List (List Heard)) (coming : Option (List (List ℕ))) (kicked : Bool) (fixed : ℕ) (back : Option (Option TakenBack)) (how : LinkEnd) → c < clients → LinkClosed c invite columns (get_or lists c []) coming kicked fixed back how → (fixed ≡ 0 → kicked ≡ true) → HasHeard clients reports heard → of_client c heard ≡ get_or lists c [] → ServesLink c invite columns (reports_of reports c) coming kicked back how
-served_link c invite columns reports clients heard lists coming kicked fixed back how below closed by has listed =
+served_link : (c : ℕ) (invite : Invite) (columns : List Column) (reports : List (List (Option ℕ))) (clients : ℕ) (heard : List Heard) (lists : List (List Heard)) (coming : Option (List (List ℕ))) (kicked : Bool) (fixed : ℕ) (back : Option (Option TakenBack)) (how : LinkEnd) (count : ℕ) → c < clients → LinkClosed c invite columns (get_or lists c []) coming kicked fixed back how count → (fixed ≡ 0 → kicked ≡ true) → HasHeard clients reports heard → of_client c heard ≡ get_or lists c [] → ServesLink c invite columns (reports_of reports c) coming kicked back how count
+served_link c invite columns reports clients heard lists coming kicked fixed back how count below closed by has listed =
     record {
       input = closed.input;
       input_after = closed.input_after;
@@ -106,6 +119,8 @@ served_link c invite columns reports clients heard lists coming kicked fixed bac
       bytes = closed.bytes;
       took = closed.took;
       few = closed.few;
+      counted = closed.counted;
+      first = first_ones closed.input.left closed.input_after.left closed.bytes count closed.took closed.counted;
       session = closed.session;
       rest = closed.rest;
       makes = closed.makes;
@@ -138,14 +153,14 @@ may_serve clients table invite hearer coming c (piece ∷ pieces) are =
     (may_serve clients table invite hearer coming (c + 1) pieces are.1)
 
 -- All of it.
-pub serves : {W : Type 0} (m : Match W) (invite : Invite) (coming : Option (List (List ℕ))) (console_old console_new : SourceState) (read : ConsoleRead console_old console_new) (net : NetState) (table : FrameTable) (old : View) (ticked joined handed gone : Pass) (noted board : BoardState) (ends : List LinkEnd) (n : ℕ) (world : W) (heard : List Heard) (lists : List (List Heard)) (kicked : List Bool) (fixed : ℕ → ℕ) →
+pub serves : {W : Type 0} (m : Match W) (invite : Invite) (coming : Option (List (List ℕ))) (console_old console_new : SourceState) (read : ConsoleRead console_old console_new) (net : NetState) (table : FrameTable) (old : View) (ticked joined handed gone : Pass) (noted board : BoardState) (ends : List LinkEnd) (taken : List ℕ) (n : ℕ) (world : W) (heard : List Heard) (lists : List (List Heard)) (kicked : List Bool) (fixed : ℕ → ℕ) →
     IsServePass invite.clients table ticked → IsServePass invite.clients table joined → IsServePass invite.clients table gone → TicksAll m invite.clients old (view_of ticked) noted.wanted n world → ((c : ℕ) → c < invite.clients → GrowsTo (standing ticked c).known (standing joined c).known) →
     ((c : ℕ) → c < invite.clients → (standing handed c).known ≡ (standing joined c).known) → AllGone invite.clients (view_of handed) (view_of gone) → (view_of gone).share ≡ 2 ^ 62 →
-    board.wanted ≡ noted.wanted → length board.reports ≡ invite.clients → length net.given ≡ invite.clients → net.coming ≡ option_map (drop invite.clients) coming → length ends ≡ invite.clients →
-    ((c : ℕ) → c < invite.clients → LinkClosed c invite (columns_of joined) (get_or lists c []) coming (get_or kicked c false) (fixed c) (slice_get net.given c) (get_or ends c end.Memory)) → AreKicked invite.clients read.bytes kicked → ((c : ℕ) → c < invite.clients → fixed c ≡ 0 → get_or kicked c false ≡ true) → HasHeard invite.clients board.reports heard → length lists ≡ invite.clients → IsInterleaving heard lists →
+    board.wanted ≡ noted.wanted → length board.reports ≡ invite.clients → length net.given ≡ invite.clients → net.coming ≡ option_map (drop invite.clients) coming → length ends ≡ invite.clients → length taken ≡ invite.clients →
+    ((c : ℕ) → c < invite.clients → LinkClosed c invite (columns_of joined) (get_or lists c []) coming (get_or kicked c false) (fixed c) (slice_get net.given c) (get_or ends c end.Memory) (get_or taken c 0)) → AreKicked invite.clients read.bytes kicked → ((c : ℕ) → c < invite.clients → fixed c ≡ 0 → get_or kicked c false ≡ true) → HasHeard invite.clients board.reports heard → length lists ≡ invite.clients → IsInterleaving heard lists →
     ((all : List Heard) (each : List (List Heard)) → IsInterleaving all each → ((k : ℕ) → AreOf k (get_or each k [])) → (c : ℕ) → of_client c all ≡ get_or each c []) →
-    ServesMatch m invite coming console_old console_new net world n table gone board ends
-serves m invite coming console_old console_new read net table old ticked joined handed gone noted board ends n world heard lists kicked fixed of_ticked of_joined of_gone ticks mine same all share wanted boards given still long links kicked_are by has count between law =
+    ServesMatch m invite coming console_old console_new net world n table gone board ends taken
+serves m invite coming console_old console_new read net table old ticked joined handed gone noted board ends taken n world heard lists kicked fixed of_ticked of_joined of_gone ticks mine same all share wanted boards given still long counts_long links kicked_are by has count between law =
     let clients = invite.clients in
     let left = ticks.left.left in
     let columns = columns_same clients table ticked joined handed gone of_ticked of_gone left mine same all in
@@ -161,10 +176,11 @@ serves m invite coming console_old console_new read net table old ticked joined 
       links_given = given;
       still_coming = still;
       ends_count = long;
+      taken_count = counts_long;
       links = λ c below.
-          subst (λ k. ServesLink c invite (columns_of gone) (reports_of board.reports c) coming k (slice_get net.given c) (get_or ends c end.Memory)) (kicked_are c below)
-          (served_link c invite (columns_of gone) board.reports clients heard lists coming (get_or kicked c false) (fixed c) (slice_get net.given c) (get_or ends c end.Memory) below
-          (subst (λ l. LinkClosed c invite l (get_or lists c []) coming (get_or kicked c false) (fixed c) (slice_get net.given c) (get_or ends c end.Memory)) (sym as_joined) (links c below)) (by c below) has (law heard lists between own c));
+          subst (λ k. ServesLink c invite (columns_of gone) (reports_of board.reports c) coming k (slice_get net.given c) (get_or ends c end.Memory) (get_or taken c 0)) (kicked_are c below)
+          (served_link c invite (columns_of gone) board.reports clients heard lists coming (get_or kicked c false) (fixed c) (slice_get net.given c) (get_or ends c end.Memory) (get_or taken c 0) below
+          (subst (λ l. LinkClosed c invite l (get_or lists c []) coming (get_or kicked c false) (fixed c) (slice_get net.given c) (get_or ends c end.Memory) (get_or taken c 0)) (sym as_joined) (links c below)) (by c below) has (law heard lists between own c));
     }
   where
     by_place : (k : ℕ) → (k < length lists) ⊎ (length lists ≤ k) → AreOf k (get_or lists k [])

@@ -28,11 +28,11 @@ use Rattle.match_net.specs.declared.reader_end.ReaderEnd.{ReaderEnd}
 use Rattle.match_net.specs.declared.reader_end.ReaderEnd.TheVariants as reader
 use Rattle.match_net.specs.declared.sender_end.SenderEnd.{SenderEnd}
 use Rattle.match_net.specs.declared.sender_end.SenderEnd.TheVariants as sender
-use Rattle.match_net.specs.Taking.{TookAtMost}
+use Rattle.match_net.specs.Taking.{Counts, TookAtMost}
 use Rattle.match_net.specs.Greeting.{Greets, decided}
 use Rattle.match_net.specs.Session.{no_session}
 use Rattle.match_net.specs.Reading.{MayPlay}
-use Rattle.match_net.specs.Sessions.{ReadsAs, LeavesColumn, SessionEnds}
+use Rattle.match_net.specs.Sessions.{CountsAs, LeavesColumn, SessionEnds}
 use Rattle.match_net.specs.Sending.{LooksAtAll}
 use Rattle.match_net.specs.SenderSession.{SendsAs, SentBy, LeavesIf}
 use Rattle.match_serve.specs.declared.link_seat.LinkSeat.{LinkSeat}
@@ -135,10 +135,10 @@ taken_empty c before after free may none (answer, (K, acted, said)) =
     }
 
 -- Memory ran out for the greeting.
-pub given_up : (clients : ℕ) (table : FrameTable) (old new : LinkSeat) (input input_after : SourceState) (output : SinkState) → IsNewSeat clients table old → TookAtMost MAX_LINK_BYTES input input_after →
+pub given_up : (clients : ℕ) (table : FrameTable) (old new : LinkSeat) (input input_after : SourceState) (output : SinkState) → IsNewSeat clients table old → (took : TookAtMost MAX_LINK_BYTES input input_after) → (taken : ℕ) → Counts old.reading.taken taken took.taken → new.reading.taken ≡ taken →
     IsPassOf table new.reading.pass → IsTakenOut old.invite.client (view_of old.reading.pass) (view_of new.reading.pass) → new.reading.reports ≡ old.reading.reports → new.sending ≡ old.sending → new.invite ≡ old.invite →
     new.ends.reader ≡ reader.NoMemory → new.ends.sender ≡ sender.Sent → ServesSeat clients table old new input input_after output output
-given_up clients table old new input input_after output seat took is out reports sending told read sent =
+given_up clients table old new input input_after output seat took taken counted still is out reports sending told read sent =
     let c = old.invite.client in
     let keeps = taken_out c (view_of old.reading.pass) (view_of new.reading.pass) out in
     record {
@@ -162,6 +162,7 @@ given_up clients table old new input input_after output seat took is out reports
         column = taken_empty c (view_of old.reading.pass) (view_of new.reading.pass) (seat.reads.of_table.held c) seat.may seat.unplayed out;
         ends = subst (λ (a : ReaderEnd). SessionEnds c old.invite.rules took.taken no_session took.taken input input_after (view_of old.reading.pass) (view_of new.reading.pass) a) (sym read) tt;
       };
+      counted = (let none = seat.none_taken in omega (arith, none, counted, still));
       sends = inr (refl, ap view_of sending, read, sent);
     }
 
@@ -172,14 +173,15 @@ answered why said invite old new before after answer (inr (lost, is_ended)) send
     subst (λ g. SendsAs g invite old new before after answer) (sym is_ended) (record { mid = failed.mid; sends = failed.sends; leaves = failed.leaves })
 
 -- What the sessions ask for.
-pub may_read : (clients : ℕ) (table : FrameTable) (old : LinkSeat) (fed : Fed) (why : Greeting) (here : ℕ) (input mid : SourceState) → IsNewSeat clients table old → Greets here input mid fed why → MayRead table old.invite why (record old.reading { feeder = fed }) mid
-may_read clients table old fed why here input mid seat g =
+pub may_read : (clients : ℕ) (table : FrameTable) (old : LinkSeat) (fed : Fed) (taken : ℕ) (why : Greeting) (here : ℕ) (input mid : SourceState) → IsNewSeat clients table old → (g : Greets here input mid fed why) → Counts old.reading.taken taken g.taken → MayRead table old.invite why (record old.reading { feeder = fed; taken = taken }) mid
+may_read clients table old fed taken why here input mid seat g counted =
     record {
       pass = seat.reads.of_table;
       client = (let below = seat.client in let count = seat.reads.count in omega arith);
       may = seat.may;
       unplayed = seat.unplayed;
       greeted = g.leaves;
+      few = (let none = seat.none_taken in let few = g.few in omega (arith, counted, none, few));
     }
 
 pub may_send : (clients : ℕ) (table : FrameTable) (old : LinkSeat) → IsNewSeat clients table old → MaySend table old.invite old.sending
@@ -192,14 +194,16 @@ may_send clients table old seat =
     }
 
 -- A greeted link was served.
-pub served : (clients : ℕ) (table : FrameTable) (old new : LinkSeat) (fed : Fed) (why : Greeting) (input mid input_after : SourceState) (output output_after : SinkState) → FitsUp (Hello VERSION old.invite.rules) → IsNewSeat clients table old → Greets old.invite.rules input mid fed why →
-    HasRead table old.invite why (record old.reading { feeder = fed }) new.reading mid input_after new.ends.reader → HasSent table old.invite why old.sending new.sending output output_after new.ends.sender → new.invite ≡ old.invite → ServesSeat clients table old new input input_after output output_after
-served clients table old new fed why input mid input_after output output_after fits seat g read sent told =
+pub served : (clients : ℕ) (table : FrameTable) (old new : LinkSeat) (fed : Fed) (taken : ℕ) (why : Greeting) (input mid input_after : SourceState) (output output_after : SinkState) → FitsUp (Hello VERSION old.invite.rules) → IsNewSeat clients table old → (g : Greets old.invite.rules input mid fed why) → Counts old.reading.taken taken g.taken →
+    HasRead table old.invite why (record old.reading { feeder = fed; taken = taken }) new.reading mid input_after new.ends.reader → HasSent table old.invite why old.sending new.sending output output_after new.ends.sender → new.invite ≡ old.invite → ServesSeat clients table old new input input_after output output_after
+served clients table old new fed taken why input mid input_after output output_after fits seat g counted read sent told =
     let c = old.invite.client in
     let before = view_of old.reading.pass in
     let after = view_of new.reading.pass in
-    let reads = subst (λ first. ReadsAs why c old.invite.rules fed.rest mid input_after before after first (pushed new.reading.reports) new.ends.reader) seat.unpushed read.reads in
-    let (whole, said) = read_greeted c old.invite.rules input mid input_after fed before after (pushed new.reading.reports) new.ends.reader why fits g reads in
+    let reads = subst (λ first. CountsAs why c old.invite.rules fed.rest mid input_after taken new.reading.taken before after first (pushed new.reading.reports) new.ends.reader) seat.unpushed read.reads in
+    let none = seat.none_taken in
+    let counted_all : taken ≡ length g.taken = omega (arith, none, counted) in
+    let (whole, said, total) = read_greeted c old.invite.rules input mid input_after taken new.reading.taken fed before after (pushed new.reading.reports) new.ends.reader why fits g counted_all reads in
     let left = reader_keeps c whole.session.plays before after whole.column in
     let keeps = sender_keeps why old.invite output output_after (view_of old.sending) (view_of new.sending) new.ends.sender sent.sends in
     record {
@@ -210,5 +214,6 @@ served clients table old new fed why input mid input_after output output_after f
       sending_share = keeps.share;
       reports = read.reports;
       reads = whole;
+      counted = total;
       sends = inl (answered why (greeting_by (decided old.invite.rules (packet_at up_at whole.taken))) old.invite output output_after (view_of old.sending) (view_of new.sending) new.ends.sender said sent.sends);
     }

@@ -1,5 +1,5 @@
 -- A greeting and a session, over all bytes that were taken from the link.
-use Rattle.std.proofs.Common.{◌≡◌, ℕ, ◌≤◌, ◌⊎◌, Bool, true, false, List, [], ◌++◌, length, Option, Some, None, Result, Ok, Err, refl, sym, ap, ◌∙◌, subst, inl, inr, ⊎_elim, arith, append_assoc, take, drop, length-drop, lt-ltb, eq-eqb, ◌==◌}
+use Rattle.std.proofs.Common.{◌≡◌, ℕ, ◌≤◌, ◌⊎◌, Bool, true, false, List, [], ◌++◌, length, Option, Some, None, Result, Ok, Err, refl, sym, ap, ◌∙◌, subst, inl, inr, ⊎_elim, arith, append_assoc, take, drop, length-append, length-drop, lt-ltb, eq-eqb, ◌==◌}
 use Rattle.std.proofs.lemmas.Bool.{le-ltb, cases_lt}
 use Rattle.std.specs.Prelude.{nat_lt, if◌then◌else◌}
 use Rattle.base.specs.Steps.{◌>>=◌}
@@ -26,12 +26,12 @@ use Rattle.match_net.specs.declared.reader_end.ReaderEnd.{ReaderEnd}
 use Rattle.match_net.specs.declared.reader_end.ReaderEnd.TheVariants as end
 use Rattle.match_net.specs.declared.ending.Ending.TheVariants as ending
 use Rattle.match_net.specs.declared.read_cause.ReadCause.TheVariants as cause
-use Rattle.match_net.specs.Taking.{Took, NoneLeft}
+use Rattle.match_net.specs.Taking.{Took, Counts, NoneLeft}
 use Rattle.match_net.specs.Greeting.{Greets, decided, greeting_of, hello_bytes}
 use Rattle.match_serve.specs.Sent.{greeting_by}
 use Rattle.match_net.specs.Session.{Session, no_session, Makes, end_at, limited, cause_of}
 use Rattle.match_net.specs.Reading.{EndMeans}
-use Rattle.match_net.specs.Sessions.{ReadsAs, ReadsLink, ReadsNothing, SessionEnds}
+use Rattle.match_net.specs.Sessions.{CountsAs, ReadsLink, ReadsNothing, SessionEnds}
 
 both : (new : Option (List ℕ)) (xs ys : List ℕ) → option_map (λ left. xs ++ left) (option_map (λ left. ys ++ left) new) ≡ option_map (λ left. (xs ++ ys) ++ left) new
 both None xs ys = refl
@@ -49,20 +49,20 @@ module _ (c here : ℕ) (bytes : List ℕ) (session : Session) (rest : List ℕ)
   end_since end.Ended means = means
   end_since (end.Refused why) means = means
   end_since (end.LeftAt at) means = means
-  end_since end.Lost means = (means.0, rose_since old.faults mid.faults new.faults later means.1)
+  end_since end.Lost means = (means.0, means.1, rose_since old.faults mid.faults new.faults later means.2)
   end_since end.NoMemory means = means
 
   ends_since : (before after : View) (answer : ReaderEnd) → SessionEnds c here bytes session rest mid new before after answer → SessionEnds c here bytes session rest old new before after answer
   ends_since before after end.Ended ends = ends
   ends_since before after (end.Refused why) ends = ends
   ends_since before after (end.LeftAt at) ends = ends
-  ends_since before after end.Lost ends = (ends.0, rose_since old.faults mid.faults new.faults later ends.1)
+  ends_since before after end.Lost ends = (ends.0, ends.1, rose_since old.faults mid.faults new.faults later ends.2)
   ends_since before after end.NoMemory ends = ends
 
 -- After a Welcome.
 module _ (c here : ℕ) (old mid new : SourceState) (fed : Fed) (before after : View) (heard : List Heard) (answer : ReaderEnd) where
-  read_welcome : (g : Greets here old mid fed greeting.Welcome) → ReadsLink c here (hello_bytes here ++ fed.rest) mid new before after [] heard answer →
-      (r : ReadsLink c here [] old new before after [] heard answer) × ((more : List ℕ) × (r.taken ≡ hello_bytes here ++ more))
+  read_welcome : (g : Greets here old mid fed greeting.Welcome) → (since : ReadsLink c here (hello_bytes here ++ fed.rest) mid new before after [] heard answer) →
+      (r : ReadsLink c here [] old new before after [] heard answer) × (r.taken ≡ g.taken ++ since.taken) × ((more : List ℕ) × (r.taken ≡ hello_bytes here ++ more))
   read_welcome g r =
       let same : g.taken ≡ hello_bytes here ++ fed.rest = g.welcomed refl in
       let all : hello_bytes here ++ fed.rest ++ r.taken ≡ g.taken ++ r.taken = ap (λ b. b ++ r.taken) (sym same) in (
@@ -81,6 +81,7 @@ module _ (c here : ℕ) (old mid new : SourceState) (fed : Fed) (before after : 
           ends = subst (λ b. SessionEnds c here b r.session r.rest old new before after answer) all
               (ends_since c here (hello_bytes here ++ fed.rest ++ r.taken) r.session r.rest old mid new g.later before after answer r.ends);
         },
+        refl,
         (fed.rest ++ r.taken, sym all ∙ append_assoc (hello_bytes here) fed.rest r.taken),
       )
 
@@ -215,24 +216,28 @@ IsAnswered why said = (said ≡ why) ⊎ ((why ≡ greeting.Lost) × (said ≡ g
 abbrev said_by : ℕ → List ℕ → Greeting
 said_by here bytes = greeting_by (decided here (packet_at up_at bytes))
 
-module _ (c here : ℕ) (old mid new : SourceState) (fed : Fed) (before after : View) (heard : List Heard) (answer : ReaderEnd) where
+module _ (c here : ℕ) (old mid new : SourceState) (count total : ℕ) (fed : Fed) (before after : View) (heard : List Heard) (answer : ReaderEnd) where
   abbrev pub Whole : Greeting → Type 0
-  Whole why = (r : ReadsLink c here [] old new before after [] heard answer) × IsAnswered why (said_by here r.taken)
+  Whole why = (r : ReadsLink c here [] old new before after [] heard answer) × IsAnswered why (said_by here r.taken) × (total ≡ length r.taken)
 
-  read_refused : (code : ℕ) → Greets here old mid fed (greeting.Refuse code) → ReadsNothing (greeting.Refuse code) c mid new before after [] heard answer → Whole (greeting.Refuse code)
-  read_refused code g r =
+  -- Where nothing was taken since, the count is that of the greeting.
+  none_since : (bytes all : List ℕ) → count ≡ length bytes → total ≡ count → all ≡ bytes → total ≡ length all
+  none_since bytes all counted still same = still ∙ counted ∙ sym (ap length same)
+
+  read_refused : (code : ℕ) → (g : Greets here old mid fed (greeting.Refuse code)) → count ≡ length g.taken → ReadsNothing (greeting.Refuse code) c mid new before after [] heard answer → total ≡ count → Whole (greeting.Refuse code)
+  read_refused code g counted r still =
       let (whole, same) = read_none c here old mid new fed before after heard answer (greeting.Refuse code) g r
       (subst (SessionEnds c here g.taken no_session g.taken old new before after) (sym r.ends) (refused_end c here (length g.taken) code (packet_at up_at g.taken) g.decides)) in
-      (whole, inl (ap (said_by here) same ∙ ap greeting_by g.decides))
+      (whole, inl (ap (said_by here) same ∙ ap greeting_by g.decides), none_since g.taken whole.taken counted still same)
 
-  read_faulty : (fault : FeedFault) → Greets here old mid fed (greeting.Fault fault) → ReadsNothing (greeting.Fault fault) c mid new before after [] heard answer → Whole (greeting.Fault fault)
-  read_faulty fault g r =
+  read_faulty : (fault : FeedFault) → (g : Greets here old mid fed (greeting.Fault fault)) → count ≡ length g.taken → ReadsNothing (greeting.Fault fault) c mid new before after [] heard answer → total ≡ count → Whole (greeting.Fault fault)
+  read_faulty fault g counted r still =
       let (whole, same) = read_none c here old mid new fed before after heard answer (greeting.Fault fault) g r
       (subst (SessionEnds c here g.taken no_session g.taken old new before after) (sym r.ends) (faulty_end c here (length g.taken) fault (packet_at up_at g.taken) g.decides)) in
-      (whole, inl (ap (said_by here) same ∙ ap greeting_by g.decides))
+      (whole, inl (ap (said_by here) same ∙ ap greeting_by g.decides), none_since g.taken whole.taken counted still same)
 
-  read_ended : Greets here old mid fed greeting.Ended → ReadsNothing greeting.Ended c mid new before after [] heard answer → Whole greeting.Ended
-  read_ended g r =
+  read_ended : (g : Greets here old mid fed greeting.Ended) → count ≡ length g.taken → ReadsNothing greeting.Ended c mid new before after [] heard answer → total ≡ count → Whole greeting.Ended
+  read_ended g counted r still =
       let means = means_ended c here old mid new fed before after heard answer greeting.Ended g r g.decides (g.ended refl) in
       let S : ReaderEnd → Type 0 = λ (a : ReaderEnd). SessionEnds c here g.taken no_session g.taken old new before after a in
       let (whole, same) = read_none c here old mid new fed before after heard answer greeting.Ended g r
@@ -240,24 +245,28 @@ module _ (c here : ℕ) (old mid new : SourceState) (fed : Fed) (before after : 
       (λ own. subst S (sym own.0) (means, own.1))
       (λ other. subst S (sym other.1) (other.2, inl means))
       r.ends) in
-      (whole, inl (ap (said_by here) same ∙ ap greeting_by g.decides))
+      (whole, inl (ap (said_by here) same ∙ ap greeting_by g.decides), none_since g.taken whole.taken counted still same)
 
-  read_lost : Greets here old mid fed greeting.Lost → ReadsNothing greeting.Lost c mid new before after [] heard answer → Whole greeting.Lost
-  read_lost g r =
+  read_lost : (g : Greets here old mid fed greeting.Lost) → count ≡ length g.taken → ReadsNothing greeting.Lost c mid new before after [] heard answer → total ≡ count → Whole greeting.Lost
+  read_lost g counted r still =
       let (whole, same) = read_none c here old mid new fed before after heard answer greeting.Lost g r
-      (subst (SessionEnds c here g.taken no_session g.taken old new before after) (sym r.ends)
-      (open_end c here (packet_at up_at g.taken) g.decides, subst (λ (s : SourceState). Rose old.faults s.faults) (sym r.untouched) (g.lost refl))) in
-      (whole, inr (refl, ap (said_by here) same ∙ ap greeting_by g.decides))
+      (subst (SessionEnds c here g.taken no_session g.taken old new before after) (sym r.ends) (
+        open_end c here (packet_at up_at g.taken) g.decides,
+        (let few = few_undecided g.taken (undecided here (packet_at up_at g.taken) g.decides) in omega (arith, few)),
+        subst (λ (s : SourceState). Rose old.faults s.faults) (sym r.untouched) (g.lost refl),
+      )) in
+      (whole, inr (refl, ap (said_by here) same ∙ ap greeting_by g.decides), none_since g.taken whole.taken counted still same)
 
-  read_welcomed : FitsUp (Hello VERSION here) → Greets here old mid fed greeting.Welcome → ReadsLink c here (hello_bytes here ++ fed.rest) mid new before after [] heard answer → Whole greeting.Welcome
-  read_welcomed fits g r =
-      let (whole, (more, taken)) = read_welcome c here old mid new fed before after heard answer g r in
+  read_welcomed : FitsUp (Hello VERSION here) → (g : Greets here old mid fed greeting.Welcome) → count ≡ length g.taken → (r : ReadsLink c here (hello_bytes here ++ fed.rest) mid new before after [] heard answer) → Counts count total r.taken → Whole greeting.Welcome
+  read_welcomed fits g counted r since =
+      let (whole, all, (more, taken)) = read_welcome c here old mid new fed before after heard answer g r in
       let first : packet_at up_at (hello_bytes here ++ more) ≡ Ok (Some (Hello VERSION here, more)) = up_again (Hello VERSION here) more fits in
-      (whole, inl (ap (said_by here) taken ∙ ap (λ found. greeting_by (decided here found)) first ∙ accepted here))
+      let long = ap length all ∙ length-append g.taken r.taken in
+      (whole, inl (ap (said_by here) taken ∙ ap (λ found. greeting_by (decided here found)) first ∙ accepted here), omega (arith, counted, since, long))
 
-  pub read_greeted : (why : Greeting) → FitsUp (Hello VERSION here) → Greets here old mid fed why → ReadsAs why c here fed.rest mid new before after [] heard answer → Whole why
-  read_greeted greeting.Welcome fits g r = read_welcomed fits g r
-  read_greeted (greeting.Refuse code) fits g r = read_refused code g r
-  read_greeted (greeting.Fault fault) fits g r = read_faulty fault g r
-  read_greeted greeting.Ended fits g r = read_ended g r
-  read_greeted greeting.Lost fits g r = read_lost g r
+  pub read_greeted : (why : Greeting) → FitsUp (Hello VERSION here) → (g : Greets here old mid fed why) → count ≡ length g.taken → CountsAs why c here fed.rest mid new count total before after [] heard answer → Whole why
+  read_greeted greeting.Welcome fits g counted r = read_welcomed fits g counted r.0 r.1
+  read_greeted (greeting.Refuse code) fits g counted r = read_refused code g counted r.0 r.1
+  read_greeted (greeting.Fault fault) fits g counted r = read_faulty fault g counted r.0 r.1
+  read_greeted greeting.Ended fits g counted r = read_ended g counted r.0 r.1
+  read_greeted greeting.Lost fits g counted r = read_lost g counted r.0 r.1

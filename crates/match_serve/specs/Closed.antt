@@ -60,13 +60,13 @@ pub record Closes (clients : ℕ) (table : FrameTable) (seat : LinkSeat) (old ne
     pub sends : (c : ℕ) → c < clients →
         GrowsTo (standing seat.sending c).known (standing new c).known
 
--- Link c was handed back: what was taken from it, what that made of the client's column, the reports
--- that its end of the queue brought, and what was written to it. The passes of the links have fixed so
--- many departures in its column: what its end tells is so where there is one, or the console kicked
--- the client.
+-- Link c was handed back: what was taken from it, how many bytes these are, what they made of the
+-- client's column, the reports that its end of the queue brought, and what was written to it. The
+-- passes of the links have fixed so many departures in its column: what its end tells is so where
+-- there is one, or the console kicked the client.
 pub record LinkClosed (c : ℕ) (invite : Invite) (columns : List Column) (listed : List Heard)
     (coming : Option (List (List ℕ))) (kicked : Bool) (fixed : ℕ)
-    (back : Option (Option TakenBack)) (how : LinkEnd) : Type 0 where
+    (back : Option (Option TakenBack)) (how : LinkEnd) (count : ℕ) : Type 0 where
   pub input : SourceState
   pub input_after : SourceState
   pub output : SinkState
@@ -76,6 +76,7 @@ pub record LinkClosed (c : ℕ) (invite : Invite) (columns : List Column) (liste
   pub bytes : List ℕ
   pub took : Took input.left input_after.left bytes
   pub few : length bytes ≤ MAX_LINK_BYTES
+  pub counted : count ≡ length bytes
   pub session : Session
   pub rest : List ℕ
   pub makes : Makes c invite.rules bytes session rest

@@ -1,5 +1,5 @@
 -- What serves a link, before it does and since.
-use Rattle.std.specs.Prelude.{◌≡◌, ℕ, ◌+◌, ◌<◌, ◌⊎◌, List, [], ◌∷◌, length, drop}
+use Rattle.std.specs.Prelude.{◌≡◌, ℕ, ◌+◌, ◌<◌, ◌≤◌, ◌⊎◌, List, [], ◌∷◌, length, drop}
 use Rattle.std.specs.Prelude.{Option}
 use Rattle.std.specs.Option.{option_map}
 use Rattle.game_io.specs.NetState.{IsNewLink}
@@ -13,6 +13,7 @@ use Rattle.frame_table.specs.declared.table.FrameTable.{FrameTable}
 use Rattle.frame_table.specs.Calls.{plan_of, view_of, standing, IsPassOf}
 use Rattle.report_line.specs.declared.hearer.Hearer.{Hearer}
 use Rattle.report_line.specs.Reports.{pushed, queue_of, queue_heard, number_of, StaysOf}
+use Rattle.match_net.specs.declared.limits.TheConstants.{MAX_LINK_BYTES}
 use Rattle.match_net.specs.declared.invite.Invite.{Invite}
 use Rattle.match_net.specs.declared.greeting.Greeting.{Greeting}
 use Rattle.match_net.specs.declared.reader_end.ReaderEnd.{ReaderEnd}
@@ -21,7 +22,7 @@ use Rattle.match_net.specs.declared.sender_end.SenderEnd.{SenderEnd}
 use Rattle.match_net.specs.declared.sender_end.SenderEnd.TheVariants as sender
 use Rattle.match_net.specs.Greeting.{IsGreeted}
 use Rattle.match_net.specs.Reading.{MayPlay}
-use Rattle.match_net.specs.Sessions.{ReadsAs, ReadsLink}
+use Rattle.match_net.specs.Sessions.{CountsAs, ReadsLink}
 use Rattle.match_net.specs.SenderSession.{SendsAs}
 use Rattle.match_serve.specs.declared.link_seat.ReadSeat.{ReadSeat}
 use Rattle.match_serve.specs.declared.link_seat.LinkSeat.{LinkSeat}
@@ -45,6 +46,7 @@ pub record IsNewSeat (clients : ℕ) (table : FrameTable) (seat : LinkSeat) : Ty
   pub sender_fixed_none : FixedNone (view_of seat.sending)
   pub feeder : seat.reading.feeder ≡ unfed
   pub unpushed : pushed seat.reading.reports ≡ []
+  pub none_taken : seat.reading.taken ≡ 0
 
 -- What the reading of a greeted link asks for.
 pub record MayRead (table : FrameTable) (invite : Invite) (greeting : Greeting) (seat : ReadSeat)
@@ -54,14 +56,16 @@ pub record MayRead (table : FrameTable) (invite : Invite) (greeting : Greeting) 
   pub may : MayPlay (standing seat.pass invite.client)
   pub unplayed : (standing seat.pass invite.client).known.plays ≡ []
   pub greeted : IsGreeted greeting seat.feeder link.left
+  pub few : seat.taken ≤ MAX_LINK_BYTES
 
 -- What it leaves.
 pub record HasRead (table : FrameTable) (invite : Invite) (greeting : Greeting) (old new : ReadSeat)
     (link link_after : SourceState) (answer : ReaderEnd) : Type 0 where
   pub pass : IsPassOf table new.pass
   pub reads :
-      ReadsAs greeting invite.client invite.rules old.feeder.rest link link_after (view_of old.pass)
-      (view_of new.pass) (pushed old.reports) (pushed new.reports) answer
+      CountsAs greeting invite.client invite.rules old.feeder.rest link link_after old.taken
+      new.taken (view_of old.pass) (view_of new.pass) (pushed old.reports) (pushed new.reports)
+      answer
   pub reports : StaysOf invite.client old.reports new.reports
 
 -- What the sending to a greeted link asks for.
@@ -85,7 +89,8 @@ SendsSo invite bytes old new before after read answer =
     SendsAs (greeting_in invite.rules bytes) invite old new before after answer
     ⊎ ((new ≡ old) × (after ≡ before) × (read ≡ reader.NoMemory) × (answer ≡ sender.Sent))
 
--- A link was served: what its two sessions did, over all bytes that were taken from it.
+-- A link was served: what its two sessions did, over all bytes that were taken from it, and how many
+-- these are.
 pub record ServesSeat (clients : ℕ) (table : FrameTable) (old new : LinkSeat)
     (input input_after : SourceState) (output output_after : SinkState) : Type 0 where
   pub told : new.invite ≡ old.invite
@@ -97,6 +102,7 @@ pub record ServesSeat (clients : ℕ) (table : FrameTable) (old new : LinkSeat)
   pub reads :
       ReadsLink old.invite.client old.invite.rules [] input input_after (view_of old.reading.pass)
       (view_of new.reading.pass) [] (pushed new.reading.reports) new.ends.reader
+  pub counted : new.reading.taken ≡ length reads.taken
   pub sends :
       SendsSo old.invite reads.taken output output_after (view_of old.sending) (view_of new.sending)
       new.ends.reader new.ends.sender

@@ -1,6 +1,7 @@
 -- A match that was served over links, and what is handed back of it.
 use Rattle.std.specs.Prelude.{◌≡◌, ◌≢◌, ℕ, ◌^◌, ◌<◌, ◌≤◌, ◌⊎◌, Bool, true, false}
-use Rattle.std.specs.Prelude.{List, length, drop, slice_get, slice_index_or, Option, Some}
+use Rattle.std.specs.Prelude.{List, length, take, drop, slice_get, slice_index_or}
+use Rattle.std.specs.Prelude.{Option, Some, IfSome}
 use Rattle.std.specs.Option.{option_map}
 use Rattle.game_io.specs.SourceState.{SourceState}
 use Rattle.game_io.specs.SinkState.{SinkState}
@@ -74,13 +75,14 @@ EndTells c here bytes session rest old new kicked faults end.Lost =
 EndTells c here bytes session rest old new kicked faults end.Memory = Unit {0}
 
 -- How link c was served. Its halves were in these states when the net gave it and when the net took
--- it back. These bytes were taken from it; their first packets make this session, and this is left of
--- them. The session's plays and then the departure are the client's column; of its reports the board
--- has the first for each frame. Written to it was what its greeting is answered, and all of that where
--- the link has not failed and memory did not run out for it.
+-- it back. These bytes were taken from it, as many as the count says: where the net told the link's
+-- bytes, that many first ones of them. Their first packets make this session, and this is left of
+-- them. The session's plays and then the departure are the client's column; of its reports the
+-- board has the first for each frame. Written to it was what its greeting is answered, and all of
+-- that where the link has not failed and memory did not run out for it.
 pub record ServesLink (c : ℕ) (invite : Invite) (columns : List Column)
     (reports : List (Option ℕ)) (coming : Option (List (List ℕ))) (kicked : Bool)
-    (back : Option (Option TakenBack)) (how : LinkEnd) : Type 0 where
+    (back : Option (Option TakenBack)) (how : LinkEnd) (count : ℕ) : Type 0 where
   pub input : SourceState
   pub input_after : SourceState
   pub output : SinkState
@@ -90,6 +92,8 @@ pub record ServesLink (c : ℕ) (invite : Invite) (columns : List Column)
   pub bytes : List ℕ
   pub took : Took input.left input_after.left bytes
   pub few : length bytes ≤ MAX_LINK_BYTES
+  pub counted : count ≡ length bytes
+  pub first : IfSome input.left (λ told. bytes ≡ take count told)
   pub session : Session
   pub rest : List ℕ
   pub makes : Makes c invite.rules bytes session rest
@@ -110,7 +114,7 @@ pub record ServesLink (c : ℕ) (invite : Invite) (columns : List Column)
 pub record ServesMatch {W : Type 0} (of_match : Match W) (invite : Invite)
     (coming : Option (List (List ℕ))) (console_old console_new : SourceState)
     (net_after : NetState) (world : W) (steps : ℕ) (table : FrameTable) (pass : Pass)
-    (board : BoardState) (ends : List LinkEnd) : Type 0 where
+    (board : BoardState) (ends : List LinkEnd) (taken : List ℕ) : Type 0 where
   pub console : ConsoleRead console_old console_new
   pub over : IsOver invite.clients table pass
   pub greatest : IsGreatest invite.clients (columns_of pass) steps
@@ -120,6 +124,8 @@ pub record ServesMatch {W : Type 0} (of_match : Match W) (invite : Invite)
   pub links_given : length net_after.given ≡ invite.clients
   pub still_coming : net_after.coming ≡ option_map (drop invite.clients) coming
   pub ends_count : length ends ≡ invite.clients
+  pub taken_count : length taken ≡ invite.clients
   pub links : (c : ℕ) → c < invite.clients →
       ServesLink c invite (columns_of pass) (reports_of board.reports c) coming
       (holds_kick console.bytes c) (slice_get net_after.given c) (slice_index_or ends c end.Memory)
+      (slice_index_or taken c 0)

@@ -12,7 +12,6 @@ ghost use Rattle.match_serve.specs.Passes.{IsOpening};
 ghost use Rattle.match_serve.specs.Seats.{IsNewSeat, IsNewPiece, AreNewPieces, seat_share, shares_of};
 ghost use Rattle.match_serve.specs.Seats.{invite_of};
 
-use crate::counted::Counted;
 use crate::link_piece::LinkPiece;
 use crate::opening::new_seat;
 use crate::serve_fault::ServeFault;
@@ -61,10 +60,6 @@ fn accept_link<N: Net>(
         return Err(ServeFault::Net);
     };
     let seat = new_seat(table, pass, invite, client, feeder, reports);
-    let input = Counted {
-        link: input,
-        taken: 0,
-    };
     Ok(LinkPiece {
         input,
         output,

@@ -45,7 +45,7 @@ pub(crate) fn close_link<N: Net>(
         seat,
     } = piece;
     join_seat(table, pass, hearer, clients, seat);
-    net.take_back(number, input.link, output);
+    net.take_back(number, input, output);
 }
 
 /// Joins the passes and the end of the queue of one link.
@@ -70,6 +70,7 @@ fn join_seat(table: &FrameTable, pass: &mut Pass, hearer: &mut Hearer, clients: 
         pass: reads,
         feeder: _,
         reports,
+        taken: _,
     } = reading;
     table.join(pass, reads);
     table.join(pass, sending);

@@ -15,7 +15,8 @@ use frame_table::{FrameTable, Pass};
 use game_io::Net;
 use match_net::{Hearer, Invite};
 
-/// Hands all links back to the net, joins what they were served with, and notes how each ended.
+/// Hands all links back to the net, joins what they were served with, and notes how each ended and
+/// how many bytes were taken from it.
 pub(crate) fn close_links<N: Net>(
     net: &mut N,
     table: &FrameTable,
@@ -25,6 +26,7 @@ pub(crate) fn close_links<N: Net>(
     pieces: Vec<LinkPiece<N::In, N::Out>>,
     kicked: &[bool],
     ends: &mut [LinkEnd],
+    taken: &mut [u64],
 )
     requires pass { IsServePass invite.now.clients table.now pass.old }
     requires left { (c : ℕ) → c < invite.now.clients → (standing pass.old c).known.left ≡ true }
@@ -35,6 +37,7 @@ pub(crate) fn close_links<N: Net>(
     requires unjoined { joined hearer.old ≡ [] }
     requires kicked { length kicked.now ≡ invite.now.clients }
     requires ends { length ends.old ≡ invite.now.clients }
+    requires taken { length taken.old ≡ invite.now.clients }
     ensures pass { IsServePass invite.now.clients table.now pass.new }
     ensures share { (view_of pass.new).share
         ≡ (view_of pass.old).share + shares_of pieces.items }
@@ -46,19 +49,22 @@ pub(crate) fn close_links<N: Net>(
         invite.now hearer.old coming 0 pieces.items → (c : ℕ) → c < invite.now.clients →
         LinkClosed c invite.now (columns_of pass.old) (slice_index_or (joined hearer.new) c [])
         coming (slice_index_or kicked.now c false) (made_in pieces.items c)
-        (slice_get (N.state net.new).given c) (slice_index_or ends.new c end.Memory) }
+        (slice_get (N.state net.new).given c) (slice_index_or ends.new c end.Memory)
+        (slice_index_or taken.new c 0) }
     ensures given { length (N.state net.new).given ≡ invite.now.clients }
     ensures coming { (N.state net.new).coming ≡ (N.state net.old).coming }
     ensures joined { length (joined hearer.new) ≡ invite.now.clients }
     ensures heard { heard hearer.new ≡ heard hearer.old }
     ensures same { IsSameHearer hearer.old hearer.new }
     ensures ends { length ends.new ≡ invite.now.clients }
+    ensures taken { length taken.new ≡ invite.now.clients }
 {
     let mut left = pieces;
     for c in 0..invite.clients {
         let piece = left.remove(0);
         let at = c as usize;
         ends[at] = link_end(piece.seat.ends, kicked[at]);
+        taken[at] = piece.seat.reading.taken;
         close_link(net, table, pass, hearer, c as u32, invite.clients, piece);
     }
 }

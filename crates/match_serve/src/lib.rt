@@ -4,16 +4,16 @@
 //! by the two sessions of `match_net` beside each other, while the calling thread ticks every frame
 //! that is ready and a console may kick clients. What it hands back is in `specs/Serve.antt`: the
 //! columns that the links' bytes made, the world and the wanted hashes that these columns make, how
-//! each link ended, and which reports the board has. What threads know of the columns meanwhile is in
-//! `specs/Passes.antt`, what serves a link in `specs/Seats.antt`. The crate stands on `match_net` for
-//! the sessions and the queue of reports, on `frame_table` for the columns, on `server_core` for the
-//! board, and on `game_io` for links and console.
+//! each link ended and how many bytes were taken from it, and which reports the board has. What
+//! threads know of the columns meanwhile is in `specs/Passes.antt`, what serves a link in
+//! `specs/Seats.antt`. The crate stands on `match_net` for the sessions and the queue of reports, on
+//! `frame_table` for the columns, on `server_core` for the board, and on `game_io` for links and
+//! console.
 #![tactic(auto)]
 
 mod accepting;
 mod closing;
 mod console;
-mod counted;
 mod handing;
 mod hearing;
 mod kicks;

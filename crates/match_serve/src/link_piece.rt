@@ -1,4 +1,3 @@
-use crate::counted::Counted;
 use crate::link_seat::LinkSeat;
 use game_io::{Sink, Source};
 use std::marker::Model;
@@ -6,7 +5,7 @@ use std::marker::Model;
 /// A link that is served: its halves, and what it is served with.
 #[derive(Drop)]
 pub(crate) struct LinkPiece<I: Source + Drop, O: Sink + Drop> {
-    pub input: Counted<I>,
+    pub input: I,
     pub output: O,
     pub seat: LinkSeat,
 }
@@ -18,7 +17,7 @@ impl<I: Source + Drop, O: Sink + Drop> Model for LinkPiece<I, O> {
 
     ghost view = { λ piece. record {
       seat = piece.seat;
-      input = I.state piece.input.link;
+      input = I.state piece.input;
       output = O.state piece.output;
     } };
 }

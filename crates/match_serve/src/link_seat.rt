@@ -4,12 +4,13 @@ use match_net::{Invite, ReaderEnd, Reports, SenderEnd};
 use order_packets::UpFeeder;
 
 /// What a link is read with: the pass that feeds its client's column, the bytes that are no packet
-/// yet, and an end of the queue of reports.
+/// yet, an end of the queue of reports, and how many bytes were taken from it.
 #[derive(Drop)]
 pub(crate) struct ReadSeat {
     pub pass: Pass,
     pub feeder: UpFeeder,
     pub reports: Reports,
+    pub taken: u64,
 }
 
 /// How the two sessions of a link ended.

@@ -81,6 +81,7 @@ pub(crate) fn new_seat(
             pass: reading,
             feeder,
             reports,
+            taken: 0,
         },
         sending,
         ends: SessionEnds {

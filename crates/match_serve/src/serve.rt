@@ -48,7 +48,9 @@ use std::thread::Threads;
 /// The match has the table that the links filled. Its pass has the whole share, and has seen and
 /// knows each whole column: the plays that the link's bytes put, and then the departure. Its world is
 /// the one that was given, stepped by the frames of these columns, as many as the longest has. Each
-/// link was handed back to the net. A link that fails, is refused or finds no memory ends alone.
+/// link was handed back to the net, and of each it is told how many bytes were taken from it: those of
+/// its greeting among them, and those that were lost where memory ran out. A link that fails, is
+/// refused or finds no memory ends alone.
 ///
 /// What was written to a link is of what its greeting is answered: the welcome and the first entries
 /// of each column, in order, or the refusal. It is all of that where no half of the link failed and
@@ -80,7 +82,7 @@ pub fn serve_match<S: Sim, N: Net, C: Source + Send, R: Threads + Wait + Sync>(
     })
         invite.now (N.state net.old).coming (C.state console.old) (C.state console.new)
         (N.state net.new) served.sim (S.steps served.sim)
-        served.table served.pass served.board served.ends) }
+        served.table served.pass served.board served.ends served.taken) }
     ensures clients { IfOk result (λ served. S.clients_of served.sim ≡ S.clients_of sim) }
     ensures net { IfErr result (λ fault. fault ≡ ServeFault.Net →
         Rose (N.state net.old).faults (N.state net.new).faults) }
@@ -88,6 +90,7 @@ pub fn serve_match<S: Sim, N: Net, C: Source + Send, R: Threads + Wait + Sync>(
     let board = Board::create(alloc, invite.clients)?;
     let kicks = no_kicks(alloc, invite.clients)?;
     let ends = no_ends(alloc, invite.clients)?;
+    let taken = none_taken(alloc, invite.clients)?;
     let (table, mut pass) = free_table(alloc, invite.clients)?;
     let ReportEnds {
         ends: reports,
@@ -108,6 +111,7 @@ pub fn serve_match<S: Sim, N: Net, C: Source + Send, R: Threads + Wait + Sync>(
         board,
         kicks,
         ends,
+        taken,
         sim,
         net,
         console,
@@ -140,6 +144,17 @@ fn no_ends(alloc: Global, clients: u8) -> Result<Vec<LinkEnd>, NoMemory>
     Ok(ends)
 }
 
+/// A place for the number of bytes that are taken from each link.
+fn none_taken(alloc: Global, clients: u8) -> Result<Vec<u64>, NoMemory>
+    ensures { IfOk result (λ taken. length taken.items ≡ clients) }
+{
+    let mut taken = Vec::new(alloc);
+    for _client in 0..clients {
+        taken.push(0)?;
+    }
+    Ok(taken)
+}
+
 /// Serves the accepted links of a match to its end, and hands them back.
 fn serve_opened<S: Sim, N: Net, C: Source + Send, R: Threads + Wait + Sync>(
     rt: &R,
@@ -152,6 +167,7 @@ fn serve_opened<S: Sim, N: Net, C: Source + Send, R: Threads + Wait + Sync>(
     board: Board,
     kicks: Kicks,
     ends: Vec<LinkEnd>,
+    taken: Vec<u64>,
     sim: S,
     net: &mut N,
     console: &mut C,
@@ -171,6 +187,7 @@ fn serve_opened<S: Sim, N: Net, C: Source + Send, R: Threads + Wait + Sync>(
     requires unwanted { board.wanted ≡ [] }
     requires kicks { AreNewKicks invite.now.clients kicks }
     requires ends { length ends.items ≡ invite.now.clients }
+    requires taken { length taken.items ≡ invite.now.clients }
     requires clients { S.clients_of sim ≡ invite.now.clients }
     requires fresh { S.steps sim ≡ 0 }
     ensures served { IfOk result (λ served. (coming : Option (List (List ℕ))) →
@@ -185,11 +202,12 @@ fn serve_opened<S: Sim, N: Net, C: Source + Send, R: Threads + Wait + Sync>(
           lag = 0;
         }) invite.now coming (C.state console.old) (C.state console.new)
         (N.state net.new) served.sim (S.steps served.sim) served.table served.pass served.board
-        served.ends) }
+        served.ends served.taken) }
     ensures clients { IfOk result (λ served. S.clients_of served.sim ≡ S.clients_of sim) }
 {
     let (mut pass, mut hearer, mut pieces) = (pass, hearer, pieces);
     let (mut board, mut kicks, mut ends, mut sim) = (board, kicks, ends, sim);
+    let mut taken = taken;
     let mut watching = table.split(&mut pass);
     run_threads(
         rt,
@@ -215,6 +233,7 @@ fn serve_opened<S: Sim, N: Net, C: Source + Send, R: Threads + Wait + Sync>(
         pieces,
         kicks.kicked.as_slice(),
         ends.as_mut_slice(),
+        taken.as_mut_slice(),
     );
     take_reports(rt, &mut hearer, &mut board)?;
     leave_all(rt, &table, &mut pass, invite.clients);
@@ -225,5 +244,6 @@ fn serve_opened<S: Sim, N: Net, C: Source + Send, R: Threads + Wait + Sync>(
         pass,
         board,
         ends: List::from_vec(ends),
+        taken: List::from_vec(taken),
     })
 }

@@ -17,4 +17,6 @@ pub struct Served<S: Sim> {
     pub board: Board,
     /// How each link ended, by client.
     pub ends: List<LinkEnd>,
+    /// How many bytes were taken from each link, by client.
+    pub taken: List<u64>,
 }

@@ -11,7 +11,9 @@ use crate::link_seat::{LinkSeat, ReadSeat, SessionEnds};
 use frame_table::{FrameTable, Pass};
 use game_io::{Sink, Source};
 use game_orders::MAX_CLIENTS;
-use match_net::{Greeting, Invite, ReaderEnd, SenderEnd, greet, reader_session, sender_session};
+use match_net::{
+    Greeting, Invite, ReaderEnd, SenderEnd, greet_counted, reader_session_counted, sender_session,
+};
 use std::alloc::Global;
 use std::sync::Wait;
 use std::thread;
@@ -30,7 +32,7 @@ fn read_link<R: Wait, I: Source>(
     ensures { HasRead table.now invite.now greeting.now seat.old seat.new (I.state link.old)
         (I.state link.new) result }
 {
-    reader_session(
+    reader_session_counted(
         rt,
         table,
         &mut seat.pass,
@@ -39,6 +41,7 @@ fn read_link<R: Wait, I: Source>(
         &mut seat.feeder,
         link,
         &mut seat.reports,
+        &mut seat.taken,
     )
 }
 
@@ -131,6 +134,7 @@ fn give_up<R: Wait>(rt: &R, table: &FrameTable, seat: &mut LinkSeat)
     ensures leaves { IsTakenOut seat.old.invite.client (view_of seat.old.reading.pass)
         (view_of seat.new.reading.pass) }
     ensures reports { seat.new.reading.reports ≡ seat.old.reading.reports }
+    ensures taken { seat.new.reading.taken ≡ seat.old.reading.taken }
     ensures sending { seat.new.sending ≡ seat.old.sending }
     ensures told { seat.new.invite ≡ seat.old.invite }
     ensures reader { seat.new.ends.reader ≡ ReaderEnd.NoMemory }
@@ -158,7 +162,8 @@ fn serve_seat<R: Threads + Wait + Sync, I: Source + Send, O: Sink + Send>(
         (I.state input.old) (I.state input.new) (O.state output.old) (O.state output.new) }
 {
     let _rules = seat.invite.rules;
-    match greet(&seat.invite, &mut seat.reading.feeder, input) {
+    let reading = &mut seat.reading;
+    match greet_counted(&seat.invite, &mut reading.feeder, input, &mut reading.taken) {
         Ok(greeting) => serve_greeted(rt, alloc, table, &greeting, seat, input, output),
         Err(_) => give_up(rt, table, seat),
     }

@@ -28,6 +28,7 @@ returns-clause-seat c =
       sender_fixed_none = kept_fixed _ _ _ _ _ _ client sends next.pass next.kept next.other next.given;
       feeder = c.requires.unfed;
       unpushed = c.requires.unpushed;
+      none_taken = refl;
     })
 
 pub returns-clause-shares : goal.returns-clause-shares

@@ -62,6 +62,7 @@ returns-clause-served g c = λ coming are still.
     let has = subst (λ k. HasHeard k c.take_reports.new.board.reports (heard c.take_reports.new.hearer)) ran.boards told.board in
     let of_match : Match g.row.S.Denot = record { start = c.args.sim; after = g.S.Sim.after; hash = g.S.Sim.hash_of; summary = g.S.Sim.summary_of; clients = c.args.invite.now.clients; lag = 0 } in
     let ends = c.from_vec.ensures ∙ written_back c.args.ends.items c.close_links.new.ends c.args.ends.len (sym c.as_mut_slice-2.ensures.len ∙ ap length c.as_mut_slice-2.ensures.value) (handed.ends ∙ sym c.requires.ends) in
+    let counts = c.from_vec-2.ensures ∙ written_back c.args.taken.items c.close_links.new.taken c.args.taken.len (sym c.as_mut_slice-3.ensures.len ∙ ap length c.as_mut_slice-3.ensures.value) (handed.taken ∙ sym c.requires.taken) in
     let watches = subst (λ (l : List Bool). WatchesConsole c.args.invite.now.clients c.args.table (g.C.Source.state c.args.console.now) (g.C.Source.state c.run_threads.new.console) c.split-watching.result c.run_threads.new.watching l) (sym c.as_slice.ensures.value) ran.watches in
     let split = c.split-watching.ensures in
     let of_joined = joined_pass _ _ _ _ _ ran.pass ran.watches.pass.is c.join.ensures.pass c.join.ensures.joined in
@@ -73,7 +74,8 @@ returns-clause-served g c = λ coming are still.
     (λ d. kept_made _ _ c.args.pass c.split-watching.new.pass c.split-watching.result c.requires.opening.is split.kept d ∙ c.requires.opening.fixed_none d) ran.ticked.learns
     (given_made _ _ c.args.pass c.split-watching.new.pass c.split-watching.result c.requires.opening.is split.given) watches.pass
     (joined_made _ _ _ _ _ ran.pass ran.watches.pass.is c.join.ensures.pass c.join.ensures.joined) handed.made once in
-    subst (λ (e : List LinkEnd). ServesMatch of_match c.args.invite.now coming (g.C.Source.state c.args.console.now) (g.C.Source.state c.run_threads.new.console) (g.N.Net.state c.close_links.new.net) c.run_threads.new.sim (g.S.Sim.steps c.run_threads.new.sim) c.args.table c.leave_all.new.pass c.take_reports.new.board e) (sym ends)
-    (serves of_match c.args.invite.now coming (g.C.Source.state c.args.console.now) (g.C.Source.state c.run_threads.new.console) watches.read (g.N.Net.state c.close_links.new.net) c.args.table (view_of c.split-watching.new.pass) c.run_threads.new.pass c.join.new.pass c.close_links.new.pass c.leave_all.new.pass c.run_threads.new.board c.take_reports.new.board c.close_links.new.ends (g.S.Sim.steps c.run_threads.new.sim) c.run_threads.new.sim (heard c.take_reports.new.hearer) (joined c.close_links.new.hearer) _ _
+    subst (λ (e : List LinkEnd). ServesMatch of_match c.args.invite.now coming (g.C.Source.state c.args.console.now) (g.C.Source.state c.run_threads.new.console) (g.N.Net.state c.close_links.new.net) c.run_threads.new.sim (g.S.Sim.steps c.run_threads.new.sim) c.args.table c.leave_all.new.pass c.take_reports.new.board e c.from_vec-2.result) (sym ends)
+    (subst (λ (k : List ℕ). ServesMatch of_match c.args.invite.now coming (g.C.Source.state c.args.console.now) (g.C.Source.state c.run_threads.new.console) (g.N.Net.state c.close_links.new.net) c.run_threads.new.sim (g.S.Sim.steps c.run_threads.new.sim) c.args.table c.leave_all.new.pass c.take_reports.new.board c.close_links.new.ends k) (sym counts)
+    (serves of_match c.args.invite.now coming (g.C.Source.state c.args.console.now) (g.C.Source.state c.run_threads.new.console) watches.read (g.N.Net.state c.close_links.new.net) c.args.table (view_of c.split-watching.new.pass) c.run_threads.new.pass c.join.new.pass c.close_links.new.pass c.leave_all.new.pass c.run_threads.new.board c.take_reports.new.board c.close_links.new.ends c.close_links.new.taken (g.S.Sim.steps c.run_threads.new.sim) c.run_threads.new.sim (heard c.take_reports.new.hearer) (joined c.close_links.new.hearer) _ _
     ran.pass of_joined gone.pass ran.ticked (joined_grows _ _ c.run_threads.new.pass c.join.new.pass ran.pass c.join.ensures.mine) handed.known gone.gone share
-    told.wanted (told.boards ∙ ran.boards) handed.given (handed.coming ∙ still) handed.ends (handed.links coming done.0) watches.kicked_are by has handed.joined between c.reports_of_each_client_are_heard.ensures)
+    told.wanted (told.boards ∙ ran.boards) handed.given (handed.coming ∙ still) handed.ends handed.taken (handed.links coming done.0) watches.kicked_are by has handed.joined between c.reports_of_each_client_are_heard.ensures))
