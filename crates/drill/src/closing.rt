@@ -6,7 +6,7 @@ ghost use Rattle.drill.specs.Report.{column_lines, peer_lines, alarm_text, alarm
 
 use crate::drilled::Drilled;
 use crate::text::{
-    add_alarm_line, add_column_line, add_end_line, add_peer_head, add_server_head, add_world,
+    add_alarm_line, add_column_line, add_end_line, add_peer_head, add_server_head, write_world,
 };
 use base::NoMemory;
 use frame_core::{Columns, Sim};
@@ -32,17 +32,16 @@ pub(crate) fn add_closing<S: Sim>(text: &mut String, left: &Drilled<S>) -> Resul
         ≡ string_bytes text.old ++ closing S.hash_of S.summary_of left.now.server left.now.peers) }
 {
     let server = &left.server;
-    add_columns(text, server.columns())?;
+    write_columns(text, server.columns())?;
     add_peers(text, left.peers.as_slice())?;
     add_server_head(text, server.ticked())?;
-    add_world(text, server.sim())?;
-    add_alarms(text, server.board())?;
+    write_world(text, server.sim())?;
+    write_alarms(text, server.board())?;
     add_end_line(text)
 }
 
-/// Adds the line of each column. It fails only where it is out of memory, and then a prefix of the
-/// lines may have been added.
-pub fn add_columns(text: &mut String, columns: &Columns) -> Result<(), NoMemory>
+/// Adds the line of each column.
+pub(crate) fn write_columns(text: &mut String, columns: &Columns) -> Result<(), NoMemory>
     ensures { OnOk result (string_bytes text.new
         ≡ string_bytes text.old ++ column_lines 0 columns.now) }
 {
@@ -60,14 +59,13 @@ fn add_peers<S: Sim>(text: &mut String, peers: &[Peer<S>]) -> Result<(), NoMemor
 {
     for (p, peer) in peers.iter().enumerate() {
         add_peer_head(text, p as u8, peer.ticked(), peer.sealed())?;
-        add_world(text, peer.sim())?;
+        write_world(text, peer.sim())?;
     }
     Ok(())
 }
 
-/// Adds the line of each alarm. It fails only where it is out of memory, and then a prefix of the
-/// lines may have been added.
-pub fn add_alarms(text: &mut String, board: &Board) -> Result<(), NoMemory>
+/// Adds the line of each alarm.
+pub(crate) fn write_alarms(text: &mut String, board: &Board) -> Result<(), NoMemory>
     ensures { OnOk result (string_bytes text.new
         ≡ string_bytes text.old ++ alarm_lines board.now.wanted 0 board.now.reports) }
 {

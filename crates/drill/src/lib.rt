@@ -13,6 +13,7 @@
 //! steps on a draft (`specs/Draft.antt`), round by round (`specs/MadeRound.antt`).
 #![tactic(auto)]
 
+mod adding;
 mod closing;
 mod draft;
 mod drilled;
@@ -32,7 +33,8 @@ mod running_match;
 mod sent;
 mod text;
 
-pub use closing::{add_alarms, add_columns, closing_lines};
+pub use adding::{add_alarms, add_columns, add_hash, add_world};
+pub use closing::closing_lines;
 pub use drill_words::{Drill, Event, EventList, MAX_EVENTS};
 pub use drilled::Drilled;
 pub use entering::Entering;
@@ -48,7 +50,7 @@ pub use outcome::Outcome;
 pub use peers::Peers;
 pub use run::{run_drill, run_without_report};
 pub use run_fault::RunFault;
-pub use text::{add_end_line, add_hash, add_server_head, add_world};
+pub use text::{add_end_line, add_server_head};
 
 #[cfg(test)]
 mod made_tests;

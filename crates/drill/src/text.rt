@@ -1,4 +1,4 @@
-ghost use Rattle.std.specs.Prelude.{◌≡◌, ◌<◌, ◌≤◌, ◌++◌, List, string_bytes, OnOk, length};
+ghost use Rattle.std.specs.Prelude.{◌≡◌, ◌<◌, ◌≤◌, ◌++◌, List, string_bytes, OnOk, OnErr, length};
 ghost use Rattle.drill.specs.Text.{place_text, seal_fault_text};
 ghost use Rattle.drill_words.specs.Hash.{hash_digits, hex_digit, hex_from};
 ghost use Rattle.drill.specs.Text.{entering_text};
@@ -165,13 +165,16 @@ pub(crate) fn add_peer_head(
     write!(text, "peer {peer} frames {ticked} sealed {sealed}")
 }
 
-/// Adds the beginning of the server's line, which [`add_world`] ends. It fails only where it is out
-/// of memory.
+/// Adds the beginning of the server's line, which [`crate::add_world`] ends. It fails only where it
+/// is out of memory, and then nothing changes.
 #[tactic(auto, unfolding(crate::specs::Text::server_head))]
 pub fn add_server_head(text: &mut String, ticked: u32) -> Result<(), NoMemory>
-    ensures { OnOk result (string_bytes text.new ≡ string_bytes text.old ++ server_head ticked) }
+    ensures added { OnOk result
+        (string_bytes text.new ≡ string_bytes text.old ++ server_head ticked) }
+    ensures err { OnErr result (string_bytes text.new ≡ string_bytes text.old) }
 {
-    write!(text, "server frames {ticked}")
+    let head = format!(in *text.allocator(); "server frames {ticked}")?;
+    text.push_str(head.as_str())
 }
 
 /// Adds the line of a client's alarm.
@@ -182,24 +185,26 @@ pub(crate) fn add_alarm_line(text: &mut String, client: u8, alarm: Alarm) -> Res
 {
     let frame = alarm.frame;
     write!(text, "alarm {client} frame {frame} got ")?;
-    add_hash(text, alarm.got)?;
+    write_hash(text, alarm.got)?;
     write!(text, " want ")?;
-    add_hash(text, alarm.want)?;
+    write_hash(text, alarm.want)?;
     writeln!(text)
 }
 
-/// Adds the last line of a report, `end`. It fails only where it is out of memory.
+/// Adds the last line of a report, `end`. It fails only where it is out of memory, and then nothing
+/// changes.
 #[tactic(auto, unfolding(crate::specs::Text::end_line))]
 pub fn add_end_line(text: &mut String) -> Result<(), NoMemory>
-    ensures { OnOk result (string_bytes text.new ≡ string_bytes text.old ++ end_line) }
+    ensures added { OnOk result (string_bytes text.new ≡ string_bytes text.old ++ end_line) }
+    ensures err { OnErr result (string_bytes text.new ≡ string_bytes text.old) }
 {
-    writeln!(text, "end")
+    text.push_str("end\n")
 }
 
 /// Adds the rest of a line that shows a world: its hash, its number of actors, and the cash of its
-/// clients. It fails only where it is out of memory.
+/// clients.
 #[tactic(auto, unfolding(crate::specs::Text::world_text))]
-pub fn add_world<S: Sim>(text: &mut String, world: &S) -> Result<(), NoMemory>
+pub(crate) fn write_world<S: Sim>(text: &mut String, world: &S) -> Result<(), NoMemory>
     ensures { OnOk result (string_bytes text.new
         ≡ string_bytes text.old ++ world_text S.hash_of S.summary_of world.now) }
 {
@@ -207,7 +212,7 @@ pub fn add_world<S: Sim>(text: &mut String, world: &S) -> Result<(), NoMemory>
     let summary = world.summary();
     let actors = summary.actors;
     write!(text, " hash ")?;
-    add_hash(text, hash)?;
+    write_hash(text, hash)?;
     write!(text, " actors {actors} cash")?;
     add_cash(text, summary.cash.as_slice())?;
     writeln!(text)
@@ -225,7 +230,7 @@ fn add_cash(text: &mut String, each: &[u32]) -> Result<(), NoMemory>
 
 /// Adds a hash, as 16 hexadecimal digits.
 #[tactic(auto, unfolding(drill_words::specs::Hash::hash_digits))]
-pub fn add_hash(text: &mut String, hash: u64) -> Result<(), NoMemory>
+pub(crate) fn write_hash(text: &mut String, hash: u64) -> Result<(), NoMemory>
     ensures { OnOk result (string_bytes text.new ≡ string_bytes text.old ++ hash_digits hash) }
 {
     add_hex(text, HASH_DIGITS, hash)

@@ -1,13 +1,14 @@
 -- The lines of a text, and the kept ones, found from the first.
 use Rattle.std.proofs.Common.{◌≡◌, ℕ, suc, ◌+◌, ◌<◌, List, [], ◌∷◌, length, take, drop, Bool, true}
-use Rattle.std.proofs.Common.{false, refl, ap, sym, ◌∙◌, arith, cond, eqb}
-use Rattle.std.specs.Prelude.{not}
+use Rattle.std.proofs.Common.{false, refl, ap, sym, ◌∙◌, arith, cond, eqb, get_or, subst}
+use Rattle.std.specs.Prelude.{not, ◌==◌}
 use Rattle.std.specs.List.{prefix_len, onto_first}
-use Rattle.std.proofs.lemmas.List.{nil_from_length}
+use Rattle.std.proofs.lemmas.List.{nil_from_length, drop_more}
+use Rattle.std.proofs.lemmas.List.Sums.{prefix_len_stops}
 use Rattle.base.specs.Lines.{lines_of}
-use Rattle.drill_words.proofs.WordsLemmas.{prefix_len-yes, prefix_len-no}
-use Rattle.drill_words.specs.Words.{words_of}
-use Rattle.drill_words.specs.KeptLine.{KeptLine, is_of_line, is_kept, kept_from}
+use Rattle.drill_words.proofs.WordsLemmas.{prefix_len-yes, prefix_len-no, words_of-first, words_of-none}
+use Rattle.drill_words.specs.Words.{is_blank, is_of_word, words_of}
+use Rattle.drill_words.specs.KeptLine.{KeptLine, is_of_line, is_comment, is_kept, kept_from}
 use Rattle.drill_words.specs.SpacedLemmas.{lines_of-other, kept_from-kept}
 
 -- A text that begins with a line feed, and one that doesn't.
@@ -77,5 +78,25 @@ pub kept_from-passed :
 kept_from-passed number text line rest lines passed =
     ap (kept_from number) lines
     ∙ ap (λ b. cond b (Kept number line ∷ kept_from (number + 1) (lines_of rest)) (kept_from (number + 1) (lines_of rest))) passed
+
+-- Whether a line is kept is seen at its first byte that isn't a blank.
+pub is_kept-first :
+    (line : List ℕ) (blanks : ℕ) → blanks ≡ prefix_len is_blank line → blanks < length line →
+    is_kept (words_of line) ≡ not (get_or line blanks 0 == 35)
+is_kept-first line blanks is_blanks some =
+    let first : ℕ = get_or line blanks 0 in
+    let rest : List ℕ = drop (blanks + 1) line in
+    let starts : drop blanks line ≡ first ∷ rest = drop_more line blanks 0 some in
+    let word : is_blank first ≡ false =
+    subst (λ (k : ℕ). is_blank (get_or line k 0) ≡ false) (sym is_blanks) (prefix_len_stops is_blank line 0 (omega arith)) in
+    let long : prefix_len is_of_word (drop blanks line) ≡ suc (prefix_len is_of_word rest) =
+    ap (prefix_len is_of_word) starts ∙ prefix_len-yes is_of_word first rest (ap not word) in
+    ap is_kept (words_of-first line blanks (suc (prefix_len is_of_word rest)) is_blanks some (sym long))
+    ∙ ap (λ l. not (is_comment (take (suc (prefix_len is_of_word rest)) l))) starts
+
+pub is_kept-none : (line : List ℕ) (blanks : ℕ) → blanks ≡ prefix_len is_blank line → blanks ≡ length line → is_kept (words_of line) ≡ false
+is_kept-none line blanks is_blanks all = ap is_kept (words_of-none line blanks is_blanks all)
+
+pub ruleset comment_steps = (is_kept-first, is_kept-none)
 
 pub ruleset kept_steps = (kept_from-kept, kept_from-passed)

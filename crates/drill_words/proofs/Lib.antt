@@ -1,4 +1,5 @@
 pub mod WordsLemmas
+pub mod NumeralLemmas
 pub mod KeptLineLemmas
 pub mod OrderListLemmas
 pub mod DrillLemmas

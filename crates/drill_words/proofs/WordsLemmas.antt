@@ -1,12 +1,16 @@
 -- The words of a line, found from the left.
-use Rattle.std.proofs.Common.{◌≡◌, ℕ, suc, ◌+◌, ◌<◌, List, [], ◌∷◌, length, take, drop, get_or}
+use Rattle.std.proofs.Common.{◌≡◌, ℕ, suc, ◌+◌, ◌<◌, ◌≤◌, List, [], ◌∷◌, length, take, drop, get_or}
 use Rattle.std.proofs.Common.{Bool, true, false, refl, ap, sym, ◌∙◌, arith, cond, subst}
-use Rattle.std.specs.Prelude.{not, filter}
+use Rattle.std.specs.Prelude.{not, filter, ◌==◌}
+use Rattle.std.specs.Str.{bytes_eq}
 use Rattle.std.specs.List.{prefix_len, slice_split, onto_first}
-use Rattle.std.proofs.lemmas.List.{drop_more, drop_all}
+use Rattle.std.proofs.lemmas.Bool.{eqb-true}
+use Rattle.std.proofs.lemmas.List.{drop_more, drop_all, take_all}
 use Rattle.std.proofs.lemmas.List.Sums.{prefix_len_stops}
+use Rattle.std.proofs.lemmas.Slice.Eq.{bytes_eq-Decides}
 use Rattle.base.specs.Lines.{has_bytes}
 use Rattle.drill_words.specs.Words.{is_blank, is_of_word, words_of}
+use Rattle.drill_words.specs.Read.{none_left}
 use Rattle.drill_words.specs.SpacedLemmas.{parts-word}
 
 -- One more element of the prefix passes the test.
@@ -90,5 +94,28 @@ words_of-first line blanks n is_blanks room is_n =
 pub words_of-none : (line : List ℕ) (blanks : ℕ) → blanks ≡ prefix_len is_blank line → blanks ≡ length line → words_of line ≡ []
 words_of-none line blanks is_blanks all =
     sym (words_of-drop_blanks line) ∙ ap words_of (drop_all (prefix_len is_blank line) line (omega arith))
+
+-- A line of blanks alone, and no other, has no words.
+blank_line :
+    (line : List ℕ) (blanks : ℕ) (b : Bool) → blanks ≡ prefix_len is_blank line → blanks ≤ length line →
+    (blanks == length line) ≡ b → b ≡ none_left (words_of line)
+blank_line line blanks true is_blanks limit all =
+    sym (ap none_left (words_of-none line blanks is_blanks (eqb-true blanks (length line) all)))
+blank_line line blanks false is_blanks limit more =
+    let some : blanks < length line = grind (arith, more, limit) in
+    sym (ap none_left (words_of-first line blanks (prefix_len is_of_word (drop blanks line)) is_blanks some refl))
+
+pub none_left-blanks :
+    (line : List ℕ) (blanks : ℕ) → blanks ≡ prefix_len is_blank line → blanks ≤ length line →
+    (blanks == length line) ≡ none_left (words_of line)
+none_left-blanks line blanks is_blanks limit = blank_line line blanks (blanks == length line) is_blanks limit refl
+
+-- Texts of one length that agree so far as they go are the same.
+pub same_text :
+    (word text : List ℕ) (n : ℕ) → take n word ≡ take n text → length word ≤ n → length text ≤ n → true ≡ bytes_eq word text
+same_text word text n same long_word long_text =
+    sym ((bytes_eq-Decides word text).1 (sym (take_all n word long_word) ∙ same ∙ take_all n text long_text))
+
+pub ruleset blank_steps = none_left-blanks
 
 pub ruleset word_steps = (words_of-first, words_of-none)

@@ -56,7 +56,7 @@ all_follow p q follows (b ∷ bs) all =
     let parts = and_parts (p b) (list_all p bs) all in
     and_from (q b) (list_all q bs) (follows b parts.0) (all_follow p q follows bs parts.1)
 
-not_blank : (b : ℕ) → nat_lt 32 b ≡ true → is_blank b ≡ false
+pub not_blank : (b : ℕ) → nat_lt 32 b ≡ true → is_blank b ≡ false
 not_blank b above =
     let high : 32 < b = ltb-true 32 b above in
     ap₂ (λ s t. s || t)

@@ -10,6 +10,7 @@ use crate::event_word::{EventWord, event_word};
 use crate::order_list::take_orders_into;
 use crate::word_cursor::{WordCursor, client_of};
 use crate::word_fault::WordFault;
+use crate::words::is_text;
 use game_orders::Orders;
 
 /// The event that the words of a line write, in a match of so many clients. The orders of a seal are
@@ -111,7 +112,7 @@ fn take_ticker(clients: u8, cursor: &mut WordCursor<'_>) -> Result<BareEvent, Wo
     ensures fits { IfOk result (λ bare. event_fits clients (with_orders [] bare) ≡ true) }
 {
     let word = cursor.required()?;
-    if word == b"server".as_slice() {
+    if is_text(word, b"server".as_slice()) {
         return Ok(BareEvent::TickServer);
     }
     let peer = client_of(word, clients)?;

@@ -1,6 +1,8 @@
 ghost use Rattle.std.specs.Prelude.{◌≡◌};
 ghost use Rattle.drill_words.specs.EventLine.{event_word};
 
+use crate::words::is_text;
+
 /// The first word of an event line.
 #[derive(Clone, Copy, Debug)]
 pub(crate) enum EventWord {
@@ -27,21 +29,21 @@ pub(crate) enum EventWord {
 pub(crate) fn event_word(word: &[u8]) -> Option<EventWord>
     ensures { result ≡ event_word word.now }
 {
-    if word == b"seal".as_slice() {
+    if is_text(word, b"seal".as_slice()) {
         Some(EventWord::Seal)
-    } else if word == b"up".as_slice() {
+    } else if is_text(word, b"up".as_slice()) {
         Some(EventWord::Up)
-    } else if word == b"down".as_slice() {
+    } else if is_text(word, b"down".as_slice()) {
         Some(EventWord::Down)
-    } else if word == b"tick".as_slice() {
+    } else if is_text(word, b"tick".as_slice()) {
         Some(EventWord::Tick)
-    } else if word == b"drop".as_slice() {
+    } else if is_text(word, b"drop".as_slice()) {
         Some(EventWord::Drop)
-    } else if word == b"report".as_slice() {
+    } else if is_text(word, b"report".as_slice()) {
         Some(EventWord::Report)
-    } else if word == b"forge".as_slice() {
+    } else if is_text(word, b"forge".as_slice()) {
         Some(EventWord::Forge)
-    } else if word == b"bye".as_slice() {
+    } else if is_text(word, b"bye".as_slice()) {
         Some(EventWord::Bye)
     } else {
         None

@@ -5,6 +5,7 @@ ghost use Rattle.drill_words.specs.Words.{words_of};
 ghost use Rattle.drill_words.specs.KeptLine.{kept_from, kept_lines, is_of_line, is_kept};
 
 use crate::word_cursor::WordCursor;
+use crate::words::leading_blanks;
 use std::marker::Model;
 
 /// The kept lines of a text that are still to be read, from the first. Lines without words, and
@@ -41,6 +42,7 @@ impl<'a> KeptLines<'a> {
 
     /// Takes the next kept line: its number in the text, from 1, and its words. None where no line
     /// is left.
+    #[inline(always)]
     pub(crate) fn next(&mut self) -> Option<(u32, WordCursor<'a>)>
         ensures { MatchOption result (self.old ≡ [])
             (λ line. self.old ≡ record { number = line.0; words = line.1 } ∷ self.new) }
@@ -89,13 +91,15 @@ fn first_kept(first: u32, text: &[u8]) -> Option<FirstKept<'_>>
 }
 
 /// True where the line has a word and its first word doesn't begin with `#`.
+#[tactic(auto, using(crate::proofs::KeptLineLemmas::comment_steps))]
 fn is_kept(line: &[u8]) -> bool
     ensures { result ≡ is_kept (words_of line.now) }
 {
-    match WordCursor::of(line).next() {
-        None => false,
-        Some(word) => word.first() != Some(&b'#'),
+    let blanks = leading_blanks(line);
+    if blanks == line.len() {
+        return false;
     }
+    line[blanks] != b'#'
 }
 
 /// The first line of a text, and what follows it.

@@ -27,6 +27,7 @@ mod kept_lines;
 mod law;
 mod limits;
 mod match_line;
+mod numeral;
 mod order_list;
 mod order_word;
 mod reading;
@@ -37,6 +38,7 @@ mod scripts;
 mod seal_orders;
 mod word_cursor;
 mod word_fault;
+mod words;
 
 pub use drill::Drill;
 pub use drill_fault::DrillFault;

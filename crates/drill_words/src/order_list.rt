@@ -1,12 +1,14 @@
 //! Reads the orders at the end of a line.
 ghost use Rattle.std.specs.Prelude.{◌≡◌, [], MatchResult, Ok, Err};
 ghost use Rattle.drill_words.specs.Read.{Takes};
-ghost use Rattle.drill_words.specs.OrderList.{order_word_at, order_at, orders_at};
+ghost use Rattle.game_orders.specs.declared.limits.TheConstants.{MAX_ORDERS};
+ghost use Rattle.drill_words.specs.OrderList.{order_word_at, order_at, orders_from, orders_at};
 ghost use Rattle.drill_words.specs.OrderList.{cell_at, u32_at, u8_at};
 
 use crate::order_word::{OrderWord, order_word};
 use crate::word_cursor::WordCursor;
 use crate::word_fault::WordFault;
+use crate::words::is_text;
 use game_orders::{MAX_ORDERS, Order, Orders};
 use world_units::CPos;
 
@@ -19,6 +21,7 @@ pub(crate) fn clear(orders: &mut Orders)
 
 /// Takes orders with the word `;` between them, or none, to the end of the line, and puts them where
 /// there are none.
+#[inline(always)]
 #[tactic(auto, using(crate::proofs::OrderListLemmas::order_steps))]
 pub(crate) fn take_orders_into(
     cursor: &mut WordCursor<'_>,
@@ -31,13 +34,24 @@ pub(crate) fn take_orders_into(
     if cursor.is_done() {
         return Ok(());
     }
+    take_some_orders(cursor, orders)
+}
+
+/// Takes at least one order as `take_orders_into` does.
+#[tactic(auto, using(crate::proofs::OrderListLemmas::order_steps))]
+fn take_some_orders(cursor: &mut WordCursor<'_>, orders: &mut Orders) -> Result<(), WordFault>
+    requires { orders.old ≡ [] }
+    ensures { MatchResult result (λ _. orders_from MAX_ORDERS cursor.old
+        ≡ Ok (orders.new, cursor.new))
+        (λ fault. orders_from MAX_ORDERS cursor.old ≡ Err fault) }
+{
     for _room in 0..MAX_ORDERS {
         let word = take_order_word(cursor)?;
         let order = take_order(word, cursor)?;
         let _ = orders.try_push(order);
         match cursor.next() {
             None => return Ok(()),
-            Some(word) if word == b";".as_slice() => {}
+            Some(word) if is_text(word, b";".as_slice()) => {}
             Some(_) => return Err(WordFault::BadWord),
         }
     }

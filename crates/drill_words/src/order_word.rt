@@ -1,6 +1,8 @@
 ghost use Rattle.std.specs.Prelude.{◌≡◌};
 ghost use Rattle.drill_words.specs.OrderList.{order_word};
 
+use crate::words::is_text;
+
 /// The first word of an order. With `+` after it the order is queued.
 #[derive(Clone, Copy, Debug)]
 pub(crate) enum OrderWord {
@@ -36,27 +38,27 @@ pub(crate) enum OrderWord {
 pub(crate) fn order_word(word: &[u8]) -> Option<OrderWord>
     ensures { result ≡ order_word word.now }
 {
-    if word == b"move".as_slice() {
+    if is_text(word, b"move".as_slice()) {
         Some(OrderWord::Move { queued: false })
-    } else if word == b"move+".as_slice() {
+    } else if is_text(word, b"move+".as_slice()) {
         Some(OrderWord::Move { queued: true })
-    } else if word == b"attack".as_slice() {
+    } else if is_text(word, b"attack".as_slice()) {
         Some(OrderWord::Attack { queued: false })
-    } else if word == b"attack+".as_slice() {
+    } else if is_text(word, b"attack+".as_slice()) {
         Some(OrderWord::Attack { queued: true })
-    } else if word == b"harvest".as_slice() {
+    } else if is_text(word, b"harvest".as_slice()) {
         Some(OrderWord::Harvest { queued: false })
-    } else if word == b"harvest+".as_slice() {
+    } else if is_text(word, b"harvest+".as_slice()) {
         Some(OrderWord::Harvest { queued: true })
-    } else if word == b"stop".as_slice() {
+    } else if is_text(word, b"stop".as_slice()) {
         Some(OrderWord::Stop)
-    } else if word == b"produce".as_slice() {
+    } else if is_text(word, b"produce".as_slice()) {
         Some(OrderWord::Produce)
-    } else if word == b"cancel".as_slice() {
+    } else if is_text(word, b"cancel".as_slice()) {
         Some(OrderWord::Cancel)
-    } else if word == b"donate".as_slice() {
+    } else if is_text(word, b"donate".as_slice()) {
         Some(OrderWord::Donate)
-    } else if word == b"pace".as_slice() {
+    } else if is_text(word, b"pace".as_slice()) {
         Some(OrderWord::Pace)
     } else {
         None

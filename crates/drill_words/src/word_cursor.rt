@@ -1,12 +1,14 @@
-ghost use Rattle.std.specs.Prelude.{◌≡◌, ◌∷◌, ◌<◌, ◌≤◌, true, false, [], length, MatchOption};
+ghost use Rattle.std.specs.Prelude.{◌≡◌, ◌∷◌, ◌<◌, ◌≤◌, true, false, [], MatchOption};
 ghost use Rattle.std.specs.Prelude.{MatchResult, IfOk, Ok, Err};
-ghost use Rattle.std.specs.List.{prefix_len};
-ghost use Rattle.drill_words.specs.Words.{is_blank, is_of_word, words_of};
-ghost use Rattle.drill_words.specs.Read.{Takes, after_word, number_at, client_of, client_at};
+ghost use Rattle.base.specs.Numbers.{number_of};
+ghost use Rattle.drill_words.specs.Words.{words_of};
+ghost use Rattle.drill_words.specs.Read.{Takes, after_word, number_at, below, client_of, client_at};
 ghost use Rattle.drill_words.specs.Read.{hash_at, none_left};
 
 use crate::hash::read_hash;
+use crate::numeral::Numeral;
 use crate::word_fault::WordFault;
+use crate::words::{is_blank_line, is_text, split_numeral, split_word};
 use base::read_number;
 use std::marker::Model;
 
@@ -61,7 +63,7 @@ impl<'a> WordCursor<'a> {
         ensures { MatchResult result (λ _. after_word text.now self.old ≡ Ok self.new)
             (λ fault. after_word text.now self.old ≡ Err fault) }
     {
-        if self.required()? == text {
+        if is_text(self.required()?, text) {
             Ok(())
         } else {
             Err(WordFault::BadWord)
@@ -75,7 +77,7 @@ impl<'a> WordCursor<'a> {
         ensures low { IfOk result (λ number. least ≤ number) }
         ensures high { IfOk result (λ number. number ≤ most) }
     {
-        match read_number(self.required()?) {
+        match self.numeral()?.number {
             Some(number) if u64::from(least) <= number && number <= u64::from(most) => {
                 Ok(number as u32)
             }
@@ -89,7 +91,25 @@ impl<'a> WordCursor<'a> {
         ensures taken { Takes result self.new (client_at clients self.old) }
         ensures below { IfOk result (λ client. client < clients) }
     {
-        client_of(self.required()?, clients)
+        below(self.numeral()?.number, clients)
+    }
+
+    /// Takes the next word, which has to be there, with the number that it writes.
+    fn numeral(&mut self) -> Result<Numeral<'a>, WordFault>
+        ensures { MatchResult result
+            (λ numeral. (self.old ≡ numeral.word.now ∷ self.new)
+            × (numeral.number ≡ number_of numeral.word.now))
+            (λ fault. (self.old ≡ []) × (fault ≡ WordFault.BadWord)) }
+    {
+        if let Some((numeral, rest)) = split_numeral(self.rest) {
+            self.rest = rest;
+            return Ok(numeral);
+        }
+        let word = self.required()?;
+        Ok(Numeral {
+            word,
+            number: read_number(word),
+        })
     }
 
     /// Takes a hash: exactly 16 lower-case hexadecimal digits.
@@ -107,7 +127,7 @@ impl<'a> WordCursor<'a> {
     pub(crate) fn is_done(&self) -> bool
         ensures { result ≡ none_left self.now }
     {
-        split_word(self.rest).is_none()
+        is_blank_line(self.rest)
     }
 
     /// Finds that no word is left.
@@ -128,57 +148,17 @@ pub(crate) fn client_of(word: &[u8], clients: u8) -> Result<u8, WordFault>
     ensures client { result ≡ client_of clients word.now }
     ensures below { IfOk result (λ client. client < clients) }
 {
-    match read_number(word) {
+    below(read_number(word), clients)
+}
+
+/// The number of a client.
+fn below(number: Option<u64>, clients: u8) -> Result<u8, WordFault>
+    ensures client { result ≡ below clients number }
+    ensures below { IfOk result (λ client. client < clients) }
+{
+    match number {
         None => Err(WordFault::BadNumber),
         Some(number) if number < u64::from(clients) => Ok(number as u8),
         Some(_) => Err(WordFault::NoSuchClient),
     }
-}
-
-/// A space, a tab or a carriage return.
-fn is_blank(byte: u8) -> bool
-    ensures { result ≡ is_blank byte }
-{
-    byte == b' ' || byte == b'\t' || byte == b'\r'
-}
-
-/// How many blanks a line begins with.
-fn leading_blanks(line: &[u8]) -> usize
-    ensures count { result ≡ prefix_len is_blank line.now }
-    ensures limit { result ≤ length line.now }
-{
-    for (index, byte) in line.iter().enumerate() {
-        if !is_blank(*byte) {
-            return index;
-        }
-    }
-    line.len()
-}
-
-/// How many bytes come before the first blank.
-fn word_length(line: &[u8]) -> usize
-    ensures count { result ≡ prefix_len is_of_word line.now }
-    ensures limit { result ≤ length line.now }
-{
-    for (index, byte) in line.iter().enumerate() {
-        if is_blank(*byte) {
-            return index;
-        }
-    }
-    line.len()
-}
-
-/// The first word of a line, and what follows it.
-#[tactic(auto, using(crate::proofs::WordsLemmas::word_steps))]
-fn split_word(line: &[u8]) -> Option<(&[u8], &[u8])>
-    ensures { MatchOption result (words_of line.now ≡ [])
-        (λ split. words_of line.now ≡ split.0.now ∷ words_of split.1.now) }
-{
-    let blanks = leading_blanks(line);
-    if blanks == line.len() {
-        return None;
-    }
-    let (_, from_word) = line.split_at(blanks);
-    let length = word_length(from_word);
-    Some(from_word.split_at(length))
 }

@@ -17,16 +17,17 @@ use Rattle.match_net.specs.declared.limits.TheConstants.{VERSION, MAX_LINK_BYTES
 use Rattle.match_net.specs.declared.greeting.Greeting.{Greeting}
 use Rattle.match_net.specs.declared.greeting.Greeting.TheVariants as greeting
 use Rattle.match_net.specs.declared.piece.Piece.TheVariants as piece
-use Rattle.match_net.specs.Taking.{Took, NoneLeft, TookAtMost, TakesPiece}
+use Rattle.match_net.specs.Taking.{Took, Counts, NoneLeft, TookAtMost, TakesPiece}
 use Rattle.match_net.specs.Greeting.{greeting_of, decided, decision, asked_once, hello_bytes}
 use Rattle.match_net.specs.Greeting.{IsGreeted, Greets}
-use Rattle.match_net.proofs.TakingLemmas.{took_nothing, took_more}
+use Rattle.match_net.proofs.TakingLemmas.{took_nothing, took_more, counts_more}
 
--- So many turns took bytes that decide nothing yet, and the feeder was fed these.
-pub record Waiting (old now : SourceState) (fed : Fed) (turn : ℕ) : Type 0 where
+-- So many turns took and counted bytes that decide nothing yet, and the feeder was fed these.
+pub record Waiting (old now : SourceState) (from count : ℕ) (fed : Fed) (turn : ℕ) : Type 0 where
   pub bytes : List ℕ
   pub fed_is : fed ≡ more_fed None unfed bytes
   pub took : Took old.left now.left bytes
+  pub counted : Counts from count bytes
   pub later : old.faults ≤ now.faults
   pub undecided : packet_at up_at bytes ≡ Ok None
   pub few : length bytes ≤ 257
@@ -95,13 +96,14 @@ welcome_is_hello here (Sync frame hash) welcome = absurd (no_welcome (greeting_o
 welcome_is_hello here Bye welcome = absurd (no_welcome (greeting_of here Bye) refl welcome)
 
 -- Before the first turn.
-pub waiting_first : (state : SourceState) → Waiting state state unfed 0
+pub waiting_first : (state : SourceState) (count : ℕ) → Waiting state state count count unfed 0
 unfolding packet_at field_at
-waiting_first state =
+waiting_first state count =
     record {
       bytes = [];
       fed_is = refl;
       took = took_nothing state.left;
+      counted = omega arith;
       later = omega arith;
       undecided = refl;
       few = omega arith;
@@ -143,12 +145,12 @@ greeted_by here bytes last left (Ok (Some first)) answer few is after hello =
 
 -- A turn that decided nothing.
 pub waiting_more :
-    (here room turn : ℕ) (old mid new : SourceState) (fed after last : Fed) →
-    Waiting old mid fed turn → TakesPiece room mid new fed after piece.Some →
+    (here room turn : ℕ) (old mid new : SourceState) (from count total : ℕ) (fed after last : Fed) →
+    Waiting old mid from count fed turn → (takes : TakesPiece room mid new fed after piece.Some) → Counts count total takes.taken →
     None ≡ decided here (packet_at up_at after.rest) →
     last ≡ (answer_of after (packet_at up_at after.rest)).1 → length last.rest ≤ 257 →
-    Waiting old new last (turn + 1)
-waiting_more here room turn old mid new fed after last so_far takes is asked few =
+    Waiting old new from total last (turn + 1)
+waiting_more here room turn old mid new from count total fed after last so_far takes counted is asked few =
     let bytes = so_far.bytes ++ takes.taken in
     let after_is : after ≡ more_fed None unfed bytes = takes.fed ∙ ap (λ (f : Fed). more_fed f.fault f takes.taken) so_far.fed_is in
     let rest_is : after.rest ≡ bytes = ap (λ (f : Fed). f.rest) after_is in
@@ -159,6 +161,7 @@ waiting_more here room turn old mid new fed after last so_far takes is asked few
       bytes = bytes;
       fed_is = last_is;
       took = took_more old.left mid.left new.left so_far.bytes takes.taken so_far.took takes.took;
+      counted = counts_more from count total so_far.bytes takes.taken so_far.counted counted;
       later = omega (arith, so_far.later, takes.later);
       undecided = undecided;
       few = subst (λ (f : Fed). length f.rest ≤ 257) last_is few;
@@ -172,14 +175,14 @@ waiting_more here room turn old mid new fed after last so_far takes is asked few
 
 -- A turn that decided.
 pub greets_decided :
-    (here room turn : ℕ) (old mid new : SourceState) (fed after last : Fed) (answer : Greeting) →
-    room ≤ MAX_LINK_BYTES - 258 → Waiting old mid fed turn →
-    TakesPiece room mid new fed after piece.Some →
+    (here room turn : ℕ) (old mid new : SourceState) (from count total : ℕ) (fed after last : Fed) (answer : Greeting) →
+    room ≤ MAX_LINK_BYTES - 258 → Waiting old mid from count fed turn →
+    (takes : TakesPiece room mid new fed after piece.Some) → Counts count total takes.taken →
     Some answer ≡ decided here (packet_at up_at after.rest) →
     last ≡ (answer_of after (packet_at up_at after.rest)).1 →
     (Some answer ≡ Some greeting.Welcome → after.rest ≡ hello_bytes here ++ last.rest) →
-    Greets here old new last answer
-greets_decided here room turn old mid new fed after last answer small so_far takes is asked hello =
+    (greets : Greets here old new last answer) × Counts from total greets.taken
+greets_decided here room turn old mid new from count total fed after last answer small so_far takes counted is asked hello =
     let bytes = so_far.bytes ++ takes.taken in
     let after_is : after ≡ more_fed None unfed bytes = takes.fed ∙ ap (λ (f : Fed). more_fed f.fault f takes.taken) so_far.fed_is in
     let rest_is : after.rest ≡ bytes = ap (λ (f : Fed). f.rest) after_is in
@@ -187,20 +190,22 @@ greets_decided here room turn old mid new fed after last answer small so_far tak
     let last_is : last ≡ asked_once bytes = asked ∙ ap (λ (f : Fed). (answer_of f (packet_at up_at f.rest)).1) after_is in
     let few : length bytes ≤ MAX_LINK_BYTES = omega (arith, small, so_far.few, takes.few, length-append so_far.bytes takes.taken) in
     let hello_so : answer ≡ greeting.Welcome → bytes ≡ hello_bytes here ++ last.rest = λ w. sym rest_is ∙ hello (ap Some w) in
-    let whole = decided_whole here (packet_at up_at bytes) answer is_so in
-    record {
-      taken = bytes;
-      few = few;
-      took = took_more old.left mid.left new.left so_far.bytes takes.taken so_far.took takes.took;
-      later = omega (arith, so_far.later, takes.later);
-      decides = sym is_so ∙ whole.0;
-      until = record { before = so_far.bytes; last = takes.taken; joined = refl; undecided = so_far.undecided; short = takes.short };
-      fed_so = last_is;
-      welcomed = hello_so;
-      ended = λ e. absurd (whole.1 e);
-      lost = λ e. absurd (whole.2 e);
-      leaves = greeted_by here bytes last new.left (packet_at up_at bytes) answer few is_so last_is hello_so;
-    }
+    let whole = decided_whole here (packet_at up_at bytes) answer is_so in (
+      record {
+        taken = bytes;
+        few = few;
+        took = took_more old.left mid.left new.left so_far.bytes takes.taken so_far.took takes.took;
+        later = omega (arith, so_far.later, takes.later);
+        decides = sym is_so ∙ whole.0;
+        until = record { before = so_far.bytes; last = takes.taken; joined = refl; undecided = so_far.undecided; short = takes.short };
+        fed_so = last_is;
+        welcomed = hello_so;
+        ended = λ e. absurd (whole.1 e);
+        lost = λ e. absurd (whole.2 e);
+        leaves = greeted_by here bytes last new.left (packet_at up_at bytes) answer few is_so last_is hello_so;
+      },
+      counts_more from count total so_far.bytes takes.taken so_far.counted counted,
+    )
   where
     by_answer : (answer : Greeting) → IsAnswer answer →
         (Some answer ≡ decision answer) × (answer ≡ greeting.Ended → ⊥) × (answer ≡ greeting.Lost → ⊥)
@@ -222,29 +227,31 @@ greets_decided here room turn old mid new fed after last answer small so_far tak
 
 -- A turn in which the bytes ended or the link failed.
 greets_undecided :
-    (here turn : ℕ) (old mid new : SourceState) (fed after : Fed) (taken : List ℕ) (answer : Greeting) →
-    Waiting old mid fed turn → taken ≡ [] → Took mid.left new.left taken → mid.faults ≤ new.faults →
+    (here turn : ℕ) (old mid new : SourceState) (from count total : ℕ) (fed after : Fed) (taken : List ℕ) (answer : Greeting) →
+    Waiting old mid from count fed turn → taken ≡ [] → Took mid.left new.left taken → Counts count total taken → mid.faults ≤ new.faults →
     after ≡ more_fed fed.fault fed taken → None ≡ decision answer →
     (answer ≡ greeting.Ended → NoneLeft new.left) → (answer ≡ greeting.Lost → Rose mid.faults new.faults) →
-    Greets here old new after answer
-greets_undecided here turn old mid new fed after taken answer so_far none took later is_fed undecided ended lost =
+    (greets : Greets here old new after answer) × Counts from total greets.taken
+greets_undecided here turn old mid new from count total fed after taken answer so_far none took counted later is_fed undecided ended lost =
     let bytes = so_far.bytes in
     let all : bytes ++ taken ≡ bytes = ap (λ (t : List ℕ). bytes ++ t) none ∙ append-nil bytes in
     let after_is : after ≡ more_fed None unfed bytes =
-    is_fed ∙ ap (λ (f : Fed). more_fed f.fault f taken) so_far.fed_is ∙ ap (λ (b : List ℕ). more_fed None unfed b) all in
-    record {
-      taken = bytes;
-      few = omega (arith, so_far.few);
-      took = subst (λ (b : List ℕ). Took old.left new.left b) all (took_more old.left mid.left new.left bytes taken so_far.took took);
-      later = omega (arith, so_far.later, later);
-      decides = rw so_far.undecided undecided;
-      until = record { before = bytes; last = []; joined = sym (append-nil bytes); undecided = so_far.undecided; short = omega arith };
-      fed_so = after_is ∙ sym (ap (λ (first : FirstPacket Up). (answer_of (more_fed None unfed bytes) first).1) so_far.undecided);
-      welcomed = λ e. absurd (by_welcome answer undecided e);
-      ended = ended;
-      lost = λ e. rose (lost e);
-      leaves = leaves answer undecided ended;
-    }
+    is_fed ∙ ap (λ (f : Fed). more_fed f.fault f taken) so_far.fed_is ∙ ap (λ (b : List ℕ). more_fed None unfed b) all in (
+      record {
+        taken = bytes;
+        few = omega (arith, so_far.few);
+        took = subst (λ (b : List ℕ). Took old.left new.left b) all (took_more old.left mid.left new.left bytes taken so_far.took took);
+        later = omega (arith, so_far.later, later);
+        decides = rw so_far.undecided undecided;
+        until = record { before = bytes; last = []; joined = sym (append-nil bytes); undecided = so_far.undecided; short = omega arith };
+        fed_so = after_is ∙ sym (ap (λ (first : FirstPacket Up). (answer_of (more_fed None unfed bytes) first).1) so_far.undecided);
+        welcomed = λ e. absurd (by_welcome answer undecided e);
+        ended = ended;
+        lost = λ e. rose (lost e);
+        leaves = leaves answer undecided ended;
+      },
+      let none_more = ap length none in omega (arith, so_far.counted, counted, none_more),
+    )
   where
     by_welcome : (answer : Greeting) → None ≡ decision answer → answer ≡ greeting.Welcome → ⊥
     by_welcome answer undecided is = absurd cc
@@ -260,25 +267,30 @@ greets_undecided here turn old mid new fed after taken answer so_far none took l
     leaves greeting.Lost undecided ended = tt
 
 pub greets_ended :
-    (here room turn : ℕ) (old mid new : SourceState) (fed after : Fed) → Waiting old mid fed turn →
-    TakesPiece room mid new fed after piece.End → Greets here old new after greeting.Ended
-greets_ended here room turn old mid new fed after so_far takes =
-    greets_undecided here turn old mid new fed after takes.taken greeting.Ended so_far takes.means.0 takes.took takes.later takes.fed refl (λ e. takes.means.1) (λ e. absurd cc)
+    (here room turn : ℕ) (old mid new : SourceState) (from count total : ℕ) (fed after : Fed) → Waiting old mid from count fed turn →
+    (takes : TakesPiece room mid new fed after piece.End) → Counts count total takes.taken →
+    (greets : Greets here old new after greeting.Ended) × Counts from total greets.taken
+greets_ended here room turn old mid new from count total fed after so_far takes counted =
+    greets_undecided here turn old mid new from count total fed after takes.taken greeting.Ended so_far takes.means.0 takes.took counted takes.later takes.fed refl (λ e. takes.means.1) (λ e. absurd cc)
 
 pub greets_lost :
-    (here room turn : ℕ) (old mid new : SourceState) (fed after : Fed) → Waiting old mid fed turn →
-    TakesPiece room mid new fed after piece.Lost → Greets here old new after greeting.Lost
-greets_lost here room turn old mid new fed after so_far takes =
-    greets_undecided here turn old mid new fed after takes.taken greeting.Lost so_far takes.means.0 takes.took takes.later takes.fed refl (λ e. absurd cc) (λ e. takes.means.1)
+    (here room turn : ℕ) (old mid new : SourceState) (from count total : ℕ) (fed after : Fed) → Waiting old mid from count fed turn →
+    (takes : TakesPiece room mid new fed after piece.Lost) → Counts count total takes.taken →
+    (greets : Greets here old new after greeting.Lost) × Counts from total greets.taken
+greets_lost here room turn old mid new from count total fed after so_far takes counted =
+    greets_undecided here turn old mid new from count total fed after takes.taken greeting.Lost so_far takes.means.0 takes.took counted takes.later takes.fed refl (λ e. absurd cc) (λ e. takes.means.1)
 
 -- Out of memory.
 pub spilled :
-    (room turn : ℕ) (old mid new : SourceState) (fed : Fed) → room ≤ MAX_LINK_BYTES - 258 →
-    Waiting old mid fed turn → TookAtMost room mid new → TookAtMost MAX_LINK_BYTES old new
-spilled room turn old mid new fed small so_far took =
-    record {
-      taken = so_far.bytes ++ took.taken;
-      few = omega (arith, small, so_far.few, took.few, length-append so_far.bytes took.taken);
-      took = took_more old.left mid.left new.left so_far.bytes took.taken so_far.took took.took;
-      later = omega (arith, so_far.later, took.later);
-    }
+    (room turn : ℕ) (old mid new : SourceState) (from count total : ℕ) (fed : Fed) → room ≤ MAX_LINK_BYTES - 258 →
+    Waiting old mid from count fed turn → (took : TookAtMost room mid new) → Counts count total took.taken →
+    (all : TookAtMost MAX_LINK_BYTES old new) × Counts from total all.taken
+spilled room turn old mid new from count total fed small so_far took counted = (
+  record {
+    taken = so_far.bytes ++ took.taken;
+    few = omega (arith, small, so_far.few, took.few, length-append so_far.bytes took.taken);
+    took = took_more old.left mid.left new.left so_far.bytes took.taken so_far.took took.took;
+    later = omega (arith, so_far.later, took.later);
+  },
+  counts_more from count total so_far.bytes took.taken so_far.counted counted,
+)

@@ -11,7 +11,10 @@ pub mod OneSession
 pub mod WholeSession
 pub mod DownLemmas
 pub mod TickLemmas
+pub mod OneMatch
 pub mod PlayLemmas
 pub mod OpeningLemmas
 pub mod FoldLemmas
 pub mod AgreedLemmas
+pub mod WritingLemmas
+pub mod WrittenLemmas

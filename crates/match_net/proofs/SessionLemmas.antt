@@ -16,10 +16,11 @@ use Rattle.match_net.specs.declared.greeting.Greeting.{Greeting}
 use Rattle.match_net.specs.declared.greeting.Greeting.TheVariants as greeting
 use Rattle.match_net.specs.declared.reader_end.ReaderEnd.{ReaderEnd}
 use Rattle.match_net.specs.declared.reader_end.ReaderEnd.TheVariants as end
+use Rattle.match_net.specs.Taking.{Counts}
 use Rattle.match_net.specs.Greeting.{hello_bytes}
 use Rattle.match_net.specs.Heeding.{IsLeftIf}
 use Rattle.match_net.specs.Reading.{MayPlay, OnlyLearns, EndMeans, ReadsTo}
-use Rattle.match_net.specs.Sessions.{LeavesColumn, FixedIt, FoundIt, SessionEnds, ReadsLink, GreetingEnds, ReadsNothing, ReadsAs, Untouched, ReadBy, after_leaving}
+use Rattle.match_net.specs.Sessions.{LeavesColumn, FixedIt, FoundIt, SessionEnds, ReadsLink, GreetingEnds, ReadsNothing, ReadsAs, CountsAs, Untouched, ReadBy, after_leaving}
 use Rattle.match_net.proofs.TurnLemmas.{others_stay}
 
 -- What the answer to a departure says of who fixed it, after these plays.
@@ -94,25 +95,27 @@ gone c plays before mid after answer free feeds others learns known leaves =
 
 -- A session after a Welcome.
 welcomed_ends :
-    (c here : ℕ) (given : List ℕ) (old new : SourceState) (before mid after : View) (first pushed : List Heard) (answer : ReaderEnd) (left : Leaving) →
-    (reads : ReadsTo c here given old new before mid first pushed answer) →
+    (c here : ℕ) (given : List ℕ) (old new : SourceState) (from count : ℕ) (before mid after : View) (first pushed : List Heard) (answer : ReaderEnd) (left : Leaving) →
+    (reads : ReadsTo c here given old new from count before mid first pushed answer) →
     Gone c reads.session.plays before mid after left →
-    ReadsLink c here given old new before after first pushed (after_leaving answer left)
-welcomed_ends c here given old new before mid after first pushed answer left reads gone =
-    record {
-      session = reads.session;
-      taken = reads.taken;
-      rest = reads.rest;
-      few = reads.few;
-      took = reads.took;
-      later = reads.later;
-      makes = reads.makes;
-      at = reads.at;
-      place = reads.place;
-      reports = reads.standing.reports;
-      column = gone.column;
-      ends = by_end answer left reads.ends reads.knows gone.by gone.known;
-    }
+    (link : ReadsLink c here given old new before after first pushed (after_leaving answer left)) × Counts from count link.taken
+welcomed_ends c here given old new from count before mid after first pushed answer left reads gone = (
+  record {
+    session = reads.session;
+    taken = reads.taken;
+    rest = reads.rest;
+    few = reads.few;
+    took = reads.took;
+    later = reads.later;
+    makes = reads.makes;
+    at = reads.at;
+    place = reads.place;
+    reports = reads.standing.reports;
+    column = gone.column;
+    ends = by_end answer left reads.ends reads.knows gone.by gone.known;
+  },
+  reads.counted,
+)
   where
     by_end : (answer : ReaderEnd) (left : Leaving) → EndMeans c here (given ++ reads.taken) reads.session reads.rest old new answer →
         IsLeftIf (part_of c mid).known.left (Some answer) → LeftBy c reads.session.plays before after left →
@@ -128,18 +131,18 @@ welcomed_ends c here given old new before mid after first pushed answer left rea
 
 -- A session that takes nothing.
 unread_ends :
-    (g : Greeting) (c : ℕ) (old new : SourceState) (before mid after : View) (first pushed : List Heard) (answer : ReaderEnd) (left : Leaving) →
-    Untouched old new before mid first pushed → Gone c [] before mid after left →
+    (g : Greeting) (c : ℕ) (old new : SourceState) (from count : ℕ) (before mid after : View) (first pushed : List Heard) (answer : ReaderEnd) (left : Leaving) →
+    Untouched old new from count before mid first pushed → Gone c [] before mid after left →
     GreetingEnds g c before after (after_leaving answer left) →
-    ReadsNothing g c old new before after first pushed (after_leaving answer left)
-unread_ends g c old new before mid after first pushed answer left untouched gone ends =
-    record { untouched = untouched.link; reports = untouched.reports; column = gone.column; ends = ends }
+    ReadsNothing g c old new before after first pushed (after_leaving answer left) × (count ≡ from)
+unread_ends g c old new from count before mid after first pushed answer left untouched gone ends =
+    (record { untouched = untouched.link; reports = untouched.reports; column = gone.column; ends = ends }, untouched.counted)
 
 gone_unread :
-    (c : ℕ) (old new : SourceState) (before mid after : View) (first pushed : List Heard) (left : Leaving) →
+    (c : ℕ) (old new : SourceState) (from count : ℕ) (before mid after : View) (first pushed : List Heard) (left : Leaving) →
     MayPlay (part_of c before) → (part_of c before).held ≡ [] → (part_of c before).known.plays ≡ [] →
-    Untouched old new before mid first pushed → LeavesSo c mid after left → Gone c [] before mid after left
-gone_unread c old new before mid after first pushed left may free unplayed untouched leaves =
+    Untouched old new from count before mid first pushed → LeavesSo c mid after left → Gone c [] before mid after left
+gone_unread c old new from count before mid after first pushed left may free unplayed untouched leaves =
     gone c [] before mid after left free
     (ap (λ (v : View). (part_of c v).feeds) untouched.view ∙ may.feeds)
     (subst (λ (v : View). OthersStay c before v) (sym untouched.view) (refl, refl, λ d other. refl))
@@ -148,32 +151,43 @@ gone_unread c old new before mid after first pushed left may free unplayed untou
 
 -- Any session.
 pub session_ends :
-    (g : Greeting) (c here : ℕ) (held : List ℕ) (old new : SourceState) (before mid after : View) (first pushed : List Heard) (answer : ReaderEnd) (left : Leaving) →
+    (g : Greeting) (c here : ℕ) (held : List ℕ) (old new : SourceState) (from count : ℕ) (before mid after : View) (first pushed : List Heard) (answer : ReaderEnd) (left : Leaving) →
     MayPlay (part_of c before) → (part_of c before).held ≡ [] → (part_of c before).known.plays ≡ [] →
-    ReadBy g c here held old new before mid first pushed answer → LeavesSo c mid after left →
-    ReadsAs g c here held old new before after first pushed (after_leaving answer left)
-session_ends greeting.Welcome c here held old new before mid after first pushed answer left may free unplayed reads leaves =
-    welcomed_ends c here (hello_bytes here ++ held) old new before mid after first pushed answer left reads
+    ReadBy g c here held old new from count before mid first pushed answer → LeavesSo c mid after left →
+    CountsAs g c here held old new from count before after first pushed (after_leaving answer left)
+session_ends greeting.Welcome c here held old new from count before mid after first pushed answer left may free unplayed reads leaves =
+    welcomed_ends c here (hello_bytes here ++ held) old new from count before mid after first pushed answer left reads
     (gone c reads.session.plays before mid after left free (ap (λ (p : Part). p.feeds) reads.learns ∙ may.feeds) reads.others reads.learns reads.standing.plays leaves)
-session_ends (greeting.Refuse code) c here held old new before mid after first pushed answer left may free unplayed reads leaves =
-    unread_ends (greeting.Refuse code) c old new before mid after first pushed answer left reads.0
-    (gone_unread c old new before mid after first pushed left may free unplayed reads.0 leaves)
+session_ends (greeting.Refuse code) c here held old new from count before mid after first pushed answer left may free unplayed reads leaves =
+    unread_ends (greeting.Refuse code) c old new from count before mid after first pushed answer left reads.0
+    (gone_unread c old new from count before mid after first pushed left may free unplayed reads.0 leaves)
     (ap (λ (a : ReaderEnd). after_leaving a left) reads.1)
-session_ends (greeting.Fault fault) c here held old new before mid after first pushed answer left may free unplayed reads leaves =
-    unread_ends (greeting.Fault fault) c old new before mid after first pushed answer left reads.0
-    (gone_unread c old new before mid after first pushed left may free unplayed reads.0 leaves)
+session_ends (greeting.Fault fault) c here held old new from count before mid after first pushed answer left may free unplayed reads leaves =
+    unread_ends (greeting.Fault fault) c old new from count before mid after first pushed answer left reads.0
+    (gone_unread c old new from count before mid after first pushed left may free unplayed reads.0 leaves)
     (ap (λ (a : ReaderEnd). after_leaving a left) reads.1)
-session_ends greeting.Lost c here held old new before mid after first pushed answer left may free unplayed reads leaves =
-    unread_ends greeting.Lost c old new before mid after first pushed answer left reads.0
-    (gone_unread c old new before mid after first pushed left may free unplayed reads.0 leaves)
+session_ends greeting.Lost c here held old new from count before mid after first pushed answer left may free unplayed reads leaves =
+    unread_ends greeting.Lost c old new from count before mid after first pushed answer left reads.0
+    (gone_unread c old new from count before mid after first pushed left may free unplayed reads.0 leaves)
     (ap (λ (a : ReaderEnd). after_leaving a left) reads.1)
-session_ends greeting.Ended c here held old new before mid after first pushed answer left may free unplayed reads leaves =
-    let gone_so = gone_unread c old new before mid after first pushed left may free unplayed reads.0 leaves in
-    unread_ends greeting.Ended c old new before mid after first pushed answer left reads.0 gone_so (by_left left gone_so.by reads.1)
+session_ends greeting.Ended c here held old new from count before mid after first pushed answer left may free unplayed reads leaves =
+    let gone_so = gone_unread c old new from count before mid after first pushed left may free unplayed reads.0 leaves in
+    unread_ends greeting.Ended c old new from count before mid after first pushed answer left reads.0 gone_so (by_left left gone_so.by reads.1)
   where
     by_left : (left : Leaving) → LeftBy c [] before after left → answer ≡ end.Ended → GreetingEnds greeting.Ended c before after (after_leaving answer left)
     by_left (leaving.Fixed at) by is = inl (ap (λ (a : ReaderEnd). after_leaving a (leaving.Fixed at)) is, by)
     by_left (leaving.Already at) by is = inr (at, ap (λ (a : ReaderEnd). after_leaving a (leaving.Already at)) is, by)
+
+-- The same without the count.
+pub uncounted :
+    (g : Greeting) (c here : ℕ) (held : List ℕ) (old new : SourceState) (from count : ℕ) (before after : View) (first pushed : List Heard) (answer : ReaderEnd) →
+    CountsAs g c here held old new from count before after first pushed answer →
+    ReadsAs g c here held old new before after first pushed answer
+uncounted greeting.Welcome c here held old new from count before after first pushed answer reads = reads.0
+uncounted (greeting.Refuse code) c here held old new from count before after first pushed answer reads = reads.0
+uncounted (greeting.Fault fault) c here held old new from count before after first pushed answer reads = reads.0
+uncounted greeting.Ended c here held old new from count before after first pushed answer reads = reads.0
+uncounted greeting.Lost c here held old new from count before after first pushed answer reads = reads.0
 
 -- A session leaves its column free.
 pub stays_free :

@@ -1,5 +1,5 @@
 -- One turn of a reading: a packet, more bytes, or an end.
-use Rattle.std.proofs.Common.{◌≡◌, ℕ, ◌+◌, ◌-◌, ◌<◌, ◌≤◌, ◌^◌, Bool, true, false, List, [], ◌∷◌, ◌++◌, length, Option, Some, None, Result, Ok, Err, refl, sym, ap, ap₂, subst, ◌∙◌, arith, append_assoc, inl, inr, eq-eqb}
+use Rattle.std.proofs.Common.{◌≡◌, ℕ, ◌+◌, ◌*◌, ◌-◌, ◌<◌, ◌≤◌, ◌^◌, Bool, true, false, List, [], ◌∷◌, ◌++◌, length, Option, Some, None, Result, Ok, Err, refl, sym, ap, ap₂, subst, ◌∙◌, arith, append_assoc, inl, inr, eq-eqb}
 use Rattle.std.specs.Prelude.{◌==◌, IfNone, IfSome, nat_lt}
 use Rattle.std.specs.Option.{option_map}
 use Rattle.std.specs.List.{flat_map}
@@ -26,13 +26,13 @@ use Rattle.match_net.specs.declared.read_cause.ReadCause.{ReadCause}
 use Rattle.match_net.specs.declared.read_cause.ReadCause.TheVariants as cause
 use Rattle.match_net.specs.declared.reader_end.ReaderEnd.{ReaderEnd}
 use Rattle.match_net.specs.declared.reader_end.ReaderEnd.TheVariants as end
-use Rattle.match_net.specs.Taking.{Took}
+use Rattle.match_net.specs.Taking.{Took, Counts}
 use Rattle.match_net.specs.Greeting.{hello_bytes}
 use Rattle.match_net.specs.Session.{Session, no_session, After, after_up, after_packet, after_packet_if, after_all, end_by, end_at, limited}
 use Rattle.match_net.specs.Heeding.{HeedMeans, IsLeftIf}
 use Rattle.match_net.specs.Reading.{OnlyLearns, IsStanding, Heeds, EndMeans, ReadsTo}
 use Rattle.match_net.specs.ReadSoFar.{ReadSoFar, AfterTurn, TakesMore}
-use Rattle.match_net.proofs.TakingLemmas.{took_nothing, took_more}
+use Rattle.match_net.proofs.TakingLemmas.{took_nothing, took_more, counts_more}
 use Rattle.match_net.proofs.GreetingLemmas.{hello_length}
 
 -- What a feeder's answer says of its rest.
@@ -112,19 +112,20 @@ end_of_packet c here session packet bytes rest end welcomed at is =
 
 -- After a packet that was heeded.
 goes_on :
-    (c here : ℕ) (given : List ℕ) (old now : SourceState) (before view after : View) (start pushed more : List Heard) (fed next : Fed) (packet : Up) →
-    (so_far : ReadSoFar c here given old now before view start pushed fed) →
+    (c here : ℕ) (given : List ℕ) (old now : SourceState) (from count : ℕ) (before view after : View) (start pushed more : List Heard) (fed next : Fed) (packet : Up) →
+    (so_far : ReadSoFar c here given old now from count before view start pushed fed) →
     next.fault ≡ None → HasGiven up_at up_payload (given ++ so_far.taken) (so_far.packets ++ packet ∷ []) next →
     OthersStay c view after → OnlyLearns (part_of c view) (part_of c after) →
     (session : Session) → IsStanding c session start after more → after_up c so_far.session packet ≡ Ok session →
-    ReadSoFar c here given old now before after start more next
-goes_on c here given old now before view after start pushed more fed next packet so_far whole stream others learns session standing is =
+    ReadSoFar c here given old now from count before after start more next
+goes_on c here given old now from count before view after start pushed more fed next packet so_far whole stream others learns session standing is =
     record {
       session = session;
       packets = so_far.packets ++ packet ∷ [];
       taken = so_far.taken;
       few = so_far.few;
       took = so_far.took;
+      counted = so_far.counted;
       later = so_far.later;
       stream = stream;
       whole = whole;
@@ -136,20 +137,21 @@ goes_on c here given old now before view after start pushed more fed next packet
     }
 
 ends_with :
-    (c here : ℕ) (given : List ℕ) (old now : SourceState) (before view after : View) (start pushed more : List Heard) (fed : Fed) (session : Session) (answer : ReaderEnd) →
-    (so_far : ReadSoFar c here given old now before view start pushed fed) →
+    (c here : ℕ) (given : List ℕ) (old now : SourceState) (from count : ℕ) (before view after : View) (start pushed more : List Heard) (fed : Fed) (session : Session) (answer : ReaderEnd) →
+    (so_far : ReadSoFar c here given old now from count before view start pushed fed) →
     OthersStay c view after → OnlyLearns (part_of c view) (part_of c after) →
     IsLeftIf (part_of c after).known.left (Some answer) →
     IsStanding c session start after more → session ≡ so_far.session →
     EndMeans c here (given ++ so_far.taken) so_far.session fed.rest old now answer →
-    ReadsTo c here given old now before after start more answer
-ends_with c here given old now before view after start pushed more fed session answer so_far others learns knows standing same ends =
+    ReadsTo c here given old now from count before after start more answer
+ends_with c here given old now from count before view after start pushed more fed session answer so_far others learns knows standing same ends =
     record {
       session = so_far.session;
       taken = so_far.taken;
       rest = fed.rest;
       few = so_far.few;
       took = so_far.took;
+      counted = so_far.counted;
       later = so_far.later;
       makes = record { packets = so_far.packets; reads = read_so_far (given ++ so_far.taken) so_far.packets fed so_far.stream so_far.whole; follows = so_far.follows };
       at = fed.at;
@@ -162,13 +164,13 @@ ends_with c here given old now before view after start pushed more fed session a
     }
 
 pub after_heed :
-    (c here : ℕ) (given : List ℕ) (old now : SourceState) (before view after : View) (start pushed more : List Heard) (fed next : Fed) (packet : Up) (answer : Option ReaderEnd) →
-    (so_far : ReadSoFar c here given old now before view start pushed fed) →
+    (c here : ℕ) (given : List ℕ) (old now : SourceState) (from count : ℕ) (before view after : View) (start pushed more : List Heard) (fed next : Fed) (packet : Up) (answer : Option ReaderEnd) →
+    (so_far : ReadSoFar c here given old now from count before view start pushed fed) →
     (found : Option Up) → found ≡ Some packet → (Ok found, next) ≡ next_answer up_at fed.fault fed →
     HasGiven up_at up_payload (given ++ so_far.taken) (so_far.packets ++ given_by (Ok found)) next →
     Heeds c view after pushed more packet answer →
-    AfterTurn c here given old now before after start more next answer
-after_heed c here given old now before view after start pushed more fed next packet answer so_far found found_is is gives heeds =
+    AfterTurn c here given old now from count before after start more next answer
+after_heed c here given old now from count before view after start pushed more fed next packet answer so_far found found_is is gives heeds =
     let so : (Ok (Some packet), next) ≡ next_answer up_at fed.fault fed = subst (λ (x : Option Up). (Ok x, next) ≡ next_answer up_at fed.fault fed) found_is is in
     let stream : HasGiven up_at up_payload (given ++ so_far.taken) (so_far.packets ++ packet ∷ []) next =
     subst (λ (x : Option Up). HasGiven up_at up_payload (given ++ so_far.taken) (so_far.packets ++ given_by (Ok x)) next) found_is gives in
@@ -180,38 +182,38 @@ after_heed c here given old now before view after start pushed more fed next pac
         IsLeftIf (part_of c after).known.left answer → packet_at up_at fed.rest ≡ Ok (Some (packet, next.rest)) → next.fault ≡ None →
         HasGiven up_at up_payload (given ++ so_far.taken) (so_far.packets ++ packet ∷ []) next →
         (session : Session) → IsStanding c session start after more → HeedMeans c so_far.session packet session answer →
-        AfterTurn c here given old now before after start more next answer
+        AfterTurn c here given old now from count before after start more next answer
     by_answer None others learns knows at whole stream session standing means =
-        goes_on c here given old now before view after start pushed more fed next packet so_far whole stream others learns session standing means
+        goes_on c here given old now from count before view after start pushed more fed next packet so_far whole stream others learns session standing means
     by_answer (Some end.Ended) others learns knows at whole stream session standing means =
-        ends_with c here given old now before view after start pushed more fed session end.Ended so_far others learns knows standing means.0
+        ends_with c here given old now from count before view after start pushed more fed session end.Ended so_far others learns knows standing means.0
         (inl (end_of_packet c here so_far.session packet fed.rest next.rest ending.Bye so_far.standing.welcomed at means.1))
     by_answer (Some (end.Refused why)) others learns knows at whole stream session standing means =
-        ends_with c here given old now before view after start pushed more fed session (end.Refused why) so_far others learns knows standing means.0
+        ends_with c here given old now from count before view after start pushed more fed session (end.Refused why) so_far others learns knows standing means.0
         (ap (option_map (limited (length (given ++ so_far.taken))))
         (end_of_packet c here so_far.session packet fed.rest next.rest (ending.Refused why) so_far.standing.welcomed at means.1))
     by_answer (Some (end.LeftAt n)) others learns knows at whole stream session standing means =
-        ends_with c here given old now before view after start pushed more fed session (end.LeftAt n) so_far others learns knows standing means.0
+        ends_with c here given old now from count before view after start pushed more fed session (end.LeftAt n) so_far others learns knows standing means.0
         (packet, next.rest, at, means.1)
     by_answer (Some end.Lost) others learns knows at whole stream session standing means = absurd means
     by_answer (Some end.NoMemory) others learns knows at whole stream session standing means =
-        ends_with c here given old now before view after start pushed more fed session end.NoMemory so_far others learns knows standing means tt
+        ends_with c here given old now from count before view after start pushed more fed session end.NoMemory so_far others learns knows standing means tt
 
 -- After more bytes were taken.
 pub after_more :
-    (c here : ℕ) (given : List ℕ) (old now new : SourceState) (before view : View) (start pushed : List Heard) (fed next after : Fed) (answer : Option ReaderEnd) →
-    ReadSoFar c here given old now before view start pushed fed →
+    (c here : ℕ) (given : List ℕ) (old now new : SourceState) (from count total : ℕ) (before view : View) (start pushed : List Heard) (fed next after : Fed) (answer : Option ReaderEnd) →
+    ReadSoFar c here given old now from count before view start pushed fed →
     (found : Option Up) → found ≡ None → (Ok found, next) ≡ next_answer up_at fed.fault fed →
-    TakesMore now new next after answer →
-    AfterTurn c here given old new before view start pushed after answer
-after_more c here given old now new before view start pushed fed next after answer so_far found found_is is takes =
+    TakesMore now new count total next after answer →
+    AfterTurn c here given old new from total before view start pushed after answer
+after_more c here given old now new from count total before view start pushed fed next after answer so_far found found_is is takes =
     let so : (Ok None, next) ≡ next_answer up_at fed.fault fed = subst (λ (x : Option Up). (Ok x, next) ≡ next_answer up_at fed.fault fed) found_is is in
     let undecided = next_open fed next (packet_at up_at fed.rest) (so ∙ asked fed so_far.whole) in
-    by_answer answer undecided.0 (subst (λ (f : Fed). TakesMore now new f after answer) undecided.1 takes)
+    by_answer answer undecided.0 (subst (λ (f : Fed). TakesMore now new count total f after answer) undecided.1 takes)
   where
-    lost : (answer : ReaderEnd) → IsLeftIf (part_of c view).known.left (Some answer) → TakesMore now new fed after (Some answer) →
+    lost : (answer : ReaderEnd) → IsLeftIf (part_of c view).known.left (Some answer) → TakesMore now new count total fed after (Some answer) →
         (ends : (rest : List ℕ) (bytes : List ℕ) → EndMeans c here bytes so_far.session rest old new answer) →
-        ReadsTo c here given old new before view start pushed answer
+        ReadsTo c here given old new from total before view start pushed answer
     lost answer knows takes ends =
         let all : (given ++ so_far.taken) ++ takes.taken ≡ given ++ (so_far.taken ++ takes.taken) = append_assoc given so_far.taken takes.taken in
         let size = size_so_far (given ++ so_far.taken) so_far.packets fed so_far.stream so_far.whole in
@@ -221,6 +223,7 @@ after_more c here given old now new before view start pushed fed next after answ
           rest = fed.rest ++ takes.taken;
           few = subst (λ (b : List ℕ). length b ≤ MAX_LINK_BYTES) all (let few = takes.few in let long = length-append (given ++ so_far.taken) takes.taken in omega (arith, size, few, long));
           took = took_more old.left now.left new.left so_far.taken takes.taken so_far.took takes.took;
+          counted = counts_more from count total so_far.taken takes.taken so_far.counted takes.counted;
           later = omega (arith, so_far.later, takes.later);
           makes = record {
             packets = so_far.packets;
@@ -241,10 +244,10 @@ after_more c here given old now new before view start pushed fed next after answ
           ends = ends (fed.rest ++ takes.taken) (given ++ (so_far.taken ++ takes.taken));
         }
 
-    stopped : (answer : ReaderEnd) → IsLeftIf (part_of c view).known.left (Some answer) → (taken : List ℕ) → taken ≡ [] → Took now.left new.left taken → now.faults ≤ new.faults →
+    stopped : (answer : ReaderEnd) → IsLeftIf (part_of c view).known.left (Some answer) → (taken : List ℕ) → taken ≡ [] → Took now.left new.left taken → Counts count total taken → now.faults ≤ new.faults →
         EndMeans c here (given ++ so_far.taken) so_far.session fed.rest old new answer →
-        ReadsTo c here given old new before view start pushed answer
-    stopped answer knows taken none took later ends =
+        ReadsTo c here given old new from total before view start pushed answer
+    stopped answer knows taken none took counted later ends =
         record {
           session = so_far.session;
           taken = so_far.taken;
@@ -252,6 +255,7 @@ after_more c here given old now new before view start pushed fed next after answ
           few = so_far.few;
           took = subst (λ (b : List ℕ). Took old.left new.left b) (ap (λ (t : List ℕ). so_far.taken ++ t) none ∙ append-nil so_far.taken)
               (took_more old.left now.left new.left so_far.taken taken so_far.took took);
+          counted = let before = so_far.counted in let none_more = ap length none in omega (arith, before, counted, none_more);
           later = omega (arith, so_far.later, later);
           makes = record { packets = so_far.packets; reads = read_so_far (given ++ so_far.taken) so_far.packets fed so_far.stream so_far.whole; follows = so_far.follows };
           at = fed.at;
@@ -266,8 +270,8 @@ after_more c here given old now new before view start pushed fed next after answ
     too_long : (size : ℕ) → size ≡ MAX_LINK_BYTES → limited size ending.Over ≡ ending.Refused cause.SessionTooLong
     too_long size is = let full : nat_lt size MAX_LINK_BYTES ≡ false = le-ltb size MAX_LINK_BYTES (omega (arith, is)) in rw full refl
 
-    by_answer : (answer : Option ReaderEnd) → packet_at up_at fed.rest ≡ Ok None → TakesMore now new fed after answer →
-        AfterTurn c here given old new before view start pushed after answer
+    by_answer : (answer : Option ReaderEnd) → packet_at up_at fed.rest ≡ Ok None → TakesMore now new count total fed after answer →
+        AfterTurn c here given old new from total before view start pushed after answer
     by_answer None undecided takes =
         let all : (given ++ so_far.taken) ++ takes.taken ≡ given ++ (so_far.taken ++ takes.taken) = append_assoc given so_far.taken takes.taken in
         let size = size_so_far (given ++ so_far.taken) so_far.packets fed so_far.stream so_far.whole in
@@ -277,6 +281,7 @@ after_more c here given old now new before view start pushed fed next after answ
           taken = so_far.taken ++ takes.taken;
           few = subst (λ (b : List ℕ). length b ≤ MAX_LINK_BYTES) all (let few = takes.few in let long = length-append (given ++ so_far.taken) takes.taken in omega (arith, size, few, long));
           took = took_more old.left now.left new.left so_far.taken takes.taken so_far.took takes.took;
+          counted = counts_more from count total so_far.taken takes.taken so_far.counted takes.counted;
           later = omega (arith, so_far.later, takes.later);
           stream = subst (λ (b : List ℕ). HasGiven up_at up_payload b so_far.packets after) all
               (given_fed_if up_at up_payload (given ++ so_far.taken) so_far.packets fed after takes.taken (done tt) takes.fed so_far.stream);
@@ -295,40 +300,41 @@ after_more c here given old now new before view start pushed fed next after answ
     by_answer (Some end.Ended) undecided takes =
         let size = size_so_far (given ++ so_far.taken) so_far.packets fed so_far.stream so_far.whole in
         let means = takes.fed in
-        stopped end.Ended tt takes.taken means.0 takes.took takes.later
+        stopped end.Ended tt takes.taken means.0 takes.took takes.counted takes.later
         (inr (ap (end_at c here so_far.session) undecided, let few = means.1 in omega (arith, size, few), means.2))
     by_answer (Some (end.Refused why)) undecided takes =
         let size = size_so_far (given ++ so_far.taken) so_far.packets fed so_far.stream so_far.whole in
         let means = takes.fed in
         let full = means.1 in
-        stopped (end.Refused why) tt takes.taken means.0 takes.took takes.later
+        stopped (end.Refused why) tt takes.taken means.0 takes.took takes.counted takes.later
         (ap (λ (f : FirstPacket Up). option_map (limited (length (given ++ so_far.taken))) (end_at c here so_far.session f)) undecided
         ∙ ap Some (too_long (length (given ++ so_far.taken)) (size ∙ full))
         ∙ ap (λ (w : ReadCause). Some (ending.Refused w)) (sym means.2))
     by_answer (Some (end.LeftAt n)) undecided takes = absurd takes.fed
     by_answer (Some end.Lost) undecided takes =
+        let size = size_so_far (given ++ so_far.taken) so_far.packets fed so_far.stream so_far.whole in
         let means = takes.fed in
-        stopped end.Lost tt takes.taken means.0 takes.took takes.later
-        (ap (end_at c here so_far.session) undecided, let earlier = so_far.later in let rose = means.1 in omega (arith, earlier, rose))
+        stopped end.Lost tt takes.taken means.0 takes.took takes.counted takes.later
+        (ap (end_at c here so_far.session) undecided, let few = means.1 in omega (arith, size, few), let earlier = so_far.later in let rose = means.2 in omega (arith, earlier, rose))
     by_answer (Some end.NoMemory) undecided takes = lost end.NoMemory tt takes (λ rest bytes. tt)
 
 -- After a fault.
 pub after_fault :
-    (c here : ℕ) (given : List ℕ) (old now : SourceState) (before view : View) (start pushed : List Heard) (fed next : Fed) (fault : FeedFault) →
-    ReadSoFar c here given old now before view start pushed fed →
+    (c here : ℕ) (given : List ℕ) (old now : SourceState) (from count : ℕ) (before view : View) (start pushed : List Heard) (fed next : Fed) (fault : FeedFault) →
+    ReadSoFar c here given old now from count before view start pushed fed →
     (Err fault, next) ≡ next_answer up_at fed.fault fed →
-    ReadsTo c here given old now before view start pushed (end.Refused (cause.Feed fault))
-after_fault c here given old now before view start pushed fed next fault so_far is =
+    ReadsTo c here given old now from count before view start pushed (end.Refused (cause.Feed fault))
+after_fault c here given old now from count before view start pushed fed next fault so_far is =
     let failed = next_failed fed next fault (packet_at up_at fed.rest) (is ∙ asked fed so_far.whole) in
-    ends_with c here given old now before view view start pushed pushed fed so_far.session (end.Refused (cause.Feed fault)) so_far (refl, refl, λ d other. refl) refl tt so_far.standing refl
+    ends_with c here given old now from count before view view start pushed pushed fed so_far.session (end.Refused (cause.Feed fault)) so_far (refl, refl, λ d other. refl) refl tt so_far.standing refl
     (ap (λ (f : FirstPacket Up). option_map (limited (length (given ++ so_far.taken))) (end_at c here so_far.session f)) failed)
 
 -- Before the first turn, after the greeting.
 pub begun :
-    (c here : ℕ) (state : SourceState) (view : View) (pushed : List Heard) (fed : Fed) → here < 2 ^ 64 → fed.at ≡ 13 → fed.fault ≡ None →
+    (c here : ℕ) (state : SourceState) (count : ℕ) (view : View) (pushed : List Heard) (fed : Fed) → here < 2 ^ 64 → fed.at ≡ 13 → fed.fault ≡ None →
     length fed.rest ≤ MAX_LINK_BYTES - 13 → (part_of c view).known.plays ≡ [] →
-    ReadSoFar c here (hello_bytes here ++ fed.rest) state state view view pushed pushed fed
-begun c here state view pushed fed range at none few unplayed =
+    ReadSoFar c here (hello_bytes here ++ fed.rest) state state count count view view pushed pushed fed
+begun c here state count view pushed fed range at none few unplayed =
     let bytes = hello_bytes here ++ fed.rest in
     record {
       session = record { welcomed = true; plays = []; reports = [] };
@@ -336,6 +342,7 @@ begun c here state view pushed fed range at none few unplayed =
       taken = [];
       few = let size = hello_length VERSION here in let long = length-append (hello_bytes here) fed.rest in let all = ap length (append-nil bytes) in omega (arith, few, size, long, all);
       took = took_nothing state.left;
+      counted = omega arith;
       later = omega arith;
       stream = subst (λ (b : List ℕ). HasGiven up_at up_payload b (Hello VERSION here ∷ []) fed) (sym (append-nil bytes)) (record {
         late = [];
@@ -355,3 +362,13 @@ begun c here state view pushed fed range at none few unplayed =
     by_fault : (f : Option FeedFault) → f ≡ None → IfNone f (◌≡◌ {A = List ℕ} [] [])
     by_fault None is = refl
     by_fault (Some fault) is = absurd cc
+
+-- The count of what was read so far is within bounds.
+pub counted_few :
+    (c here : ℕ) (given : List ℕ) (old now : SourceState) (from count : ℕ) (before view : View) (start pushed : List Heard) (fed : Fed) →
+    from ≤ MAX_LINK_BYTES → ReadSoFar c here given old now from count before view start pushed fed → count ≤ 2 * MAX_LINK_BYTES
+counted_few c here given old now from count before view start pushed fed few so_far =
+    let counted = so_far.counted in
+    let short = so_far.few in
+    let long = length-append given so_far.taken in
+    omega (arith, few, counted, short, long)

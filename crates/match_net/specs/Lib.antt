@@ -13,3 +13,5 @@ pub mod Stages
 pub mod Downward
 pub mod PlayMatch
 pub mod CameDown
+pub mod WholeMatch
+pub mod WritesInTurn

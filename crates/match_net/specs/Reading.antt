@@ -16,7 +16,7 @@ use Rattle.report_line.specs.declared.heard.Heard.{Heard}
 use Rattle.match_net.specs.declared.ending.Ending.TheVariants as ending
 use Rattle.match_net.specs.declared.reader_end.ReaderEnd.{ReaderEnd}
 use Rattle.match_net.specs.declared.reader_end.ReaderEnd.TheVariants as end
-use Rattle.match_net.specs.Taking.{Took, NoneLeft}
+use Rattle.match_net.specs.Taking.{Took, Counts, NoneLeft}
 use Rattle.match_net.specs.Session.{Session, Makes, end_at, limited}
 use Rattle.match_net.specs.Heeding.{IsLate, IsLeftIf, HeedMeans}
 
@@ -69,7 +69,7 @@ PushMeans old new more (Some end.Lost) = ⊥
 
 -- What the end of a reading says of the bytes that were read, what is left of them, and the link.
 -- It is the end of the session that the bytes hold, or the first late packet before that; unless
--- the link failed, or memory ran out.
+-- the link failed before so many bytes were taken that this is an end, or memory ran out.
 abbrev pub EndMeans :
     ℕ → ℕ → List ℕ → Session → List ℕ → SourceState → SourceState → ReaderEnd → Type 0
 EndMeans c here bytes session rest old new end.Ended =
@@ -83,18 +83,20 @@ EndMeans c here bytes session rest old new (end.LeftAt at) =
     (packet : Up) × (more : List ℕ) × (packet_at up_at rest ≡ Ok (Some (packet, more)))
     × IsLate session packet at
 EndMeans c here bytes session rest old new end.Lost =
-    (end_at c here session (packet_at up_at rest) ≡ Some ending.Over) × Rose old.faults new.faults
+    (end_at c here session (packet_at up_at rest) ≡ Some ending.Over)
+    × (length bytes < MAX_LINK_BYTES) × Rose old.faults new.faults
 EndMeans c here bytes session rest old new end.NoMemory = Unit {0}
 
--- What a reading took from the link, and what it made of its bytes: these are the ones that were
--- there before, and then those that it took. The next packet would begin at this place.
-pub record ReadsTo (c here : ℕ) (given : List ℕ) (old new : SourceState) (before after : View)
-    (first pushed : List Heard) (answer : ReaderEnd) : Type 0 where
+-- What a reading took from the link and counted, and what it made of its bytes: these are the ones
+-- that were there before, and then those that it took. The next packet would begin at this place.
+pub record ReadsTo (c here : ℕ) (given : List ℕ) (old new : SourceState) (from count : ℕ)
+    (before after : View) (first pushed : List Heard) (answer : ReaderEnd) : Type 0 where
   pub session : Session
   pub taken : List ℕ
   pub rest : List ℕ
   pub few : length (given ++ taken) ≤ MAX_LINK_BYTES
   pub took : Took old.left new.left taken
+  pub counted : Counts from count taken
   pub later : old.faults ≤ new.faults
   pub makes : Makes c here (given ++ taken) session rest
   pub at : ℕ

@@ -15,7 +15,7 @@ use Rattle.match_net.specs.declared.ending.Ending.{Ending}
 use Rattle.match_net.specs.declared.ending.Ending.TheVariants as ending
 use Rattle.match_net.specs.declared.reader_end.ReaderEnd.{ReaderEnd}
 use Rattle.match_net.specs.declared.reader_end.ReaderEnd.TheVariants as end
-use Rattle.match_net.specs.Taking.{Took}
+use Rattle.match_net.specs.Taking.{Took, Counts}
 use Rattle.match_net.specs.Greeting.{hello_bytes}
 use Rattle.match_net.specs.Session.{Session, Makes, IsSession, cause_of}
 use Rattle.match_net.specs.Reading.{EndMeans, ReadsTo}
@@ -106,6 +106,25 @@ ReadsAs greeting.Ended c here held old new before after first pushed answer =
 ReadsAs greeting.Lost c here held old new before after first pushed answer =
     ReadsNothing greeting.Lost c old new before after first pushed answer
 
+-- The same, and how the count of the bytes that are taken from the link rose: by the number of
+-- those that the session took, which is 0 after another greeting than Welcome.
+abbrev pub CountsAs :
+    Greeting → ℕ → ℕ → List ℕ → SourceState → SourceState → ℕ → ℕ → View → View → List Heard →
+    List Heard → ReaderEnd → Type 0
+CountsAs greeting.Welcome c here held old new from count before after first pushed answer =
+    (reads : ReadsLink c here (hello_bytes here ++ held) old new before after first pushed answer)
+    × Counts from count reads.taken
+CountsAs (greeting.Refuse code) c here held old new from count before after first pushed answer =
+    ReadsNothing (greeting.Refuse code) c old new before after first pushed answer
+    × (count ≡ from)
+CountsAs (greeting.Fault fault) c here held old new from count before after first pushed answer =
+    ReadsNothing (greeting.Fault fault) c old new before after first pushed answer
+    × (count ≡ from)
+CountsAs greeting.Ended c here held old new from count before after first pushed answer =
+    ReadsNothing greeting.Ended c old new before after first pushed answer × (count ≡ from)
+CountsAs greeting.Lost c here held old new from count before after first pushed answer =
+    ReadsNothing greeting.Lost c old new before after first pushed answer × (count ≡ from)
+
 -- What a greeting other than Welcome makes of a session's end.
 abbrev pub end_of_greeting : Greeting → ReaderEnd
 end_of_greeting greeting.Welcome = end.Ended
@@ -115,25 +134,28 @@ end_of_greeting greeting.Ended = end.Ended
 end_of_greeting greeting.Lost = end.Lost
 
 -- A session before its client is let go.
-pub record Untouched (old new : SourceState) (before mid : View) (first pushed : List Heard) :
-    Type 0 where
+pub record Untouched (old new : SourceState) (from count : ℕ) (before mid : View)
+    (first pushed : List Heard) : Type 0 where
   pub link : new ≡ old
+  pub counted : count ≡ from
   pub view : mid ≡ before
   pub reports : pushed ≡ first
 
 abbrev pub ReadBy :
-    Greeting → ℕ → ℕ → List ℕ → SourceState → SourceState → View → View → List Heard → List Heard →
-    ReaderEnd → Type 0
-ReadBy greeting.Welcome c here held old new before mid first pushed answer =
-    ReadsTo c here (hello_bytes here ++ held) old new before mid first pushed answer
-ReadBy (greeting.Refuse code) c here held old new before mid first pushed answer =
-    Untouched old new before mid first pushed × (answer ≡ end_of_greeting (greeting.Refuse code))
-ReadBy (greeting.Fault fault) c here held old new before mid first pushed answer =
-    Untouched old new before mid first pushed × (answer ≡ end_of_greeting (greeting.Fault fault))
-ReadBy greeting.Ended c here held old new before mid first pushed answer =
-    Untouched old new before mid first pushed × (answer ≡ end.Ended)
-ReadBy greeting.Lost c here held old new before mid first pushed answer =
-    Untouched old new before mid first pushed × (answer ≡ end.Lost)
+    Greeting → ℕ → ℕ → List ℕ → SourceState → SourceState → ℕ → ℕ → View → View → List Heard →
+    List Heard → ReaderEnd → Type 0
+ReadBy greeting.Welcome c here held old new from count before mid first pushed answer =
+    ReadsTo c here (hello_bytes here ++ held) old new from count before mid first pushed answer
+ReadBy (greeting.Refuse code) c here held old new from count before mid first pushed answer =
+    Untouched old new from count before mid first pushed
+    × (answer ≡ end_of_greeting (greeting.Refuse code))
+ReadBy (greeting.Fault fault) c here held old new from count before mid first pushed answer =
+    Untouched old new from count before mid first pushed
+    × (answer ≡ end_of_greeting (greeting.Fault fault))
+ReadBy greeting.Ended c here held old new from count before mid first pushed answer =
+    Untouched old new from count before mid first pushed × (answer ≡ end.Ended)
+ReadBy greeting.Lost c here held old new from count before mid first pushed answer =
+    Untouched old new from count before mid first pushed × (answer ≡ end.Lost)
 
 -- The answer of a session, by how the reading ended and by who let the client leave.
 abbrev pub after_leaving : ReaderEnd → Leaving → ReaderEnd

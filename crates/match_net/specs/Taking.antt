@@ -1,5 +1,5 @@
 -- How bytes are taken from a link into a feeder.
-use Rattle.std.specs.Prelude.{◌≡◌, ℕ, ◌<◌, ◌≤◌, List, [], ◌++◌, length, Option, IfSome}
+use Rattle.std.specs.Prelude.{◌≡◌, ℕ, ◌+◌, ◌<◌, ◌≤◌, List, [], ◌++◌, length, Option, IfSome}
 use Rattle.std.specs.Option.{option_map}
 use Rattle.base.specs.Cause.{Rose}
 use Rattle.game_io.specs.SourceState.{SourceState}
@@ -12,6 +12,10 @@ use Rattle.match_net.specs.declared.piece.Piece.TheVariants as piece
 -- tells its bytes. A link that told them tells them afterwards, and one that did not does not.
 abbrev pub Took : Option (List ℕ) → Option (List ℕ) → List ℕ → Type 0
 Took old new taken = old ≡ option_map (λ left. taken ++ left) new
+
+-- A count of taken bytes rose by the number of these.
+abbrev pub Counts : ℕ → ℕ → List ℕ → Type 0
+Counts old new taken = new ≡ old + length taken
 
 -- A link that tells its bytes has none left.
 abbrev pub NoneLeft : Option (List ℕ) → Type 0

@@ -2,14 +2,14 @@ ghost use Rattle.std.specs.Prelude.{◌≡◌, ◌≤◌, ◌++◌, Some, None, 
 ghost use Rattle.order_packets.specs.Feed.{unfed, answer_of};
 ghost use Rattle.order_packets.specs.PacketReading.{packet_at, up_at};
 ghost use Rattle.match_net.specs.declared.limits.TheConstants.{MAX_LINK_BYTES};
-ghost use Rattle.match_net.specs.Taking.{TookAtMost};
+ghost use Rattle.match_net.specs.Taking.{Counts, TookAtMost};
 ghost use Rattle.match_net.specs.Greeting.{greeting_of, decided, hello_bytes, Greets};
 
 use crate::greeting::Greeting;
 use crate::invite::Invite;
 use crate::limits::{MAX_LINK_BYTES, NO_HELLO, OTHER_RULES, OTHER_VERSION, VERSION};
 use crate::piece::Piece;
-use crate::taking::take_piece;
+use crate::taking::take_counted;
 use base::NoMemory;
 use game_io::Source;
 use order_packets::{Up, UpFeeder};
@@ -35,8 +35,27 @@ pub fn greet<I: Source>(
         (I.state link.new) feeder.new greeting) }
     ensures err { OnErr result (TookAtMost MAX_LINK_BYTES (I.state link.old) (I.state link.new)) }
 {
+    let mut taken = 0;
+    greet_counted(invite, feeder, link, &mut taken)
+}
+
+/// Greets a link as [`greet`] does, and adds the number of bytes that it takes to a count, which is
+/// at most [`MAX_LINK_BYTES`] before. Those that are lost where memory runs out are counted too.
+pub fn greet_counted<I: Source>(
+    invite: &Invite,
+    feeder: &mut UpFeeder,
+    link: &mut I,
+    taken: &mut u64,
+) -> Result<Greeting, NoMemory>
+    requires new { feeder.old ≡ unfed }
+    requires few { taken.old ≤ MAX_LINK_BYTES }
+    ensures greeted { IfOk result (λ greeting. (greets : Greets invite.now.rules (I.state link.old)
+        (I.state link.new) feeder.new greeting) × Counts taken.old taken.new greets.taken) }
+    ensures err { OnErr result ((took : TookAtMost MAX_LINK_BYTES (I.state link.old)
+        (I.state link.new)) × Counts taken.old taken.new took.taken) }
+{
     for _turn in 0..LONGEST_PACKET {
-        match take_piece(feeder, link, MAX_LINK_BYTES - LONGEST_PACKET) {
+        match take_counted(feeder, link, MAX_LINK_BYTES - LONGEST_PACKET, taken) {
             Ok(Piece::Some) => {}
             Ok(Piece::End) => return Ok(Greeting::Ended),
             Ok(Piece::Lost) => return Ok(Greeting::Lost),

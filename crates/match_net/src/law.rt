@@ -1,9 +1,12 @@
-ghost use Rattle.std.specs.Prelude.{◌≡◌, ◌++◌, ◌∷◌, ℕ, List, None, Ok, Some, length, take};
+ghost use Rattle.std.specs.Prelude.{◌≡◌, ◌≢◌, ◌≤◌, ◌++◌, ◌∷◌, ℕ, List, None, Ok, Option, Some};
+ghost use Rattle.std.specs.Prelude.{length, take};
+ghost use Rattle.game_io.specs.SinkState.{SinkState};
 ghost use Rattle.game_io.specs.SourceState.{SourceState};
 ghost use Rattle.frame_table.specs.declared.view.View.{View};
 ghost use Rattle.report_line.specs.declared.heard.Heard.{Heard};
 ghost use Rattle.match_net.specs.declared.read_cause.ReadCause.{ReadCause};
 ghost use Rattle.match_net.specs.Sessions.{ReadsLink, IsWholeSession};
+ghost use Rattle.game_orders.specs.declared.entry.Entry.TheVariants.{Leave};
 ghost use Rattle.game_orders.specs.declared.order.Order.{Order};
 ghost use Rattle.match_net.specs.declared.limits.TheConstants.{MAX_LINK_BYTES};
 ghost use Rattle.match_net.specs.declared.ending.Ending.{Ending};
@@ -14,9 +17,13 @@ ghost use Rattle.order_packets.specs.declared.down.Down.TheVariants as down;
 ghost use Rattle.match_net.specs.Playing.{Stage};
 ghost use Rattle.match_net.specs.Stages.{Terms, after_packets};
 ghost use Rattle.match_net.specs.CameDown.{IsFold, AreAgreed};
+ghost use Rattle.match_net.specs.PlayMatch.{PlaysAs};
+ghost use Rattle.match_net.specs.WholeMatch.{WholeMatch, IsWholeMatch, IsPlayed};
+ghost use Rattle.match_net.specs.WritesInTurn.{WritesInTurn};
 ghost use Rattle.frame_core.specs.Agreed.{IsAt};
 ghost use Rattle.frame_core.specs.Column.{Column};
 
+use crate::play_end::PlayEnd;
 use crate::reader_end::ReaderEnd;
 use frame_core::Sim;
 
@@ -76,4 +83,59 @@ pub fn a_players_world_is_the_fold<S: Sim>()
         ≡ Ok (Some now) → length columns ≡ clients → AreAgreed columns packets →
         IsAt terms.course.after (terms.made seed clients) columns now.player.peer.ticked
         now.player.peer.world }
+{}
+
+/// A law of players: the bytes that a player read determine its match, that is, the packets that it
+/// followed, how it stands after them, how the match ends, and the place of that. What a call hands
+/// back that was not `Lost` is the match of the bytes that it took. So two calls with one script
+/// that took the same bytes, and were not `Lost`, hand back the same end, client, ticked count and
+/// world. What any call followed, also one that was `Lost`, begins the match of the bytes that it
+/// took. The call does nothing.
+pub fn a_players_bytes_have_one_match<S: Sim>()
+    ensures one { (terms : Terms S) (bytes : List ℕ) (one other : WholeMatch S) →
+        IsWholeMatch terms bytes one → IsWholeMatch terms bytes other → one ≡ other }
+    ensures played { (terms : Terms S) (old new : SourceState) (before after : SinkState)
+        (answer : PlayEnd) (client frames : ℕ) (sim : Option S)
+        (plays : PlaysAs terms old new before after answer client frames sim) →
+        answer ≢ PlayEnd.Lost →
+        IsPlayed terms plays.plays.link.taken answer client frames sim }
+    ensures same { (terms : Terms S) (old new first last : SourceState)
+        (before after start stop : SinkState) (answer another : PlayEnd)
+        (client frames c f : ℕ) (sim world : Option S)
+        (plays : PlaysAs terms old new before after answer client frames sim)
+        (also : PlaysAs terms first last start stop another c f world) →
+        answer ≢ PlayEnd.Lost → another ≢ PlayEnd.Lost →
+        plays.plays.link.taken ≡ also.plays.link.taken →
+        (answer ≡ another) × (client ≡ c) × (frames ≡ f) × (sim ≡ world) }
+    ensures begins { (terms : Terms S) (old new : SourceState) (before after : SinkState)
+        (answer : PlayEnd) (client frames : ℕ) (sim : Option S) (whole : WholeMatch S)
+        (plays : PlaysAs terms old new before after answer client frames sim) →
+        IsWholeMatch terms plays.plays.link.taken whole →
+        (later : List Down) × (whole.packets ≡ plays.plays.packets ++ later) }
+{}
+
+/// A law of players: after a welcome and the entries that it followed, a player has written its
+/// greeting and then, in turn, reports and orders frame by frame, so that at each place the orders
+/// outnumber the reports by at most the lag of the welcome; its farewell, if it comes, is the last.
+/// Each report has the hash of the world after its frame. While the player has neither said
+/// farewell nor got its own departure, it has reported each frame that it ticked, and has sent the
+/// orders of its script for as many frames as its lag allows. From its own departure on, and once
+/// it has ticked every frame of its script, it writes nothing more. The call does nothing.
+pub fn a_player_writes_in_turn<S: Sim>()
+    ensures in_turn { (terms : Terms S) (client clients lag seed : ℕ) (packets : List Down)
+        (now : Stage S) →
+        after_packets terms None (down.Welcome client clients lag seed ∷ packets)
+        ≡ Ok (Some now) →
+        WritesInTurn terms (terms.made seed clients) clients lag now }
+    ensures departed { (terms : Terms S) (client clients lag seed frame : ℕ)
+        (packets later : List Down) (mid now : Stage S) →
+        after_packets terms None (down.Welcome client clients lag seed ∷ packets)
+        ≡ Ok (Some mid) →
+        after_packets terms (Some mid) (down.Entry client frame Leave ∷ later)
+        ≡ Ok (Some now) → now.said ≡ mid.said }
+    ensures finished { (terms : Terms S) (client clients lag seed : ℕ)
+        (packets later : List Down) (mid now : Stage S) →
+        after_packets terms None (down.Welcome client clients lag seed ∷ packets)
+        ≡ Ok (Some mid) → length terms.script ≤ mid.player.peer.ticked →
+        after_packets terms (Some mid) later ≡ Ok (Some now) → now.said ≡ mid.said }
 {}

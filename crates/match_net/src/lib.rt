@@ -41,12 +41,13 @@ mod sending;
 mod taking;
 mod turns;
 
-pub use first_packet::greet;
+pub use first_packet::{greet, greet_counted};
 pub use greeting::Greeting;
 pub use invite::Invite;
 pub use law::{
-    a_links_bytes_have_one_session, a_players_world_is_the_fold,
-    a_session_begins_that_of_its_bytes, an_ended_session_is_that_of_its_bytes,
+    a_links_bytes_have_one_session, a_player_writes_in_turn, a_players_bytes_have_one_match,
+    a_players_world_is_the_fold, a_session_begins_that_of_its_bytes,
+    an_ended_session_is_that_of_its_bytes,
 };
 pub use limits::{MAX_LINK_BYTES, MAX_PLAY_BYTES, NO_HELLO, OTHER_RULES, OTHER_VERSION, VERSION};
 pub use play_cause::PlayCause;
@@ -54,7 +55,7 @@ pub use play_end::PlayEnd;
 pub use played::Played;
 pub use playthrough::play_match;
 pub use read_cause::ReadCause;
-pub use reader::reader_session;
+pub use reader::{reader_session, reader_session_counted};
 pub use reader_end::ReaderEnd;
 pub use report_line::{
     Heard, Hearer, ReportEnds, Reports, report_queue, reports_of_each_client_are_heard,

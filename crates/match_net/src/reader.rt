@@ -1,10 +1,11 @@
-ghost use Rattle.std.specs.Prelude.{◌≡◌, ◌<◌, [], length};
+ghost use Rattle.std.specs.Prelude.{◌≡◌, ◌<◌, ◌≤◌, [], length};
 ghost use Rattle.frame_table.specs.Calls.{plan_of, view_of, standing, IsPassOf};
 ghost use Rattle.report_line.specs.Reports.{pushed, StaysOf};
 ghost use Rattle.match_net.specs.Greeting.{IsGreeted};
 ghost use Rattle.match_net.specs.Session.{cause_of};
 ghost use Rattle.match_net.specs.Reading.{MayPlay};
-ghost use Rattle.match_net.specs.Sessions.{ReadBy, ReadsAs, after_leaving};
+ghost use Rattle.match_net.specs.Sessions.{ReadBy, ReadsAs, CountsAs, after_leaving};
+ghost use Rattle.match_net.specs.declared.limits.TheConstants.{MAX_LINK_BYTES};
 
 use crate::greeting::Greeting;
 use crate::invite::Invite;
@@ -58,7 +59,41 @@ pub fn reader_session<I: Source, R: Wait>(
         (pushed reports.old) (pushed reports.new) result }
     ensures end { StaysOf invite.now.client reports.old reports.new }
 {
-    let end = read_as_greeted(rt, table, pass, invite, greeting, feeder, link, reports);
+    let mut taken = 0;
+    reader_session_counted(
+        rt, table, pass, invite, greeting, feeder, link, reports, &mut taken,
+    )
+}
+
+/// Reads a link as [`reader_session`] does, and adds the number of bytes that it takes to a count,
+/// which is at most [`crate::MAX_LINK_BYTES`] before. Those that are lost where memory runs out are
+/// counted too; the feeder's are not, which [`crate::greet_counted`] has counted.
+pub fn reader_session_counted<I: Source, R: Wait>(
+    rt: &R,
+    table: &FrameTable,
+    pass: &mut Pass,
+    invite: &Invite,
+    greeting: Greeting,
+    feeder: &mut UpFeeder,
+    link: &mut I,
+    reports: &mut Reports,
+    taken: &mut u64,
+) -> ReaderEnd
+    requires pass { IsPassOf table.now pass.old }
+    requires client { invite.now.client < length (plan_of table.now) }
+    requires may { MayPlay (standing pass.old invite.now.client) }
+    requires unplayed { (standing pass.old invite.now.client).known.plays ≡ [] }
+    requires greeted { IsGreeted greeting feeder.old (I.state link.old).left }
+    requires few { taken.old ≤ MAX_LINK_BYTES }
+    ensures pass { IsPassOf table.now pass.new }
+    ensures reads { CountsAs greeting invite.now.client invite.now.rules feeder.old.rest
+        (I.state link.old) (I.state link.new) taken.old taken.new (view_of pass.old)
+        (view_of pass.new) (pushed reports.old) (pushed reports.new) result }
+    ensures end { StaysOf invite.now.client reports.old reports.new }
+{
+    let end = read_as_greeted(
+        rt, table, pass, invite, greeting, feeder, link, reports, taken,
+    );
     let leaving = table.leave(rt, pass, invite.client);
     after_leaving(end, leaving)
 }
@@ -73,20 +108,22 @@ fn read_as_greeted<I: Source, R: Wait>(
     feeder: &mut UpFeeder,
     link: &mut I,
     reports: &mut Reports,
+    taken: &mut u64,
 ) -> ReaderEnd
     requires pass { IsPassOf table.now pass.old }
     requires client { invite.now.client < length (plan_of table.now) }
     requires may { MayPlay (standing pass.old invite.now.client) }
     requires unplayed { (standing pass.old invite.now.client).known.plays ≡ [] }
     requires greeted { IsGreeted greeting feeder.old (I.state link.old).left }
+    requires few { taken.old ≤ MAX_LINK_BYTES }
     ensures pass { IsPassOf table.now pass.new }
     ensures reads { ReadBy greeting invite.now.client invite.now.rules feeder.old.rest
-        (I.state link.old) (I.state link.new) (view_of pass.old) (view_of pass.new)
-        (pushed reports.old) (pushed reports.new) result }
+        (I.state link.old) (I.state link.new) taken.old taken.new (view_of pass.old)
+        (view_of pass.new) (pushed reports.old) (pushed reports.new) result }
     ensures end { StaysOf invite.now.client reports.old reports.new }
 {
     match greeting {
-        Greeting::Welcome => read_packets(rt, table, pass, invite, feeder, link, reports),
+        Greeting::Welcome => read_packets(rt, table, pass, invite, feeder, link, reports, taken),
         Greeting::Refuse { code } => ReaderEnd::Refused(cause_of(code)),
         Greeting::Fault(fault) => ReaderEnd::Refused(ReadCause::Feed(fault)),
         Greeting::Ended => ReaderEnd::Ended,

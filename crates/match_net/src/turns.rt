@@ -1,5 +1,5 @@
 //! How a link is read, packet by packet.
-ghost use Rattle.std.specs.Prelude.{◌≡◌, ◌<◌, ◌≤◌, ◌+◌, ◌-◌, ◌++◌, [], ℕ, List, None, length};
+ghost use Rattle.std.specs.Prelude.{◌≡◌, ◌<◌, ◌≤◌, ◌+◌, ◌-◌, ◌*◌, ◌++◌, [], ℕ, List, None, length};
 ghost use Rattle.frame_table.specs.Calls.{plan_of, view_of, standing, IsPassOf};
 ghost use Rattle.frame_table.specs.declared.view.View.{View};
 ghost use Rattle.game_io.specs.SourceState.{SourceState};
@@ -16,24 +16,27 @@ use crate::piece::Piece;
 use crate::read_cause::ReadCause;
 use crate::reader_end::ReaderEnd;
 use crate::reading::heed;
-use crate::taking::take_piece;
+use crate::taking::take_counted;
 use frame_table::{FrameTable, Pass};
 use game_io::Source;
 use order_packets::UpFeeder;
 use report_line::Reports;
 use std::sync::Wait;
 
-/// Takes a piece from a link, and feeds it, or answers how the reading ends with that.
-fn take_more<I: Source>(feeder: &mut UpFeeder, link: &mut I) -> Option<ReaderEnd>
+/// Takes a piece from a link, counts its bytes and feeds it, or answers how the reading ends with
+/// that.
+fn take_more<I: Source>(feeder: &mut UpFeeder, link: &mut I, taken: &mut u64) -> Option<ReaderEnd>
     requires fault { feeder.old.fault ≡ None }
     requires few { feeder.old.at + length feeder.old.rest ≤ MAX_LINK_BYTES }
-    ensures { TakesMore (I.state link.old) (I.state link.new) feeder.old feeder.new result }
+    requires counts { taken.old ≤ 2 * MAX_LINK_BYTES }
+    ensures { TakesMore (I.state link.old) (I.state link.new) taken.old taken.new feeder.old
+        feeder.new result }
 {
     let room = MAX_LINK_BYTES - (feeder.at() as usize + feeder.held());
     if room == 0 {
         return Some(ReaderEnd::Refused(ReadCause::SessionTooLong));
     }
-    match take_piece(feeder, link, room) {
+    match take_counted(feeder, link, room, taken) {
         Ok(Piece::Some) => None,
         Ok(Piece::End) => Some(ReaderEnd::Ended),
         Ok(Piece::Lost) => Some(ReaderEnd::Lost),
@@ -51,24 +54,26 @@ fn turn<I: Source, R: Wait>(
     feeder: &mut UpFeeder,
     link: &mut I,
     reports: &mut Reports,
+    taken: &mut u64,
 ) -> Option<ReaderEnd>
     requires pass { IsPassOf table.now pass.old }
     requires client { c < length (plan_of table.now) }
     requires may { MayPlay (standing pass.old c) }
     requires fault { feeder.old.fault ≡ None }
     requires few { feeder.old.at + length feeder.old.rest ≤ MAX_LINK_BYTES }
+    requires counts { taken.old ≤ 2 * MAX_LINK_BYTES }
     ensures pass { IsPassOf table.now pass.new }
-    ensures turns { (here : ℕ) (given : List ℕ) (first : SourceState) (before : View)
+    ensures turns { (here : ℕ) (given : List ℕ) (first : SourceState) (from : ℕ) (before : View)
         (start : List Heard) →
-        ReadSoFar c here given first (I.state link.old) before (view_of pass.old) start
-        (pushed reports.old) feeder.old →
-        AfterTurn c here given first (I.state link.new) before (view_of pass.new) start
-        (pushed reports.new) feeder.new result }
+        ReadSoFar c here given first (I.state link.old) from taken.old before (view_of pass.old)
+        start (pushed reports.old) feeder.old →
+        AfterTurn c here given first (I.state link.new) from taken.new before (view_of pass.new)
+        start (pushed reports.new) feeder.new result }
     ensures end { StaysOf c reports.old reports.new }
 {
     match feeder.next() {
         Ok(Some(packet)) => heed(rt, table, pass, c, packet, reports),
-        Ok(None) => take_more(feeder, link),
+        Ok(None) => take_more(feeder, link, taken),
         Err(fault) => Some(ReaderEnd::Refused(ReadCause::Feed(fault))),
     }
 }
@@ -82,6 +87,7 @@ pub(crate) fn read_packets<I: Source, R: Wait>(
     feeder: &mut UpFeeder,
     link: &mut I,
     reports: &mut Reports,
+    taken: &mut u64,
 ) -> ReaderEnd
     requires pass { IsPassOf table.now pass.old }
     requires client { invite.now.client < length (plan_of table.now) }
@@ -90,15 +96,17 @@ pub(crate) fn read_packets<I: Source, R: Wait>(
     requires at { feeder.old.at ≡ 13 }
     requires fault { feeder.old.fault ≡ None }
     requires few { length feeder.old.rest ≤ MAX_LINK_BYTES - 13 }
+    requires counts { taken.old ≤ MAX_LINK_BYTES }
     ensures pass { IsPassOf table.now pass.new }
     ensures reads { ReadsTo invite.now.client invite.now.rules
         (hello_bytes invite.now.rules ++ feeder.old.rest) (I.state link.old) (I.state link.new)
-        (view_of pass.old) (view_of pass.new) (pushed reports.old) (pushed reports.new) result }
+        taken.old taken.new (view_of pass.old) (view_of pass.new) (pushed reports.old)
+        (pushed reports.new) result }
     ensures end { StaysOf invite.now.client reports.old reports.new }
 {
     let _rules = invite.rules;
     for _ in rt.forever() {
-        if let Some(end) = turn(rt, table, pass, invite.client, feeder, link, reports) {
+        if let Some(end) = turn(rt, table, pass, invite.client, feeder, link, reports, taken) {
             return end;
         }
     }

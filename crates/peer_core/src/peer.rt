@@ -472,8 +472,8 @@ mod tests {
         );
         assert_eq!(rt; peer.seal(), Ok(0));
         assert_eq!(rt; peer.seal(), Ok(1));
+        assert_eq!(rt; peer.seal(), Err(SealFault::TooEarly));
         for n in 0..262_142 {
-            assert_eq!(rt; peer.seal(), Err(SealFault::TooEarly));
             assert_eq!(rt; deliver(&rt, &mut peer, 0, n, play())?, Delivered::Kept);
             assert_eq!(rt; peer.tick(), TickAnswer::Ticked(n));
             assert_eq!(rt; peer.seal(), Ok(n + 2));

@@ -1,4 +1,4 @@
-ghost use Rattle.std.specs.Prelude.{◌≡◌, ◌++◌, IfOk, OnOk};
+ghost use Rattle.std.specs.Prelude.{◌≡◌, ◌++◌, IfOk, OnOk, OnErr};
 ghost use Rattle.replay_file.specs.declared.limits.TheConstants.{VERSION};
 ghost use Rattle.replay_file.specs.declared.part.Part.TheVariants as part;
 ghost use Rattle.replay_file.specs.PartBytes.{end_bytes, part_bytes, FitsPart};
@@ -14,8 +14,8 @@ use std::alloc::Global;
 use std::marker::Model;
 use wire_bytes::write_u8;
 
-/// The bytes of a replay of the version that is written, part by part. After an error, which is out
-/// of memory alone, it is of no more use.
+/// The bytes of a replay of the version that is written, part by part. The one error is out of
+/// memory.
 #[derive(Drop)]
 pub struct ReplayWriter {
     bytes: Vec<u8>,
@@ -44,21 +44,33 @@ impl ReplayWriter {
         Ok(ReplayWriter { bytes })
     }
 
-    /// Adds a frame.
+    /// Adds a frame. It fails only where it is out of memory, and then nothing changes.
     pub fn push_frame(&mut self, frame: &Frame) -> Result<(), NoMemory>
         ensures added { OnOk result (self.new ≡ self.old ++ part_bytes (part.Frame frame.now)) }
+        ensures err { OnErr result (self.new ≡ self.old) }
         ensures fits { FitsPart (part.Frame frame.now) }
     {
         frame_fits(frame);
-        append_frame(&mut self.bytes, frame)
+        let start = self.bytes.len();
+        let added = append_frame(&mut self.bytes, frame);
+        if added.is_err() {
+            self.bytes.truncate(start);
+        }
+        added
     }
 
-    /// Adds a mark.
+    /// Adds a mark. It fails only where it is out of memory, and then nothing changes.
     #[tactic(auto, unfolding(crate::specs::PartBytes::part_bytes))]
     pub fn push_mark(&mut self, hash: u64) -> Result<(), NoMemory>
-        ensures { OnOk result (self.new ≡ self.old ++ part_bytes (part.Mark hash)) }
+        ensures added { OnOk result (self.new ≡ self.old ++ part_bytes (part.Mark hash)) }
+        ensures err { OnErr result (self.new ≡ self.old) }
     {
-        append_mark(&mut self.bytes, hash)
+        let start = self.bytes.len();
+        let added = append_mark(&mut self.bytes, hash);
+        if added.is_err() {
+            self.bytes.truncate(start);
+        }
+        added
     }
 
     /// Adds the end, and returns all bytes.

@@ -363,6 +363,19 @@ fn a_small_file_changed_and_cut(rt: HostRuntime) -> Result<(), Fail> {
     Ok(())
 }
 
+/// In the first version the frame after 65,536 is refused at its own place, after 19 bytes of the
+/// header and three of each frame.
+#[test]
+fn most_frames_of_the_first_version(rt: HostRuntime) -> Result<(), Fail> {
+    let alloc = rt.alloc();
+    let mut bytes = file_of(alloc, 1, "0700000001")?;
+    for _ in 0..65_537 {
+        bytes.extend_from_slice(&[1, 1, 0])?;
+    }
+    bytes.push(0)?;
+    assert_read(&rt, alloc, &bytes, BARE, "BadRecord", 196_627)
+}
+
 /// Two parts pushed one after the other are gone over in order.
 #[test]
 fn parts_in_order(rt: HostRuntime) -> Result<(), Fail> {

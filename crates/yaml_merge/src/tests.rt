@@ -1,7 +1,7 @@
-//! No files, and a list that is too large for a case. All other files with what is printed of them,
-//! or with their fault, are recorded command lines in the crate `case_runs`.
+//! No files, a list that is too large for a case, and the limit of a forest. All other files with
+//! what is printed of them, or with their fault, are recorded command lines in the crate `case_runs`.
 
-use crate::resolve;
+use crate::{MAX_FOREST_NODES, resolve};
 use std::alloc::{AllocError, Global};
 use std::test::Fail;
 use yaml_lines::{Forest, parse, print};
@@ -48,4 +48,10 @@ fn large_lists(rt: HostRuntime) -> Result<(), Fail> {
     let fault = fault_of(rt.alloc(), text.as_str())?;
     assert!(rt; fault == Some(("TooLarge", 18)));
     Ok(())
+}
+
+/// A forest of the most nodes would take too long to make, so the limit itself is compared.
+#[test]
+fn most_nodes(rt: HostRuntime) {
+    assert_eq!(rt; MAX_FOREST_NODES, 2_097_152);
 }

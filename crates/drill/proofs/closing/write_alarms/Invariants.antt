@@ -1,7 +1,7 @@
 -- What is added so far and what is left are together the whole.
 use Rattle.std.proofs.Common.{◌≡◌, ◌++◌, drop, string_bytes}
 use Rattle.drill.specs.Report.{alarm_lines}
-use Rattle.drill.proofs.closing.add_alarms.Given as goal
+use Rattle.drill.proofs.closing.write_alarms.Given as goal
 
 abbrev pub invariant-loop-c : goal.invariant-loop-c
 invariant-loop-c l =

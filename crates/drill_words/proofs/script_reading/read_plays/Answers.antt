@@ -1,4 +1,4 @@
-use Rattle.std.proofs.Common.{◌≡◌, Ok, Err, sym, inr, arith}
+use Rattle.std.proofs.Common.{◌≡◌, Ok, Err, inr, arith}
 use Rattle.std.proofs.lemmas.Result.{err_from_is_err_and}
 use Rattle.drill_words.specs.Script.{play_on}
 use Rattle.drill_words.proofs.ScriptLemmas.{read_none, read_more, read_fault, read_all, room_left, as_many}

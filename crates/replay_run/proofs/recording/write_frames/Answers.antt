@@ -16,7 +16,7 @@ loop-n-preserved g c =
       frame_written c.args.server.now.columns c.args.server.now.marks c.loop-n.n c.frame.result
           c.mark_at.result c.loop-n.writer c.push_frame.new.self c.push_mark.new.self
           c.args.writer.now c.loop-n.invariant.0 c.in_ok-push_frame.ensures.added
-          c.in_ok-push_mark.ensures frame mark,
+          c.in_ok-push_mark.ensures.added frame mark,
       frame_fits_too c.args.server.now.columns c.args.server.now.marks c.loop-n.n c.frame.result
           c.mark_at.result c.loop-n.invariant.1 c.push_frame.ensures.fits c.mark_at.ensures.fits
           frame mark,

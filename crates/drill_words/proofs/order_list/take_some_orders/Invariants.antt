@@ -3,7 +3,7 @@ use Rattle.std.proofs.Common.{◌≡◌, ◌-◌, length}
 use Rattle.game_orders.specs.declared.limits.TheConstants.{MAX_ORDERS}
 use Rattle.drill_words.specs.OrderList.{orders_from}
 use Rattle.drill_words.proofs.OrderListLemmas.{prefixed_orders}
-use Rattle.drill_words.proofs.order_list.take_orders_into.Given as goal
+use Rattle.drill_words.proofs.order_list.take_some_orders.Given as goal
 
 abbrev pub invariant-loop-room : goal.invariant-loop-room
 invariant-loop-room l =

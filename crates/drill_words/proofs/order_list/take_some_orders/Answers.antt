@@ -2,17 +2,15 @@ use Rattle.std.proofs.Common.{◌≡◌, ◌+◌, ◌++◌, ◌∷◌, [], Ok, s
 use Rattle.std.specs.Str.{bytes_eq}
 use Rattle.std.proofs.lemmas.List.{length_push}
 use Rattle.game_orders.specs.declared.limits.TheConstants.{MAX_ORDERS}
-use Rattle.drill_words.specs.EventLineLemmas.{orders_at-some}
 use Rattle.drill_words.proofs.OrderListLemmas.{read-more, read-last, read-separator, pushed}
-use Rattle.drill_words.proofs.order_list.take_orders_into.Goals as goal
+use Rattle.drill_words.proofs.order_list.take_some_orders.Goals as goal
 
 -- The line ends after an order.
 pub returns-in-None : goal.returns-in-None
 returns-in-None c =
     let added : c.try_push.new.self ≡ c.loop-room.orders ++ c.in_ok-order.order ∷ [] =
     pushed _ _ _ c.try_push.ensures.room (omega arith) c.try_push.ensures.added in
-    orders_at-some c.args.cursor.now (sym c.is_done.ensures ∙ c.if-is_done.false)
-    ∙ sym c.loop-room.invariant.whole
+    sym c.loop-room.invariant.whole
     ∙ read-last MAX_ORDERS c.loop-room._room c.loop-room.orders c.loop-room.cursor _ _ _ _ (omega arith) c.in_ok-word.ensures c.in_ok-order.ensures
     c.in-None.ensures.0
     ∙ ap₂ (λ orders words. Ok (orders, words)) (sym added) (sym c.in-None.ensures.1)
@@ -20,11 +18,10 @@ returns-in-None c =
 -- Another word than `;` follows an order.
 pub returns-in-Some-2 : goal.returns-in-Some-2
 returns-in-Some-2 c =
-    orders_at-some c.args.cursor.now (sym c.is_done.ensures ∙ c.if-is_done.false)
-    ∙ sym c.loop-room.invariant.whole
+    sym c.loop-room.invariant.whole
     ∙ read-separator MAX_ORDERS c.loop-room._room c.loop-room.orders c.loop-room.cursor _ _ _ _ _ _ (omega arith) c.in_ok-word.ensures
     c.in_ok-order.ensures c.in-Some.ensures
-    (ap (bytes_eq c.in-Some.word.now) (sym c.as_slice.ensures) ∙ sym c.eq.ensures ∙ c.if-eq.false)
+    (ap (bytes_eq c.in-Some.word.now) (sym c.as_slice.ensures) ∙ sym c.is_text.ensures ∙ c.if-is_text.false)
 
 -- One more order, and `;`.
 pub loop-room-preserved : goal.loop-room-preserved
@@ -34,7 +31,7 @@ loop-room-preserved c =
     rw added (
     record {
       whole = read-more MAX_ORDERS c.loop-room._room c.loop-room.orders c.loop-room.cursor _ _ _ _ _ _ (omega arith) c.in_ok-word.ensures
-          c.in_ok-order.ensures c.in-Some.ensures (ap (bytes_eq c.in-Some.word.now) (sym c.as_slice.ensures) ∙ sym c.eq.ensures ∙ c.if-eq.true)
+          c.in_ok-order.ensures c.in-Some.ensures (ap (bytes_eq c.in-Some.word.now) (sym c.as_slice.ensures) ∙ sym c.is_text.ensures ∙ c.if-is_text.true)
           ∙ c.loop-room.invariant.whole;
       count = length_push c.loop-room.orders c.in_ok-order.order ∙ ap (λ n. n + 1) c.loop-room.invariant.count;
     }

@@ -2,7 +2,7 @@
 use Rattle.std.proofs.Common.{◌≡◌, ◌+◌, drop}
 use Rattle.std.specs.List.{prefix_len}
 use Rattle.drill_words.specs.Words.{is_blank}
-use Rattle.drill_words.proofs.word_cursor.leading_blanks.Given as goal
+use Rattle.drill_words.proofs.words.leading_blanks.Given as goal
 
 abbrev pub invariant-loop-index : goal.invariant-loop-index
 invariant-loop-index l = l.index + prefix_len is_blank (drop l.index l.line) ≡ prefix_len is_blank l.line

@@ -1,5 +1,0 @@
-use Rattle.match_net.proofs.GreetingLemmas.{Waiting}
-use Rattle.match_net.proofs.first_packet.greet.Given as goal
-
-abbrev pub invariant-loop-turn : goal.invariant-loop-turn
-invariant-loop-turn g l = Waiting (g.I.Source.state l.fn.link) (g.I.Source.state l.link) l.feeder l._turn
