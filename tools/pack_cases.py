@@ -6,9 +6,12 @@ usage: pack_cases.py FOLDER .. > FILE
 Each FOLDER is a case, called after its folder. In it are
 
     args            the arguments, one a line
-    files/          the files that are there before
+    files/          the files that are there before; a % in a name stands for a /
     expect-files/   those that must have been written
+    gone            the names of those that must not be there after, one a line
     console         what the console gives (nothing without it)
+    fails           a line `PART CALL REMAINS` for each call that is to fail, as `files 0 old`; or
+                    `link I takes CALL REMAINS` and `link I puts ..` for one of a link
     stdout          what must be printed
     status          the status (0 without it)
     world           the world that the server of a drill must be left in, field by field
@@ -16,10 +19,18 @@ Each FOLDER is a case, called after its folder. In it are
 
 A case `ref-hash` is a drill whose `stdout` may go on with that world. `ref-serve` and `ref-play`
 are a server and a player over links: link i gives the bytes of the file of the i-th `--link`. Their
-`stdout` goes on with what must be written. For a server this is a line for each link: `sent columns
-N ..` (the welcome, and then of each column so many plays of its link and the departure), `sent
-refused CODE` or `sent nothing`; for a player `wrote HEX`, or `wrote beside reports HEX` of what it
-writes without its reports, or no line where it is to write nothing.
+`stdout` goes on with what must be written, unless a file `sent` beside it has these lines. For a
+server there is one for each link:
+
+    sent columns N ..    the welcome, and of each column so many plays of its link, and a departure
+    sent refused CODE    the refusal
+    sent nothing
+    sent bytes HEX
+
+and for a player one, or none where it must write nothing:
+
+    wrote HEX
+    wrote beside reports HEX    what it must write without its reports
 """
 import os
 import sys
@@ -39,7 +50,7 @@ def content_or(path, other):
 
 def files_in(folder):
     names = sorted(os.listdir(folder)) if os.path.isdir(folder) else []
-    return [(name, content(os.path.join(folder, name))) for name in names]
+    return [(name.replace("%", "/"), content(os.path.join(folder, name))) for name in names]
 
 
 def number(value, length):
@@ -82,16 +93,19 @@ def option(words, name, default):
 
 
 def sent_by_server(words, client, links, told):
-    """What a server must write to a link, one column after another."""
+    """What a server must write to a link, one column after another, with its kind."""
     if told[0] == b"nothing":
-        return b""
+        return b"sent", b""
+    if told[0] == b"bytes":
+        return b"sent", bytes.fromhex(told[1].decode())
     if told[0] == b"refused":
-        return packet(bytes([REFUSED, int(told[1])]))
+        return b"sent", packet(bytes([REFUSED, int(told[1])]))
     lengths = [int(length) for length in told[1:]]
     clients, lag = option(words, "--clients", None), option(words, "--lag", 2)
     seed = number(option(words, "--seed", 1), 4)
     welcome = packet(bytes([WELCOME, client, clients, lag]), seed)
-    return welcome + b"".join(column(*each) for each in zip(range(clients), links, lengths))
+    columns = [column(*each) for each in zip(range(clients), links, lengths)]
+    return b"columns", welcome + b"".join(columns)
 
 
 def without_links(words):
@@ -112,15 +126,17 @@ def sized(kind, data, name=b""):
     return b"%s %d%s\n%s\n" % (kind, len(data), name and b" " + name, data)
 
 
-def sent(words, links, text):
-    """What is printed of this text, and what must be written to each link, with its kind."""
+def sent(words, links, text, lines):
+    """What is printed of this text, and what must be written to each link, with its kind. It is
+    said by these lines, or where there are none by those that the text goes on with."""
     if not links:
         return text, []
+    start = b"sent" if words[0] == "serve" else b"wrote"
+    printed, told = split_text(text, start)
+    if lines is not None:
+        printed, told = text, split_text(lines, start)[1]
     if words[0] == "serve":
-        printed, told = split_text(text, b"sent")
-        clients = range(len(links))
-        return printed, [(b"columns", sent_by_server(words, i, links, told[i])) for i in clients]
-    printed, told = split_text(text, b"wrote")
+        return printed, [sent_by_server(words, i, links, told[i]) for i in range(len(links))]
     kind = b"beside-reports" if told and told[0][:-1] else b"sent"
     return printed, [(kind, bytes.fromhex(told[0][-1].decode()) if told else b"")]
 
@@ -153,6 +169,11 @@ def without_world(text):
     return (report + end, rest) if end else (text.removesuffix(b"\n") + b"\n", b"")
 
 
+def failing(lines, start):
+    """The lines of those calls that are to fail whose lines begin so."""
+    return [b"fails %s\n" % line.removeprefix(start) for line in lines if line.startswith(start)]
+
+
 def packed(folder):
     """The lines of one case."""
     words, names = without_links(words_in(folder))
@@ -169,13 +190,19 @@ def packed(folder):
             yield sized(b"file", data, name.encode())
     for name, data in files_in(f"{folder}/expect-files"):
         yield sized(b"written", data, name.encode())
-    for data in links:
+    for name in content_or(f"{folder}/gone", b"").splitlines():
+        yield b"gone %s\n" % name
+    fails = content_or(f"{folder}/fails", b"").splitlines()
+    for i, data in enumerate(links):
         yield sized(b"link", data)
+        yield from failing(fails, b"link %d " % i)
     console = content_or(f"{folder}/console", b"")
     if console:
         yield sized(b"console", console)
+    yield from failing([line for line in fails if not line.startswith(b"link ")], b"")
     for way in endings_in(folder):
-        text, written = sent(words, links, content(f"{way}/stdout"))
+        lines = content_or(f"{way}/sent", None)
+        text, written = sent(words, links, content(f"{way}/stdout"), lines)
         if is_hashed:
             text, rest = without_world(text)
             world = rest or world

@@ -1,8 +1,11 @@
 use crate::case::Case;
 use crate::case_file::CaseFile;
+use crate::case_link::CaseLink;
 use crate::ending::Ending;
+use crate::failing::{Failing, failing_call};
 use crate::read_fault::ReadFault;
 use crate::sent::Sent;
+use game_io::FailingCall;
 use std::alloc::Global;
 
 /// Reads the cases of a file one by one. Each is a line `case NAME`, and then lines
@@ -10,8 +13,12 @@ use std::alloc::Global;
 /// - `word WORD`, an argument;
 /// - `file LENGTH NAME` and so many bytes, a file that is there before;
 /// - `written LENGTH NAME` and so many bytes, a file that must be there after;
+/// - `gone NAME`, a file that must not be there after;
 /// - `link LENGTH` and so many bytes, what the next link gives;
 /// - `console LENGTH` and so many bytes, what the console gives;
+/// - `fails PART CALL REMAINS`, a call that is to fail, by its number from 0 among those of `files`,
+///   `output`, `net`, `console`, or of the last link the `takes` or the `puts`; REMAINS, `old`,
+///   `nothing` or a number of bytes, says what remains of what it was to write;
 /// - `status N`, with which a way begins in which the case may end;
 /// - `text LENGTH` and so many bytes, what must then be printed;
 /// - `sent LENGTH` and so many bytes, what must then have been written to the next link;
@@ -48,8 +55,10 @@ impl<'a> CaseReader<'a> {
             words,
             files: Vec::new(alloc),
             written: Vec::new(alloc),
+            gone: Vec::new(alloc),
             links: Vec::new(alloc),
             console: &[],
+            failing: Failing::none(alloc),
             endings: Vec::new(alloc),
             world: None,
         };
@@ -71,7 +80,9 @@ impl<'a> CaseReader<'a> {
             "word" => case.words.push(String::from_str(alloc, of)?)?,
             "file" => case.files.push(self.file(of)?)?,
             "written" => case.written.push(self.file(of)?)?,
-            "link" => case.links.push(self.bytes(of)?)?,
+            "gone" => case.gone.push(of)?,
+            "link" => case.links.push(first_link(alloc, self.bytes(of)?))?,
+            "fails" => add_failing(case, of)?,
             "console" => case.console = self.bytes(of)?,
             "status" => case.endings.push(first_ending(alloc, of)?)?,
             "world" => case.world = Some(self.bytes(of)?),
@@ -114,6 +125,46 @@ impl<'a> CaseReader<'a> {
             _ => Err(ReadFault::NoCase),
         }
     }
+}
+
+/// A link that gives these bytes, of which no call is to fail.
+fn first_link<'a>(alloc: Global, bytes: &'a [u8]) -> CaseLink<'a> {
+    CaseLink {
+        bytes,
+        takes: Vec::new(alloc),
+        puts: Vec::new(alloc),
+    }
+}
+
+/// Adds a call that is to fail to those of a case.
+fn add_failing<'a>(case: &mut Case<'a>, of: &str) -> Result<(), ReadFault> {
+    let Some((part, text)) = of.split_once(' ') else {
+        return Err(ReadFault::NoCase);
+    };
+    let Some(call) = failing_call(text) else {
+        return Err(ReadFault::NoCase);
+    };
+    match part {
+        "files" => case.failing.files.push(call)?,
+        "output" => case.failing.output.push(call)?,
+        "net" => case.failing.net.push(call)?,
+        "console" => case.failing.console.push(call)?,
+        _ => add_to_link(case, part, call)?,
+    }
+    Ok(())
+}
+
+/// Adds a call that is to fail to those of the last link of a case.
+fn add_to_link<'a>(case: &mut Case<'a>, part: &str, call: FailingCall) -> Result<(), ReadFault> {
+    let Some(link) = case.links.last_mut() else {
+        return Err(ReadFault::NoCase);
+    };
+    match part {
+        "takes" => link.takes.push(call)?,
+        "puts" => link.puts.push(call)?,
+        _ => return Err(ReadFault::NoCase),
+    }
+    Ok(())
 }
 
 /// An ending with this status, in which nothing is printed or sent.

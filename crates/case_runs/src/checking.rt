@@ -102,6 +102,9 @@ fn is_left(disk: &MemDisk, case: &Case<'_>) -> bool {
 
 /// What a file must hold after the run, if it must be there.
 fn content<'a>(name: &str, case: &Case<'a>) -> Option<&'a [u8]> {
+    if case.gone.iter().any(|gone| *gone == name) {
+        return None;
+    }
     let written = case.written.iter();
     let mut both = written.chain(case.files.iter());
     let file = both.find(|file| file.name == name)?;

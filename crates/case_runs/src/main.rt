@@ -4,9 +4,11 @@
 
 mod case;
 mod case_file;
+mod case_link;
 mod case_reader;
 mod checking;
 mod ending;
+mod failing;
 mod left;
 mod packets;
 mod read_fault;

@@ -1,13 +1,15 @@
+ghost use Rattle.std.specs.Prelude.{◌≡◌, []};
+
 use crate::case::Case;
 use crate::left::Left;
 use base::NoMemory;
-use game_io::{MemSink, NoGate};
+use game_io::{MemDisk, MemNet, MemSink, MemSource, NoGate};
 use match_commands::{may_wait, run, run_waiting};
 use std::alloc::Global;
 use std::sync::Wait;
 use std::thread::Threads;
 
-/// Runs the command line of a case, by the top call that has its command.
+/// Runs the command line of a case.
 pub fn run_case<R: Threads + Wait + Sync>(
     rt: &R,
     alloc: Global,
@@ -15,27 +17,33 @@ pub fn run_case<R: Threads + Wait + Sync>(
 ) -> Result<Left, NoMemory> {
     let words = case.words.as_slice();
     let mut disk = case.disk(alloc)?;
-    let mut out = MemSink::new(alloc, Vec::new(alloc));
+    let mut out = case.output(alloc)?;
     let mut net = case.net(alloc)?;
-    let mut console = case.console(alloc)?;
-    let status = if may_wait(words) {
-        run_waiting(
-            rt,
-            alloc,
-            words,
-            &mut disk,
-            &mut out,
-            &mut net,
-            &mut console,
-            &NoGate,
-        )
-    } else {
-        run(alloc, words, &mut disk, &mut out)
-    };
+    let console = case.console(alloc)?;
+    let status = run_words(rt, alloc, words, &mut disk, &mut out, &mut net, console);
     Ok(Left {
         status,
         out,
         disk,
         net,
     })
+}
+
+/// Runs a command line, by the top call that has its command. The net has given no link.
+fn run_words<R: Threads + Wait + Sync>(
+    rt: &R,
+    alloc: Global,
+    words: &[String],
+    disk: &mut MemDisk,
+    out: &mut MemSink,
+    net: &mut MemNet,
+    mut console: MemSource,
+) -> u8
+    requires { net.old.given ≡ [] }
+{
+    if may_wait(words) {
+        run_waiting(rt, alloc, words, disk, out, net, &mut console, &NoGate)
+    } else {
+        run(alloc, words, disk, out)
+    }
 }
