@@ -28,9 +28,10 @@ pub record ServesOut {W : Type 0} (of_match : Match W) (invite : Invite) (status
   pub pass : Pass
   pub board : BoardState
   pub ends : List LinkEnd
+  pub taken : List ℕ
   pub serves :
       ServesMatch of_match invite old.coming console_old console_new new world steps table pass
-      board ends
+      board ends taken
   pub prints :
       MayPrintReply
       (served_reply of_match.hash of_match.summary (columns_of pass) ends world board)

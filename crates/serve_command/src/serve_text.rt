@@ -42,6 +42,7 @@ pub(crate) fn served_answer<S: Sim, R: Wait>(
         pass,
         board,
         ends,
+        taken: _,
     } = served;
     let columns = table.close(rt, pass);
     let text = lines(alloc, &columns, ends.as_slice(), &sim, &board)?;

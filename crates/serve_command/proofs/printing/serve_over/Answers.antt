@@ -17,6 +17,7 @@ returns-in-Ok-serve_match-clause-serves g c =
       pass = served.pass;
       board = served.board;
       ends = served.ends;
+      taken = served.taken;
       serves = serves;
       prints = made_prints c.served_answer.result
           (served_reply g.M.World.Sim.hash_of g.M.World.Sim.summary_of (columns_of served.pass) served.ends served.sim served.board)
