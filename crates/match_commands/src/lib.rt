@@ -11,6 +11,8 @@
 mod command;
 mod hosting;
 mod linking;
+#[cfg(test)]
+mod loopback_tests;
 mod making;
 mod numbers;
 mod preparing;

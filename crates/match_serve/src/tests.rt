@@ -1,4 +1,7 @@
 //! Matches over links in memory.
+mod held;
+mod kicked;
+
 use super::*;
 use frame_core::{Sim, Tally};
 use game_io::{MemNet, MemSource};

@@ -1,0 +1,227 @@
+//! A link that gives nothing more until its client was let go.
+ghost use Rattle.std.specs.Prelude.{◌≡◌, ◌^◌, IfOk, []};
+ghost use Rattle.frame_table.specs.Calls.{view_of};
+ghost use Rattle.game_io.specs.PlannedBytes.{sink_state, source_state};
+ghost use Rattle.game_io.specs.PlannedLinks.{net_state};
+
+use crate::tests::INVITE;
+use crate::{LinkEnd, Served, serve_match};
+use frame_core::Tally;
+use game_io::{
+    Failed, FailingCall, MAX_HOLD_TURNS, MemNet, MemSink, MemSource, Net, Remains, Sink, Source,
+};
+use std::alloc::Global;
+use std::sync::Wait;
+use std::sync::atomic::{AtomicBool, Ordering};
+use std::test::Fail;
+use std::thread;
+use std::thread::Threads;
+
+/// What the halves of a held link share: whether the departure of client 1 at frame 0 was put into
+/// its sink, and whether the turns have ended in which its source waits for that.
+#[derive(Drop)]
+struct Hold {
+    let_go: AtomicBool,
+    ended: AtomicBool,
+}
+
+impl Hold {
+    fn new() -> Hold {
+        Hold {
+            let_go: AtomicBool::new(false),
+            ended: AtomicBool::new(false),
+        }
+    }
+
+    /// Waits for the departure, at most [`MAX_HOLD_TURNS`] turns.
+    fn wait(&self) {
+        for _turn in 0..MAX_HOLD_TURNS {
+            if self.let_go.load(Ordering::SeqCst) {
+                return;
+            }
+            thread::yield_now();
+        }
+        self.ended.store(true, Ordering::SeqCst);
+    }
+}
+
+/// The source of a link. If the link is held, it does not end before the hold does.
+#[derive(Drop)]
+struct HeldSource<'a> {
+    source: MemSource,
+    hold: Option<&'a Hold>,
+}
+
+impl<'a> Source for HeldSource<'a> {
+    ghost state = { λ held. source_state held.source };
+
+    fn faults(&self) -> u64 {
+        self.source.faults()
+    }
+
+    fn take(&mut self, into: &mut [u8]) -> Result<usize, Failed> {
+        if let Some(hold) = self.hold {
+            if self.source.left().is_empty() {
+                hold.wait();
+            }
+        }
+        self.source.take(into)
+    }
+}
+
+/// The sink of a link. If the link is held, the departure of client 1 at frame 0 ends the hold.
+#[derive(Drop)]
+struct HeldSink<'a> {
+    sink: MemSink,
+    hold: Option<&'a Hold>,
+}
+
+/// The departure of client 1 at frame 0, as a packet.
+const DEPARTURE: &[u8] = b"\x06\x00\x14\x01\x00\x00\x00\x00";
+
+impl<'a> Sink for HeldSink<'a> {
+    ghost state = { λ held. sink_state held.sink };
+
+    fn faults(&self) -> u64 {
+        self.sink.faults()
+    }
+
+    fn put(&mut self, piece: &[u8]) -> Result<(), Failed> {
+        let put = self.sink.put(piece);
+        if let Some(hold) = self.hold {
+            if self.sink.bytes().ends_with(DEPARTURE) {
+                hold.let_go.store(true, Ordering::SeqCst);
+            }
+        }
+        put
+    }
+}
+
+/// Links in memory, of which link 1 is held.
+#[derive(Drop)]
+struct HeldNet<'a> {
+    net: MemNet,
+    hold: &'a Hold,
+}
+
+impl<'a> HeldNet<'a> {
+    /// The hold of the next link, if it is held.
+    fn next_hold(&self) -> Option<&'a Hold> {
+        if self.net.links() == 1 {
+            Some(self.hold)
+        } else {
+            None
+        }
+    }
+}
+
+impl<'a> Net for HeldNet<'a> {
+    type In = HeldSource<'a>;
+
+    type Out = HeldSink<'a>;
+
+    ghost state = { λ held. net_state held.net };
+
+    fn faults(&self) -> u64 {
+        self.net.faults()
+    }
+
+    fn links(&self) -> u32 {
+        self.net.links()
+    }
+
+    fn listen(&mut self, at: &str) -> Result<(), Failed> {
+        self.net.listen(at)
+    }
+
+    fn accept(&mut self) -> Result<(HeldSource<'a>, HeldSink<'a>), Failed> {
+        let hold = self.next_hold();
+        let (source, sink) = self.net.accept()?;
+        Ok((HeldSource { source, hold }, HeldSink { sink, hold }))
+    }
+
+    fn dial(&mut self, at: &str) -> Result<(HeldSource<'a>, HeldSink<'a>), Failed> {
+        let hold = self.next_hold();
+        let (source, sink) = self.net.dial(at)?;
+        Ok((HeldSource { source, hold }, HeldSink { sink, hold }))
+    }
+
+    fn take_back(&mut self, i: u32, input: HeldSource<'a>, output: HeldSink<'a>) {
+        self.net.take_back(i, input.source, output.sink);
+    }
+
+    fn link_faults(&self, i: u32) -> u64 {
+        self.net.link_faults(i)
+    }
+}
+
+/// The bytes of a link whose client greets.
+const HELLO: &[u8] = b"\x0b\x00\x01\x02\x00\xdf\xb7\x01\x86\x4c\xbd\x63\xaf";
+
+/// The bytes of a link whose client greets and says farewell.
+const HELLO_AND_BYE: &[u8] = b"\x0b\x00\x01\x02\x00\xdf\xb7\x01\x86\x4c\xbd\x63\xaf\x01\x00\x04";
+
+/// Links whose clients greet, and of which the first says farewell. These puts of the first fail.
+fn two_links(alloc: Global, puts: Vec<FailingCall>) -> Result<MemNet, Fail>
+    ensures { IfOk result (λ net. net.given ≡ []) }
+{
+    let mut net = MemNet::new(alloc, Vec::new(alloc));
+    net.add(
+        Vec::from_slice(alloc, HELLO_AND_BYE)?,
+        Vec::new(alloc),
+        puts,
+    )?;
+    net.add(
+        Vec::from_slice(alloc, HELLO)?,
+        Vec::new(alloc),
+        Vec::new(alloc),
+    )?;
+    Ok(net)
+}
+
+/// Serves the match while the console kicks client 1. The pass that is handed back has the whole
+/// share.
+fn serve_held<R: Threads + Wait + Sync>(
+    rt: &R,
+    alloc: Global,
+    net: &mut HeldNet<'_>,
+) -> Result<Served<Tally>, Fail>
+    requires { net.old.net.given ≡ [] }
+    ensures whole { IfOk result (λ served. (view_of served.pass).share ≡ 2 ^ 62) }
+{
+    let mut console = MemSource::new(Vec::from_slice(alloc, b"kick 1\n")?, Vec::new(alloc));
+    match serve_match(rt, alloc, &INVITE, "here", Tally::new(), net, &mut console) {
+        Ok(served) => Ok(served),
+        Err(_) => Err(Fail::new("the match is not served")),
+    }
+}
+
+/// The last put to the first link, which has the welcome and two departures, fails or none does; and
+/// how often that link has then failed.
+const FAILING: [(Option<Remains>, u64); 2] = [(None, 0), (Some(Remains::Prefix(3)), 1)];
+
+/// With a server that does not kick, the turns end.
+#[test]
+fn a_held_link(rt: HostRuntime) -> Result<(), Fail> {
+    for (remains, faults) in FAILING {
+        let hold = Hold::new();
+        let mut puts = Vec::new(rt.alloc());
+        if let Some(remains) = remains {
+            puts.push(FailingCall { call: 2, remains })?;
+        }
+        let mut net = HeldNet {
+            net: two_links(rt.alloc(), puts)?,
+            hold: &hold,
+        };
+        let served = serve_held(&rt, rt.alloc(), &mut net)?;
+        let ends = [LinkEnd::Ended, LinkEnd::Kicked(0)];
+        assert_eq!(rt; served.ends.as_slice(), ends.as_slice());
+        assert_eq!(rt; (net.link_faults(0), net.link_faults(1)), (faults, 0));
+        assert_eq!(rt;
+            (net.net.left(0), net.net.left(1)),
+            (Some(b"".as_slice()), Some(b"".as_slice()))
+        );
+        assert!(rt; !hold.ended.load(Ordering::SeqCst));
+    }
+    Ok(())
+}

@@ -1,0 +1,120 @@
+//! A client that plays while the console kicks it.
+ghost use Rattle.std.specs.Prelude.{◌≡◌, IfOk, [], length};
+ghost use Rattle.frame_table.specs.Calls.{plan_of, IsPassOf};
+
+use crate::tests::INVITE;
+use crate::{LinkEnd, Served, serve_match};
+use frame_core::Tally;
+use game_io::{MemNet, MemSource};
+use std::alloc::{AllocError, Global};
+use std::sync::Wait;
+use std::test::Fail;
+use std::thread::Threads;
+
+/// The bytes of a link whose client greets and plays the frames 0 to 4.
+const FIVE_FRAMES: &[u8] =
+    b"\x0b\x00\x01\x02\x00\xdf\xb7\x01\x86\x4c\xbd\x63\xaf\x06\x00\x02\x00\x00\x00\x00\x00\x06\x00\x02\x01\x00\x00\x00\x00\x06\x00\x02\x02\x00\x00\x00\x00\x06\x00\x02\x03\x00\x00\x00\x00\x06\x00\x02\x04\x00\x00\x00\x00";
+
+/// The farewell.
+const BYE: &[u8] = b"\x01\x00\x04";
+
+/// True of a packet to a client that tells a play or the departure of client 1.
+fn is_of_client_1(packet: &[u8]) -> bool {
+    packet.len() > 3 && (packet[2] == 0x13 || packet[2] == 0x14) && packet[3] == 1
+}
+
+/// The packets among these that tell the plays and the departure of client 1.
+fn told_of_client_1(alloc: Global, written: &[u8]) -> Result<Vec<u8>, AllocError> {
+    let mut told = Vec::new(alloc);
+    let mut rest = written;
+    for _packet in 0..written.len() {
+        let Some(size) = rest.first() else {
+            break;
+        };
+        let size = usize::from(*size) + 2;
+        if rest.len() < size {
+            break;
+        }
+        let (packet, after) = rest.split_at(size);
+        if is_of_client_1(packet) {
+            told.extend_from_slice(packet)?;
+        }
+        rest = after;
+    }
+    Ok(told)
+}
+
+/// The packets that tell so many plays of client 1, each without orders, and then its departure.
+fn column_packets(alloc: Global, plays: u8) -> Result<Vec<u8>, AllocError> {
+    let mut packets = Vec::new(alloc);
+    for n in 0..plays {
+        packets.extend_from_slice(&[7, 0, 0x13, 1, n, 0, 0, 0, 0])?;
+    }
+    packets.extend_from_slice(&[6, 0, 0x14, 1, plays, 0, 0, 0])?;
+    Ok(packets)
+}
+
+/// The links of the match: both clients play five frames, and the first says farewell.
+fn two_links(alloc: Global) -> Result<MemNet, AllocError>
+    ensures { IfOk result (λ net. net.given ≡ []) }
+{
+    let mut first = Vec::from_slice(alloc, FIVE_FRAMES)?;
+    first.extend_from_slice(BYE)?;
+    let second = Vec::from_slice(alloc, FIVE_FRAMES)?;
+    let mut net = MemNet::new(alloc, Vec::new(alloc));
+    net.add(first, Vec::new(alloc), Vec::new(alloc))?;
+    net.add(second, Vec::new(alloc), Vec::new(alloc))?;
+    Ok(net)
+}
+
+/// Serves the match while the console kicks client 1.
+fn serve_kicked<R: Threads + Wait + Sync>(
+    rt: &R,
+    alloc: Global,
+) -> Result<(Served<Tally>, MemNet), Fail>
+    ensures pass { IfOk result (λ left. IsPassOf left.0.table left.0.pass) }
+    ensures clients { IfOk result (λ left. length (plan_of left.0.table) ≡ 2) }
+{
+    let mut net = two_links(alloc)?;
+    let mut console = MemSource::new(Vec::from_slice(alloc, b"kick 1\n")?, Vec::new(alloc));
+    let sim = Tally::new();
+    match serve_match(rt, alloc, &INVITE, "here", sim, &mut net, &mut console) {
+        Ok(served) => Ok((served, net)),
+        Err(_) => Err(Fail::new("the match is not served")),
+    }
+}
+
+/// True where a link may have ended so, whose client was kicked after so many plays, or before that
+/// ended with all five.
+fn may_end(end: Option<LinkEnd>, plays: u32) -> bool {
+    match end {
+        Some(LinkEnd::Kicked(at)) => at == plays && plays <= 5,
+        Some(LinkEnd::Ended) => plays == 5,
+        _ => false,
+    }
+}
+
+/// How often the match is played. Each time the kick may come at another frame.
+const MATCHES: u32 = 16;
+
+#[test]
+fn a_client_that_is_kicked(rt: HostRuntime) -> Result<(), Fail> {
+    for _match in 0..MATCHES {
+        let (mut served, net) = serve_kicked(&rt, rt.alloc())?;
+        let first = served.table.seen(&mut served.pass, 0);
+        let second = served.table.seen(&mut served.pass, 1);
+        let ends = served.ends.as_slice();
+        assert_eq!(rt; (first.left, second.left), (true, true));
+        assert_eq!(rt;
+            (first.plays, ends.get(0).copied()),
+            (5, Some(LinkEnd::Ended))
+        );
+        assert!(rt; may_end(ends.get(1).copied(), second.plays), "{second:?}");
+        let packets = column_packets(rt.alloc(), second.plays.min(5) as u8)?;
+        for link in 0..2 {
+            let told = told_of_client_1(rt.alloc(), net.written(link).unwrap_or(b""))?;
+            assert_eq!(rt; told, packets);
+        }
+    }
+    Ok(())
+}
