@@ -17,6 +17,3 @@ mod table;
 
 pub use listed::Listed;
 pub use table::ActorTable;
-
-#[cfg(test)]
-mod tests;

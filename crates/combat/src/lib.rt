@@ -13,6 +13,3 @@ mod fields;
 mod shot;
 
 pub use attack::{attack_step, attack_step_seen};
-
-#[cfg(test)]
-mod tests;

@@ -51,6 +51,3 @@ pub use peers::Peers;
 pub use run::{run_drill, run_without_report};
 pub use run_fault::RunFault;
 pub use text::{add_end_line, add_server_head};
-
-#[cfg(test)]
-mod made_tests;

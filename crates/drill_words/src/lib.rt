@@ -52,8 +52,3 @@ pub use reading::read_drill;
 pub use script_reading::read_script;
 pub use scripts::Scripts;
 pub use seal_orders::SealOrders;
-
-#[cfg(test)]
-mod script_tests;
-#[cfg(test)]
-mod tests;

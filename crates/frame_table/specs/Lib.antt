@@ -5,4 +5,3 @@ pub mod Passes
 pub mod PassesLemmas
 pub mod Steps
 pub mod Calls
-pub mod Tests

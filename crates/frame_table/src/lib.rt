@@ -32,6 +32,3 @@ pub use plan::Plan;
 pub use planned::Planned;
 pub use seen::Seen;
 pub use table::FrameTable;
-
-#[cfg(test)]
-mod tests;

@@ -35,8 +35,6 @@ mod sure_sink;
 mod sure_source;
 mod tcp_link;
 mod tcp_net;
-#[cfg(test)]
-mod tests;
 
 pub use disk::Disk;
 pub use disk_error::DiskError;

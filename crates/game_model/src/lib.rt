@@ -36,6 +36,3 @@ pub use ore::Ore;
 pub use terrain::{Terrain, cost_on};
 pub use tiles::Tiles;
 pub use world::{Gone, Head, Purse, World};
-
-#[cfg(test)]
-mod tests;

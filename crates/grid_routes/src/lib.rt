@@ -38,6 +38,3 @@ pub use index::FIELDS;
 pub use law::distances_are_least;
 pub use route::Route;
 pub use router::Router;
-
-#[cfg(test)]
-mod tests;

@@ -18,6 +18,3 @@ mod steps;
 pub use refinery::nearest_refinery;
 pub use search::nearest_ore;
 pub use steps::{harvest_step, harvest_step_seen};
-
-#[cfg(test)]
-mod tests;

@@ -19,6 +19,3 @@ mod starts;
 pub use fault::MapFault;
 pub use reading::read_map;
 pub use sample::SAMPLE_MAP;
-
-#[cfg(test)]
-mod tests;

@@ -23,6 +23,3 @@ pub use frames::longest;
 pub use law::closed_columns_are_the_scripts;
 pub use local_run::LocalRun;
 pub use running::run_local;
-
-#[cfg(test)]
-mod tests;

@@ -25,6 +25,3 @@ pub use leg::advance_leg;
 pub use towards::{
     go_towards, go_towards_seen, move_activity, move_activity_seen, move_step, move_step_seen,
 };
-
-#[cfg(test)]
-mod tests;

@@ -21,8 +21,6 @@ mod fits;
 mod law;
 mod limits;
 mod packet;
-#[cfg(test)]
-mod tests;
 mod up;
 mod up_reading;
 mod writing;

@@ -13,6 +13,3 @@ mod orders;
 
 pub use building::build_step;
 pub use orders::{cancel, own_of, pay, produce};
-
-#[cfg(test)]
-mod tests;

@@ -41,8 +41,6 @@ mod replay_reading;
 mod replay_writer;
 mod replay_writing;
 mod standing;
-#[cfg(test)]
-mod tests;
 
 pub use law::{
     a_migrated_replay_is_valid, bytes_are_read_as_they_spell, bytes_have_one_first_fault,

@@ -24,6 +24,3 @@ pub use law::reports_of_each_client_are_heard;
 pub use report_ends::ReportEnds;
 pub use reporting::report_queue;
 pub use reports::Reports;
-
-#[cfg(test)]
-mod tests;

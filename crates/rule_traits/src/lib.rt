@@ -36,6 +36,3 @@ pub use typing::type_rules;
 
 /// The most kinds that rules may have. Kinds are numbered from 0.
 pub const MAX_KINDS: u16 = 1_024;
-
-#[cfg(test)]
-mod tests;

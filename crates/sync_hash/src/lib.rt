@@ -39,8 +39,6 @@ mod hasher;
 mod header;
 mod law;
 mod ore_bytes;
-#[cfg(test)]
-mod tests;
 mod whole_world;
 
 pub use fits::world_fits;

@@ -37,6 +37,3 @@ pub const MAX_LINE_BYTES: usize = 4_096;
 
 /// How many levels there are: the deepest node is at level 31.
 pub const MAX_LEVELS: usize = 32;
-
-#[cfg(test)]
-mod tests;

@@ -43,6 +43,3 @@ pub const MAX_FOREST_NODES: usize = 2_097_152;
 /// them than `MAX_FOREST_NODES` are never in a resolved forest, so only what is refused anyway can
 /// come to this limit. It is then refused with `NoMemory`.
 const MAX_KEPT_NODES: usize = 8_388_608;
-
-#[cfg(test)]
-mod tests;

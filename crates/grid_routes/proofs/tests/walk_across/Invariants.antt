@@ -1,5 +1,0 @@
-use Rattle.grid_routes.specs.Routing.{IsSameSize}
-use Rattle.grid_routes.proofs.tests.walk_across.Given as goal
-
-abbrev pub invariant-loop-taken : goal.invariant-loop-taken
-invariant-loop-taken l = IsSameSize l.fn.router l.router

@@ -1,0 +1,57 @@
+//! Matches over the least world, on threads.
+use drill_words::{MAX_DRILL_BYTES, read_script};
+use frame_core::{Sim, Tally};
+use game_io::{Gate, HoldGate, NoGate};
+use match_run::run_local;
+use std::alloc::Global;
+use std::process::Abort;
+use std::sync::Wait;
+use std::test::Fail;
+use std::thread::Threads;
+
+/// The hash of the world after a match of two clients with this script. The least world hashes to
+/// twice its steps, and one more where client 0 played last.
+fn hash_after<R: Abort + Threads + Wait + Sync, G: Gate + Sync>(
+    rt: &R,
+    alloc: Global,
+    script: &[u8],
+    gate: &G,
+) -> Result<u64, Fail> {
+    assert!(rt; script.len() <= MAX_DRILL_BYTES as usize);
+    let Ok((_seed, scripts)) = read_script(alloc, script, false) else {
+        return Ok(u64::MAX);
+    };
+    assert!(rt; scripts.clients() == 2);
+    let run = run_local(rt, alloc, &scripts, Tally::new(), gate)?;
+    Ok(run.sim.hash())
+}
+
+/// Scripts, and the hash of the world after each.
+const SCRIPTS: [(&[u8], u64); 4] = [
+    (b"script 2 9", 0),
+    (b"script 2 9\n0\n1\n0\n1\n0\n1", 7),
+    (b"script 2 9\n0\n1\n1\n1\n1", 8),
+    (b"script 2 9\n0\n0\n0", 7),
+];
+
+#[test]
+fn two_clients(rt: HostRuntime) -> Result<(), Fail> {
+    for (script, want) in SCRIPTS {
+        assert_eq!(rt;
+            hash_after(&rt, rt.alloc(), script, &NoGate)?,
+            want,
+            "{script:?}"
+        );
+    }
+    Ok(())
+}
+
+/// A single thread that plays for both clients would not pass the gate.
+#[test]
+fn each_client_has_a_thread(rt: HostRuntime) -> Result<(), Fail> {
+    let gate = HoldGate::new();
+    let script = b"script 2 9\n0\n0\n1\n1\n";
+    assert_eq!(rt; hash_after(&rt, rt.alloc(), script, &gate)?, 5);
+    assert!(rt; !gate.timed_out());
+    Ok(())
+}
