@@ -5,7 +5,6 @@ pub mod Heeding
 pub mod Reading
 pub mod ReadSoFar
 pub mod Sessions
-pub mod Tests
 pub mod Sending
 pub mod SenderSession
 pub mod Playing

@@ -62,6 +62,3 @@ pub use report_line::{
 };
 pub use sender::sender_session;
 pub use sender_end::SenderEnd;
-
-#[cfg(test)]
-mod tests;

@@ -33,6 +33,3 @@ pub use link_end::LinkEnd;
 pub use serve::serve_match;
 pub use serve_fault::ServeFault;
 pub use served::Served;
-
-#[cfg(test)]
-mod tests;

@@ -2,7 +2,6 @@ pub mod Departures
 pub mod Burial
 pub mod Game
 pub mod Live
-pub mod Idle
 pub mod Waiting
 pub mod Touched
 pub mod Scene

@@ -21,8 +21,6 @@ mod opening;
 mod orders;
 mod scene;
 mod telling;
-#[cfg(test)]
-mod tests;
 mod tick;
 mod turn;
 

@@ -1,15 +1,11 @@
 //! A client that plays while the console kicks it.
-ghost use Rattle.std.specs.Prelude.{◌≡◌, IfOk, [], length};
-ghost use Rattle.frame_table.specs.Calls.{plan_of, IsPassOf};
+ghost use Rattle.std.specs.Prelude.{◌≡◌, IfOk, []};
 
-use crate::tests::INVITE;
-use crate::{LinkEnd, Served, serve_match};
-use frame_core::Tally;
-use game_io::{MemNet, MemSource};
+use crate::serving::serve;
+use game_io::MemNet;
+use match_serve::LinkEnd;
 use std::alloc::{AllocError, Global};
-use std::sync::Wait;
 use std::test::Fail;
-use std::thread::Threads;
 
 /// The bytes of a link whose client greets and plays the frames 0 to 4.
 const FIVE_FRAMES: &[u8] =
@@ -67,23 +63,6 @@ fn two_links(alloc: Global) -> Result<MemNet, AllocError>
     Ok(net)
 }
 
-/// Serves the match while the console kicks client 1.
-fn serve_kicked<R: Threads + Wait + Sync>(
-    rt: &R,
-    alloc: Global,
-) -> Result<(Served<Tally>, MemNet), Fail>
-    ensures pass { IfOk result (λ left. IsPassOf left.0.table left.0.pass) }
-    ensures clients { IfOk result (λ left. length (plan_of left.0.table) ≡ 2) }
-{
-    let mut net = two_links(alloc)?;
-    let mut console = MemSource::new(Vec::from_slice(alloc, b"kick 1\n")?, Vec::new(alloc));
-    let sim = Tally::new();
-    match serve_match(rt, alloc, &INVITE, "here", sim, &mut net, &mut console) {
-        Ok(served) => Ok((served, net)),
-        Err(_) => Err(Fail::new("the match is not served")),
-    }
-}
-
 /// True where a link may have ended so, whose client was kicked after so many plays, or before that
 /// ended with all five.
 fn may_end(end: Option<LinkEnd>, plays: u32) -> bool {
@@ -100,7 +79,8 @@ const MATCHES: u32 = 16;
 #[test]
 fn a_client_that_is_kicked(rt: HostRuntime) -> Result<(), Fail> {
     for _match in 0..MATCHES {
-        let (mut served, net) = serve_kicked(&rt, rt.alloc())?;
+        let mut net = two_links(rt.alloc())?;
+        let mut served = serve(&rt, rt.alloc(), &mut net, b"kick 1\n")?;
         let first = served.table.seen(&mut served.pass, 0);
         let second = served.table.seen(&mut served.pass, 1);
         let ends = served.ends.as_slice();

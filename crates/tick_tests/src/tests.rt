@@ -1,13 +1,10 @@
-//! Hashes of both versions of the bare world, and how often actors are hashed. Games, with what is
-//! left of them, are recorded command lines in the crate `case_runs`.
-
+//! Hashes of both versions of the bare world, and how often actors are hashed.
 ghost use Rattle.std.specs.Prelude.{◌≡◌, ◌≤◌, length, IfOk};
-ghost use Rattle.tick_core.specs.Idle.{idle_map, idle_start};
+ghost use Rattle.tick_tests.specs.Idle.{idle_map, idle_start};
 ghost use Rattle.tick_core.specs.Game.{game_clients};
 ghost use Rattle.rule_traits.specs.ValidRules.{IsValidKind};
 ghost use Rattle.game_orders.specs.declared.limits.TheConstants.{MAX_CLIENTS};
 
-use crate::{Game, GameMaker};
 use base::{List, NoMemory};
 use frame_core::{Maker, Sim};
 use game_model::{Map, Ore, Start, Tiles};
@@ -16,6 +13,7 @@ use rule_traits::{Kind, Rules};
 use std::alloc::Global;
 use std::rc::Rc;
 use std::test::Fail;
+use tick_core::{Game, GameMaker};
 use world_units::{CPos, WAngle};
 use yaml_lines::Text;
 

@@ -1,21 +1,17 @@
 //! A link that gives nothing more until its client was let go.
-ghost use Rattle.std.specs.Prelude.{◌≡◌, ◌^◌, IfOk, []};
-ghost use Rattle.frame_table.specs.Calls.{view_of};
+ghost use Rattle.std.specs.Prelude.{◌≡◌, IfOk, []};
 ghost use Rattle.game_io.specs.PlannedBytes.{sink_state, source_state};
 ghost use Rattle.game_io.specs.PlannedLinks.{net_state};
 
-use crate::tests::INVITE;
-use crate::{LinkEnd, Served, serve_match};
-use frame_core::Tally;
+use crate::serving::serve;
 use game_io::{
     Failed, FailingCall, MAX_HOLD_TURNS, MemNet, MemSink, MemSource, Net, Remains, Sink, Source,
 };
+use match_serve::LinkEnd;
 use std::alloc::Global;
-use std::sync::Wait;
 use std::sync::atomic::{AtomicBool, Ordering};
 use std::test::Fail;
 use std::thread;
-use std::thread::Threads;
 
 /// What the halves of a held link share: whether the departure of client 1 at frame 0 was put into
 /// its sink, and whether the turns have ended in which its source waits for that.
@@ -179,23 +175,6 @@ fn two_links(alloc: Global, puts: Vec<FailingCall>) -> Result<MemNet, Fail>
     Ok(net)
 }
 
-/// Serves the match while the console kicks client 1. The pass that is handed back has the whole
-/// share.
-fn serve_held<R: Threads + Wait + Sync>(
-    rt: &R,
-    alloc: Global,
-    net: &mut HeldNet<'_>,
-) -> Result<Served<Tally>, Fail>
-    requires { net.old.net.given ≡ [] }
-    ensures whole { IfOk result (λ served. (view_of served.pass).share ≡ 2 ^ 62) }
-{
-    let mut console = MemSource::new(Vec::from_slice(alloc, b"kick 1\n")?, Vec::new(alloc));
-    match serve_match(rt, alloc, &INVITE, "here", Tally::new(), net, &mut console) {
-        Ok(served) => Ok(served),
-        Err(_) => Err(Fail::new("the match is not served")),
-    }
-}
-
 /// The last put to the first link, which has the welcome and two departures, fails or none does; and
 /// how often that link has then failed.
 const FAILING: [(Option<Remains>, u64); 2] = [(None, 0), (Some(Remains::Prefix(3)), 1)];
@@ -213,7 +192,7 @@ fn a_held_link(rt: HostRuntime) -> Result<(), Fail> {
             net: two_links(rt.alloc(), puts)?,
             hold: &hold,
         };
-        let served = serve_held(&rt, rt.alloc(), &mut net)?;
+        let served = serve(&rt, rt.alloc(), &mut net, b"kick 1\n")?;
         let ends = [LinkEnd::Ended, LinkEnd::Kicked(0)];
         assert_eq!(rt; served.ends.as_slice(), ends.as_slice());
         assert_eq!(rt; (net.link_faults(0), net.link_faults(1)), (faults, 0));

@@ -1,0 +1,38 @@
+//! How the tests serve a match.
+ghost use Rattle.std.specs.Prelude.{◌≡◌, IfOk, [], length};
+ghost use Rattle.frame_table.specs.Calls.{plan_of, IsPassOf};
+
+use frame_core::Tally;
+use game_io::{MemSource, Net};
+use match_net::Invite;
+use match_serve::{Served, serve_match};
+use std::alloc::Global;
+use std::sync::Wait;
+use std::test::Fail;
+use std::thread::Threads;
+
+const INVITE: Invite = Invite {
+    client: 0,
+    clients: 2,
+    lag: 2,
+    seed: 9,
+    rules: 0xaf63_bd4c_8601_b7df,
+};
+
+/// Serves a match of two clients over the least world, while the console gives these lines.
+pub fn serve<N: Net, R: Threads + Wait + Sync>(
+    rt: &R,
+    alloc: Global,
+    net: &mut N,
+    lines: &[u8],
+) -> Result<Served<Tally>, Fail>
+    requires no_links { (N.state net.old).given ≡ [] }
+    ensures pass { IfOk result (λ served. IsPassOf served.table served.pass) }
+    ensures clients { IfOk result (λ served. length (plan_of served.table) ≡ 2) }
+{
+    let mut console = MemSource::new(Vec::from_slice(alloc, lines)?, Vec::new(alloc));
+    match serve_match(rt, alloc, &INVITE, "here", Tally::new(), net, &mut console) {
+        Ok(served) => Ok(served),
+        Err(_) => Err(Fail::new("the match is not served")),
+    }
+}
