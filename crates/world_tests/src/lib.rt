@@ -18,3 +18,5 @@ mod nearest;
 mod payments;
 #[cfg(test)]
 mod searches;
+#[cfg(test)]
+mod ticks;

@@ -1,6 +1,6 @@
 //! Hashes of both versions of the bare world, and how often actors are hashed.
 ghost use Rattle.std.specs.Prelude.{◌≡◌, ◌≤◌, length, IfOk};
-ghost use Rattle.tick_tests.specs.Idle.{idle_map, idle_start};
+ghost use Rattle.world_tests.specs.Idle.{idle_map, idle_start};
 ghost use Rattle.tick_core.specs.Game.{game_clients};
 ghost use Rattle.rule_traits.specs.ValidRules.{IsValidKind};
 ghost use Rattle.game_orders.specs.declared.limits.TheConstants.{MAX_CLIENTS};
