@@ -93,20 +93,3 @@ fn is_one(orders: &Orders, kept: Order) -> bool
         None => false,
     }
 }
-
-#[cfg(test)]
-mod tests {
-    use super::*;
-    use std::test::Fail;
-
-    #[test]
-    fn orders_come_back(rt: HostRuntime) -> Result<(), Fail> {
-        let mut orders = Orders::empty();
-        for amount in 0..3 {
-            let stored = StoredOrders::create(rt.alloc(), &orders)?;
-            assert_eq!(rt; stored.to_orders(), orders);
-            assert!(rt; orders.try_push(Order::Donate { to: 1, amount }));
-        }
-        Ok(())
-    }
-}
