@@ -1,8 +1,8 @@
 //! A server and two players in one process, over links of the loopback.
 ghost use Rattle.std.specs.Prelude.{◌<◌};
 
-use super::run_waiting;
 use game_io::{MemDisk, MemSink, MemSource, Net, NoGate, TcpNet};
+use match_commands::run_waiting;
 use std::alloc::{AllocError, Global};
 use std::net::{Net as Sockets, TcpListener, TcpStream};
 use std::sync::Wait;
