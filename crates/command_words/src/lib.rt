@@ -30,6 +30,3 @@ pub use words_fault::WordsFault;
 
 /// The most positional arguments of a command that takes some.
 pub const MAX_FILES: usize = 64;
-
-#[cfg(test)]
-mod tests;

@@ -11,16 +11,12 @@
 mod command;
 mod hosting;
 mod linking;
-#[cfg(test)]
-mod loopback_tests;
 mod making;
 mod numbers;
 mod preparing;
 mod recording;
 mod replaying;
 mod standing;
-#[cfg(test)]
-mod tests;
 mod waiting;
 mod worlds;
 

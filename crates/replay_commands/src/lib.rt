@@ -12,8 +12,6 @@ mod number;
 mod records;
 mod refusal;
 mod replays;
-#[cfg(test)]
-mod tests;
 
 pub use number::rules_number;
 pub use records::record_bytes;

@@ -1,8 +1,8 @@
 //! A server and two players in one process, over links of the loopback.
-ghost use Rattle.std.specs.Prelude.{◌<◌};
+ghost use Rattle.std.specs.Prelude.{◌≡◌, ◌<◌, []};
 
-use super::run_waiting;
-use game_io::{MemDisk, MemSink, MemSource, Net, NoGate, TcpNet};
+use game_io::{Disk, MemDisk, MemSink, MemSource, Net, NoGate, Sink, TcpNet};
+use match_commands::run_waiting;
 use std::alloc::{AllocError, Global};
 use std::net::{Net as Sockets, TcpListener, TcpStream};
 use std::sync::Wait;
@@ -61,13 +61,27 @@ fn seats_at(alloc: Global, port: u32) -> Result<Vec<Seat>, AllocError> {
     Ok(seats)
 }
 
+/// Runs a command line over these devices and an empty console.
+fn run_words<D: Disk, K: Sink, N: Net, R: Threads + Wait + Sync>(
+    rt: &R,
+    alloc: Global,
+    words: &[String],
+    disk: &mut D,
+    out: &mut K,
+    net: &mut N,
+) -> u8
+    requires { (N.state net.old).given ≡ [] }
+{
+    let mut console = MemSource::new(Vec::new(alloc), Vec::new(alloc));
+    run_waiting(rt, alloc, words, disk, out, net, &mut console, &NoGate)
+}
+
 /// Runs the command of a seat over links of TCP.
 fn run_seat<R>(rt: &R, seat: &mut Seat)
 where
     R: Threads + Wait + Sync + Sockets<Listener = TcpListener, Stream = TcpStream>,
 {
     let mut net = TcpNet::new(rt);
-    let mut console = MemSource::new(Vec::new(seat.alloc), Vec::new(seat.alloc));
     let Seat {
         alloc,
         words,
@@ -75,16 +89,7 @@ where
         out,
         status,
     } = seat;
-    *status = run_waiting(
-        rt,
-        *alloc,
-        words,
-        disk,
-        out,
-        &mut net,
-        &mut console,
-        &NoGate,
-    );
+    *status = run_words(rt, *alloc, words, disk, out, &mut net);
 }
 
 /// Runs the commands of these seats, each on a thread of its own.
@@ -102,6 +107,11 @@ fn hash(text: &[u8]) -> Option<&str> {
     let (_, rest) = text.split_once(" frames 20 hash ")?;
     let (hash, _) = rest.split_once(' ')?;
     Some(hash)
+}
+
+/// The hash that the first seat printed.
+fn first_hash(seats: &[Seat]) -> Option<&str> {
+    hash(seats.first()?.out.bytes())
 }
 
 /// A port of the loopback at which nothing listens.
@@ -124,10 +134,11 @@ fn a_served_match_of_two_players(rt: HostRuntime) -> Result<(), Fail> {
     let port = free_port(rt.alloc(), &mut TcpNet::new(&rt), first)?;
     let mut seats = seats_at(rt.alloc(), port)?;
     run_seats(&rt, seats.as_mut_slice());
-    let played = seats.first().and_then(|seat| hash(seat.out.bytes()));
+    let played = first_hash(seats.as_slice());
     assert!(rt; played.is_some());
     for seat in seats.iter() {
-        assert_eq!(rt; (seat.status, hash(seat.out.bytes())), (0, played));
+        assert_eq!(rt; seat.status, 0);
+        assert_eq!(rt; hash(seat.out.bytes()), played);
     }
     Ok(())
 }

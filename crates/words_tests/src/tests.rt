@@ -1,0 +1,539 @@
+//! Command lines with the request that they name, or that are refused.
+
+use base::NoMemory;
+use command_words::{
+    FileNames, MAX_FILES, MatchQuery, Request, RouteQuery, ServeQuery, WordsFault, read_words,
+};
+use std::alloc::{AllocError, Global};
+use std::fmt::Write;
+use std::test::Fail;
+
+/// Command lines, the words of which `|` separates, each with the request that it names or with
+/// `refused`. A line that begins with `#` says what the next ones show.
+const LINES: &str = "\
+## Words that name no command, or help or a version.
+# The command.
+ => refused
+dance => refused
+dri|--script|d => refused
+drills|--script|d => refused
+Drill|--script|d => refused
+YAML|a => refused
+y|a => refused
+chec|a => refused
+ drill|--script|d => refused
+-|drill|--script|d => refused
+--|drill|--script|d => refused
+-- => refused
+lockstep|drill|--script|d => refused
+dance|yaml|a => refused
+# An option before the command.
+--script|d|drill => refused
+--script=d|drill => refused
+--script|d => refused
+-x|yaml|a => refused
+# There is no help and no version.
+--help => refused
+-h => refused
+help => refused
+help|drill => refused
+--version => refused
+-V => refused
+version => refused
+drill|--help => refused
+drill|--script|d|-h => refused
+yaml|--help => refused
+yaml|a|-h => refused
+check|--version => refused
+check|-V|a => refused
+## Words after a command that are refused.
+# `drill`: its option once, with one value.
+drill => refused
+drill|--script => refused
+drill|--script|d|--script|d => refused
+drill|--script|d|--script|e => refused
+drill|--script=d|--script=e => refused
+drill|--script=d|--script => refused
+# Values that begin with `-`.
+drill|--script|-d => refused
+drill|--script|-1 => refused
+drill|--script|--d => refused
+drill|--script|-- => refused
+drill|--script|--|d => refused
+# Names, other options and other spellings of the option.
+drill|d => refused
+drill| => refused
+drill|- => refused
+drill|--|--script|d => refused
+drill|--script|d|--recor=r => refused
+drill|--scrip|d => refused
+drill|--SCRIPT|d => refused
+drill|-script|d => refused
+drill|-s|d => refused
+drill|---script|d => refused
+drill|--=d => refused
+drill|script=d => refused
+drill|--map|m|r => refused
+local => refused
+local|--script|s|--script|s => refused
+drill|--script|d|--map => refused
+# `yaml` and `check`: names, in their order, and no option.
+yaml => refused
+yaml|-- => refused
+yaml|-x => refused
+yaml|a|-1 => refused
+yaml|a|--names|b => refused
+yaml|--names=a => refused
+yaml|a|--map=m|b => refused
+check => refused
+check|--script|d => refused
+## Words with the request that they name.
+# There is no help and no version.
+yaml|help => yaml <help>
+# `drill`: its option once, with one value.
+drill|--script|d => drill <d>
+local|--script|s => local <s>
+local|b|--map=--|a|--script=|b|--|--map => local <> map <--> <b> <a> <b> <--map>
+drill|--script=d => drill <d>
+drill|--script=d=e => drill <d=e>
+drill|--script=--script => drill <--script>
+drill|--script= => drill <>
+drill|--script==d => drill <=d>
+drill|--script| => drill <>
+drill|--script|a b => drill <a b>
+drill|--script|drill => drill <drill>
+drill|--script|help => drill <help>
+drill|--script|= => drill <=>
+drill|--script|\u{e9} => drill <\u{e9}>
+drill|--script=\u{2212}d => drill <\u{2212}d>
+# Values that begin with `-`.
+drill|--script|- => drill <->
+drill|--script=- => drill <->
+drill|--script=-d => drill <-d>
+drill|--script=-- => drill <-->
+# Names, other options and other spellings of the option.
+drill|--script|d|-- => drill <d>
+drill|--script|d|e => drill <d> <e>
+drill|e|--script|d => drill <d> <e>
+drill|--script|d|--|e => drill <d> <e>
+drill|--script|d|--map|m => drill <d> map <m>
+drill|b|--map=--|a|--script=s|b => drill <s> map <--> <b> <a> <b>
+drill|--script|d|--|--map|m|--record => drill <d> <--map> <m> <--record>
+drill|--map=|--script=| => drill <> map <> <>
+# `yaml` and `check`: names, in their order, and no option.
+yaml|a => yaml <a>
+yaml|b|a|b => yaml <b> <a> <b>
+yaml| => yaml <>
+yaml|-| => yaml <-> <>
+yaml|--|-x|a => yaml <-x> <a>
+yaml|a|--|b|--|--map => yaml <a> <b> <--> <--map>
+yaml|yaml|check => yaml <yaml> <check>
+check|r.yaml => check <r.yaml>
+check|r|-|--|--map|m => check <r> <-> <--map> <m>
+## Words after `make` that are refused.
+make => refused
+make|7 => refused
+make|--number => refused
+make|--number|7|--number|7 => refused
+make|--number=7|--number=8 => refused
+make|--number|7|r => refused
+make|--number|7|--|r => refused
+make|--number|7|--map|m => refused
+make|--number|7|--script|d => refused
+make|--numbe|7 => refused
+make|-n|7 => refused
+# A number has a digit, and nothing but digits after its sign.
+make|--number| => refused
+make|--number= => refused
+make|--number|+ => refused
+make|--number=- => refused
+make|--number|- => refused
+make|--number|1  => refused
+make|--number|1_000 => refused
+make|--number|0x7 => refused
+make|--number|7.0 => refused
+make|--number=++7 => refused
+# It is 0 to 4,294,967,295, and a word of its own does not begin with `-`.
+make|--number|4294967296 => refused
+make|--number=-7 => refused
+make|--number|-0 => refused
+## Words after `make` with the request that they name.
+make|--number|7 => make 7
+make|--number=7 => make 7
+make|--number|0 => make 0
+make|--number|007 => make 7
+make|--number|+7 => make 7
+make|--number=+007 => make 7
+make|--number=-0 => make 0
+make|--number|4294967295 => make 4294967295
+make|--number|+0000000004294967295 => make 4294967295
+make|--number|00000000000000000000000000 => make 0
+make|--number|7|-- => make 7
+## Words after `check` and `route` that are refused.
+# `check`: the map at most once, and rules.
+check|--map|m => refused
+check|--map => refused
+check|r|--map => refused
+check|--map|m|--map|m|r => refused
+check|--map|-m|r => refused
+check|--script|m|r => refused
+# `route`: each option once, and rules.
+route => refused
+route|r => refused
+route|--kind|k|--from|0,0|--to|1,1|r => refused
+route|--map|m|--from|0,0|--to|1,1|r => refused
+route|--map|m|--kind|k|--to|1,1|r => refused
+route|--map|m|--kind|k|--from|0,0|r => refused
+route|--map|m|--kind|k|--from|0,0|--to|1,1 => refused
+route|--map|m|--kind|k|--kind|k|--from|0,0|--to|1,1|r => refused
+route|--map|m|--kind|k|--from|0,0|--to|1,1|--to|1,1|r => refused
+route|--map|m|--kind|-k|--from|0,0|--to|1,1|r => refused
+# Cells.
+route|--map|m|--kind|k|--from|0|--to|1,1|r => refused
+route|--map|m|--kind|k|--from|0,0|--to|1,1,1|r => refused
+route|--map|m|--kind|k|--from|256,0|--to|1,1|r => refused
+route|--map|m|--kind|k|--from|0,0|--to|1,256|r => refused
+route|--map|m|--kind|k|--from|0,0|--to||r => refused
+route|--map|m|--kind|k|--from|0;0|--to|1,1|r => refused
+route|--map|m|--kind|k|--from=-1,0|--to|1,1|r => refused
+route|--map|m|--kind|k|--from|0,0|--to|+1,1|r => refused
+## Words after `check` and `route` with the request that they name.
+check|--map|m|r => check map <m> <r>
+check|r|--map=m|s => check map <m> <r> <s>
+check|--map=|r => check map <> <r>
+check|r|--|--map|m => check <r> <--map> <m>
+route|--map|m|--kind|k|--from|0,1|--to|2,255|r => route <m> <k> 0,1 2,255 <r>
+route|a|--to=7,8|b|--from=5,6|--kind=|--map=--|c => route <--> <> 5,6 7,8 <a> <b> <c>
+route|--from|1,2|--to|1,2|--map|from|--kind|to|--|--map => route <from> <to> 1,2 1,2 <--map>
+route|--map|-|--kind|-|--from|0,0|--to|0,0|- => route <-> <-> 0,0 0,0 <->
+# A cell has blanks round its numbers or none, and its numbers may have leading zeros.
+route|--map|m|--kind|k|--from| 3 , 4 |--to|003,0000000004|r => route <m> <k> 3,4 3,4 <r>
+route|--map|m|--kind|k|--from|\t3,4|--to|3,\r4|r => route <m> <k> 3,4 3,4 <r>
+route|--map|m|--kind|k x|--from|0,0|--to|0,0|route => route <m> <k x> 0,0 0,0 <route>
+## Words that would read or write a replay, and that are refused.
+# `drill`: a record at most once, with a value.
+drill|--record|r => refused
+drill|--record|r|d => refused
+drill|--record|--script=d => refused
+drill|--script|d|--record => refused
+drill|--script|d|--record|r|--record|r => refused
+drill|--script|d|--record=r|--record=s => refused
+drill|--script|d|--record|-r => refused
+drill|--script|d|--file|f => refused
+drill|--script|d|--to|t => refused
+local|--script|s|--record|r => refused
+# `replay`: a file once, and no option of another command.
+replay => refused
+replay|f => refused
+replay|--file => refused
+replay|--script|s => refused
+replay|--file|f|--script|s => refused
+replay|--file|f|--file|f => refused
+replay|--file|-f => refused
+replay|--file|f|--to|t => refused
+replay|--file|f|--record|r => refused
+replay|--file|f|--map|m|--map|m => refused
+replay|--map|m|r => refused
+replay|--|--file|f => refused
+replays|--file|f => refused
+# `migrate`: a file and another one to write, each once.
+migrate => refused
+migrate|--file|f => refused
+migrate|--to|t => refused
+migrate|--file|f|t => refused
+migrate|--file|f|--to => refused
+migrate|--file|f|--to|-t => refused
+migrate|--file|f|--to|t|--to|t => refused
+migrate|--file|f|--file|f|--to|t => refused
+migrate|--file|f|--|--to|t => refused
+migrate|--script|f|--to|t => refused
+migrate|--file|f|--to|t|--record|r => refused
+## Words that read or write a replay, with the request that they name.
+drill|--script|d|--record|r => drill record <r> <d>
+drill|--record|r|--script|d => drill record <r> <d>
+drill|a|--record=--map|--map=m|b|--script=d => drill record <--map> <d> map <m> <a> <b>
+drill|--script|d|--record= => drill record <> <d>
+drill|--script|d|--record|- => drill record <-> <d>
+drill|--script|d|--|--record|r => drill <d> <--record> <r>
+replay|--file|f => replay <f>
+replay|--file=|r => replay <> <r>
+replay|--file|f|--map|m => replay <f> map <m>
+replay|--file|replay|migrate => replay <replay> <migrate>
+replay|b|--map=--|a|--file=f|b|--|--file => replay <f> map <--> <b> <a> <b> <--file>
+migrate|--file|f|--to|t => migrate to <t> <f>
+migrate|--to|t|--file|f => migrate to <t> <f>
+migrate|--file|f|--to= => migrate to <> <f>
+migrate|--to=|--file=| => migrate to <> <> <>
+migrate|--file|f|--to|f => migrate to <f> <f>
+migrate|a|--to=--file|b|--map|m|--file|f|--|--to|c \
+    => migrate to <--file> <f> map <m> <a> <b> <--to> <c>
+## Words that would serve a match or play at a server, and that are refused.
+# `serve`: an address and a number of clients, each once.
+serve => refused
+serve|--at|a => refused
+serve|--clients|2 => refused
+serve|a|--clients|2 => refused
+serve|--at|a|--clients => refused
+serve|--at|-a|--clients|2 => refused
+serve|--at|a|--at|a|--clients|2 => refused
+serve|--at|a|--clients|2|--clients|2 => refused
+serve|--at|a|--clients|2|--script|s => refused
+serve|--at|a|--clients|2|--seed|1|--seed|1 => refused
+serve|--at|a|--clients|2|--map => refused
+serve|--at|a|--clients|2|--number|1 => refused
+serves|--at|a|--clients|2 => refused
+# There are 1 to 16 clients, a lag of 1 to 64, and a seed of 0 to 4,294,967,295.
+serve|--at|a|--clients|0 => refused
+serve|--at|a|--clients|17 => refused
+serve|--at|a|--clients|two => refused
+serve|--at|a|--clients=-1 => refused
+serve|--at|a|--clients| => refused
+serve|--at|a|--clients|4294967297 => refused
+serve|--at|a|--clients|2|--lag|0 => refused
+serve|--at|a|--clients|2|--lag|65 => refused
+serve|--at|a|--clients|2|--lag=-2 => refused
+serve|--at|a|--clients|2|--lag => refused
+serve|--at|a|--clients|2|--seed|4294967296 => refused
+serve|--at|a|--clients|2|--seed=-1 => refused
+# `play`: an address and a script, each once.
+play => refused
+play|--at|a => refused
+play|--script|s => refused
+play|--at|a|s => refused
+play|--at|a|--script|s|--script|s => refused
+play|--at|a|--at|a|--script|s => refused
+play|--at|a|--script|s|--clients|2 => refused
+play|--at|a|--file|s => refused
+play|--at|a|--script|-s => refused
+## Words that serve a match or play at a server, with the request that they name.
+serve|--at|a|--clients|1 => serve <a> 1 2 1
+serve|--clients|16|--at|a => serve <a> 16 2 1
+serve|--at=|--clients=3 => serve <> 3 2 1
+serve|--at|a|--clients|+7 => serve <a> 7 2 1
+serve|--at|a|--clients|0016 => serve <a> 16 2 1
+serve|--at|a|--clients|2|--lag|1 => serve <a> 2 1 1
+serve|--at|a|--clients|2|--lag|64 => serve <a> 2 64 1
+serve|--at|a|--clients|2|--seed|0 => serve <a> 2 2 0
+serve|--at|a|--clients|2|--seed=-0 => serve <a> 2 2 0
+serve|--at|a|--clients|2|--seed|4294967295 => serve <a> 2 2 4294967295
+serve|r|--seed|9|--map=m|--lag=5|--clients|4|s|--at|h:1|--|--at \
+    => serve <h:1> 4 5 9 map <m> <r> <s> <--at>
+serve|--at|-|--clients|2|- => serve <-> 2 2 1 <->
+play|--at|a|--script|s => play at <a> <s>
+play|--script|s|--at|a => play at <a> <s>
+play|--script=|--at= => play at <> <>
+play|--at|a|--script|s|--map|m => play at <a> <s> map <m>
+play|r|--at=--map|q|--map|m|--script|s|--|--at|a => play at <--map> <s> map <m> <r> <q> <--at> <a>
+play|--at|-|--script|-|play => play at <-> <-> <play>
+play|--at|a|--script|s|serve => play at <a> <s> <serve>";
+
+/// Commands, each with the request without a name and with what it begins with before 64 names.
+const COMMANDS_OF_NAMES: &str = "\
+yaml => refused => yaml
+check => refused => check
+route|--map|m|--kind|k|--from|0,0|--to|1,1 => refused => route <m> <k> 0,0 1,1
+drill|--script|s|--record|r => drill record <r> <s> => drill record <r> <s>
+local|--script|s => local <s> => local <s>
+replay|--file|f => replay <f> => replay <f>
+migrate|--file|f|--to|t => migrate to <t> <f> => migrate to <t> <f>
+play|--at|a|--script|s => play at <a> <s> => play at <a> <s>
+serve|--at|a|--clients|2 => serve <a> 2 2 1 => serve <a> 2 2 1";
+
+const REFUSED: &str = "refused";
+
+/// The program's name, and after it these words, which `|` separates.
+fn command_line(alloc: Global, words: &str) -> Result<Vec<String>, NoMemory> {
+    let mut line = Vec::new(alloc);
+    line.push(String::from_str(alloc, "lockstep")?)?;
+    for word in words.split('|') {
+        line.push(String::from_str(alloc, word)?)?;
+    }
+    Ok(line)
+}
+
+/// Adds these words and then the name between angle brackets.
+fn put_name(text: &mut String, words: &str, name: &str) -> Result<(), NoMemory> {
+    text.push_str(words)?;
+    text.push_str(" <")?;
+    text.push_str(name)?;
+    text.push('>')
+}
+
+/// Adds the map, if one is named, and the rule files.
+fn put_rules(
+    text: &mut String,
+    map_file: Option<&str>,
+    rules: &FileNames<'_>,
+) -> Result<(), NoMemory> {
+    if let Some(map_file) = map_file {
+        put_name(text, " map", map_file)?;
+    }
+    for name in rules.as_slice() {
+        put_name(text, "", name)?;
+    }
+    Ok(())
+}
+
+/// Adds these words and then a match.
+fn put_match(text: &mut String, words: &str, query: &MatchQuery<'_>) -> Result<(), NoMemory> {
+    put_name(text, words, query.file)?;
+    put_rules(text, query.map_file, &query.rules)
+}
+
+/// Adds a sign and then the number.
+fn put_number(text: &mut String, sign: char, number: u32) -> Result<(), NoMemory> {
+    text.push(sign)?;
+    match write!(text, "{number}") {
+        Ok(()) => Ok(()),
+        Err(_) => Err(AllocError),
+    }
+}
+
+/// Adds a route and its options.
+fn put_route(text: &mut String, query: &RouteQuery<'_>) -> Result<(), NoMemory> {
+    put_name(text, "route", query.map_file)?;
+    put_name(text, "", query.kind)?;
+    for cell in [query.from, query.to] {
+        put_number(text, ' ', u32::from(cell.x))?;
+        put_number(text, ',', u32::from(cell.y))?;
+    }
+    put_rules(text, None, &query.rules)
+}
+
+/// Adds a match that is served, and its options.
+fn put_serve(text: &mut String, query: &ServeQuery<'_>) -> Result<(), NoMemory> {
+    put_name(text, "serve", query.at)?;
+    put_number(text, ' ', u32::from(query.clients))?;
+    put_number(text, ' ', u32::from(query.lag))?;
+    put_number(text, ' ', query.seed)?;
+    put_rules(text, query.map_file, &query.rules)
+}
+
+/// Adds a drill, after the file that its replay is written to, if one is named.
+fn put_drill(
+    text: &mut String,
+    record: Option<&str>,
+    query: &MatchQuery<'_>,
+) -> Result<(), NoMemory> {
+    text.push_str("drill")?;
+    if let Some(record) = record {
+        put_name(text, " record", record)?;
+    }
+    put_match(text, "", query)
+}
+
+/// Adds a request.
+fn put_request(text: &mut String, request: &Request<'_>) -> Result<(), NoMemory> {
+    match request {
+        Request::Drill { query, record } => put_drill(text, *record, query),
+        Request::Local(query) => put_match(text, "local", query),
+        Request::Serve(query) => put_serve(text, query),
+        Request::Play { query, at } => {
+            put_name(text, "play at", at)?;
+            put_match(text, "", query)
+        }
+        Request::Replay(query) => put_match(text, "replay", query),
+        Request::Migrate { query, to } => {
+            put_name(text, "migrate to", to)?;
+            put_match(text, "", query)
+        }
+        Request::Make { number } => {
+            text.push_str("make")?;
+            put_number(text, ' ', *number)
+        }
+        Request::Yaml { files } => {
+            text.push_str("yaml")?;
+            put_rules(text, None, files)
+        }
+        Request::Check { map_file, rules } => {
+            text.push_str("check")?;
+            put_rules(text, *map_file, rules)
+        }
+        Request::Route(query) => put_route(text, query),
+    }
+}
+
+/// The request that a list of words names, of which the first is the program's name.
+fn request_text(alloc: Global, words: &[String]) -> Result<String, NoMemory> {
+    let mut text = String::new(alloc);
+    match read_words(alloc, words) {
+        Ok(request) => put_request(&mut text, &request)?,
+        Err(WordsFault::Refused) => text.push_str(REFUSED)?,
+        Err(WordsFault::NoMemory) => return Err(AllocError),
+    }
+    Ok(text)
+}
+
+#[test]
+fn lines_name_their_requests(rt: HostRuntime) -> Result<(), Fail> {
+    let alloc = rt.alloc();
+    for row in LINES.lines() {
+        if let Some((words, want)) = row.split_once(" => ") {
+            let line = command_line(alloc, words)?;
+            let got = request_text(alloc, &line)?;
+            assert_eq!(rt; got.as_str(), want, "of {words}");
+        } else {
+            assert!(rt; row.starts_with('#'), "{row}");
+        }
+    }
+    Ok(())
+}
+
+#[test]
+fn lines_of_a_word_or_none(rt: HostRuntime) -> Result<(), Fail> {
+    let alloc = rt.alloc();
+    let nothing = request_text(alloc, &[])?;
+    assert_eq!(rt; nothing.as_str(), REFUSED);
+    let program = String::from_str(alloc, "lockstep")?;
+    let alone = request_text(alloc, &[program])?;
+    assert_eq!(rt; alone.as_str(), REFUSED);
+    Ok(())
+}
+
+/// The request of a command with so many names, half of them after `--`.
+fn request_of_many(alloc: Global, command: &str, count: usize) -> Result<String, NoMemory> {
+    let mut line = command_line(alloc, command)?;
+    for i in 0..count {
+        if i == count / 2 {
+            line.push(String::from_str(alloc, "--")?)?;
+        }
+        line.push(format!(in alloc; "{i}")?)?;
+    }
+    request_text(alloc, &line)
+}
+
+/// What is printed of a command with so many names.
+fn text_of_many(alloc: Global, printed: &str, count: usize) -> Result<String, NoMemory> {
+    let mut text = String::from_str(alloc, printed)?;
+    for i in 0..count {
+        put_name(&mut text, "", &format!(in alloc; "{i}")?)?;
+    }
+    Ok(text)
+}
+
+/// The three parts of a row.
+fn parts(row: &str) -> Option<(&str, &str, &str)> {
+    let (command, rest) = row.split_once(" => ")?;
+    let (without, printed) = rest.split_once(" => ")?;
+    Some((command, without, printed))
+}
+
+#[test]
+fn numbers_of_names(rt: HostRuntime) -> Result<(), Fail> {
+    let alloc = rt.alloc();
+    for row in COMMANDS_OF_NAMES.lines() {
+        let Some((command, without, printed)) = parts(row) else {
+            return Err(Fail::new("a row without its parts"));
+        };
+        let got = request_of_many(alloc, command, 0)?;
+        assert_eq!(rt; got.as_str(), without, "of {command}");
+        let most = text_of_many(alloc, printed, MAX_FILES)?;
+        let got = request_of_many(alloc, command, 64)?;
+        assert_eq!(rt; got.as_str(), most.as_str());
+        for count in [65, 66, 128] {
+            let got = request_of_many(alloc, command, count)?;
+            assert_eq!(rt; got.as_str(), REFUSED, "of {count}");
+        }
+    }
+    Ok(())
+}
