@@ -1,8 +1,5 @@
 //! A client that plays while the console kicks it.
-ghost use Rattle.std.specs.Prelude.{◌≡◌, IfOk, []};
-
-use crate::serving::serve;
-use game_io::MemNet;
+use crate::serving::{serve, two_links};
 use match_serve::LinkEnd;
 use std::alloc::{AllocError, Global};
 use std::test::Fail;
@@ -11,8 +8,9 @@ use std::test::Fail;
 const FIVE_FRAMES: &[u8] =
     b"\x0b\x00\x01\x02\x00\xdf\xb7\x01\x86\x4c\xbd\x63\xaf\x06\x00\x02\x00\x00\x00\x00\x00\x06\x00\x02\x01\x00\x00\x00\x00\x06\x00\x02\x02\x00\x00\x00\x00\x06\x00\x02\x03\x00\x00\x00\x00\x06\x00\x02\x04\x00\x00\x00\x00";
 
-/// The farewell.
-const BYE: &[u8] = b"\x01\x00\x04";
+/// Such a link, whose client then says farewell.
+const FIVE_FRAMES_AND_BYE: &[u8] =
+    b"\x0b\x00\x01\x02\x00\xdf\xb7\x01\x86\x4c\xbd\x63\xaf\x06\x00\x02\x00\x00\x00\x00\x00\x06\x00\x02\x01\x00\x00\x00\x00\x06\x00\x02\x02\x00\x00\x00\x00\x06\x00\x02\x03\x00\x00\x00\x00\x06\x00\x02\x04\x00\x00\x00\x00\x01\x00\x04";
 
 /// True of a packet to a client that tells a play or the departure of client 1.
 fn is_of_client_1(packet: &[u8]) -> bool {
@@ -50,19 +48,6 @@ fn column_packets(alloc: Global, plays: u8) -> Result<Vec<u8>, AllocError> {
     Ok(packets)
 }
 
-/// The links of the match: both clients play five frames, and the first says farewell.
-fn two_links(alloc: Global) -> Result<MemNet, AllocError>
-    ensures { IfOk result (λ net. net.given ≡ []) }
-{
-    let mut first = Vec::from_slice(alloc, FIVE_FRAMES)?;
-    first.extend_from_slice(BYE)?;
-    let second = Vec::from_slice(alloc, FIVE_FRAMES)?;
-    let mut net = MemNet::new(alloc, Vec::new(alloc));
-    net.add(first, Vec::new(alloc), Vec::new(alloc))?;
-    net.add(second, Vec::new(alloc), Vec::new(alloc))?;
-    Ok(net)
-}
-
 /// True where a link may have ended so, whose client was kicked after so many plays, or before that
 /// ended with all five.
 fn may_end(end: Option<LinkEnd>, plays: u32) -> bool {
@@ -79,7 +64,8 @@ const MATCHES: u32 = 16;
 #[test]
 fn a_client_that_is_kicked(rt: HostRuntime) -> Result<(), Fail> {
     for _match in 0..MATCHES {
-        let mut net = two_links(rt.alloc())?;
+        let puts = Vec::new(rt.alloc());
+        let mut net = two_links(rt.alloc(), FIVE_FRAMES_AND_BYE, FIVE_FRAMES, puts)?;
         let mut served = serve(&rt, rt.alloc(), &mut net, b"kick 1\n")?;
         let first = served.table.seen(&mut served.pass, 0);
         let second = served.table.seen(&mut served.pass, 1);
