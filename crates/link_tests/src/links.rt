@@ -7,7 +7,9 @@ use crate::rows::{bytes_of, cut, text_of};
 use base::{List, NoMemory};
 use frame_table::{FrameTable, Pass, Plan, Planned, Seen};
 use game_io::{FailingCall, MemSink, MemSource, Remains, Sink, Source};
-use match_net::{Greeting, ReaderEnd, Reports, SenderEnd, greet, reader_session, report_queue, sender_session};
+use match_net::{
+    Greeting, ReaderEnd, Reports, SenderEnd, greet, reader_session, report_queue, sender_session,
+};
 use order_packets::UpFeeder;
 use std::alloc::Global;
 use std::process::Abort;
@@ -159,12 +161,7 @@ fn a_client_that_was_kicked(rt: HostRuntime) -> Result<(), Fail> {
 }
 
 /// What is sent to the client of a link, once that was read.
-fn send_to<O: Sink, R: Wait>(
-    rt: &R,
-    alloc: Global,
-    read: ReadLink,
-    link: &mut O,
-) -> SenderEnd
+fn send_to<O: Sink, R: Wait>(rt: &R, alloc: Global, read: ReadLink, link: &mut O) -> SenderEnd
     requires { IsReadPass read.table read.pass }
 {
     let ReadLink {
@@ -214,6 +211,9 @@ fn a_link_that_is_cut_off(rt: HostRuntime) -> Result<(), Fail> {
     let digits = "0b00010200dfb701864cbd63af0600020000000000010004";
     let (end, written) = send_link(&rt, rt.alloc(), digits, failing)?;
     assert_eq!(rt; end, SenderEnd::Lost);
-    assert_eq!(rt; written, bytes_of(rt.alloc(), "08001100010209000000070013")?);
+    assert_eq!(rt;
+        written,
+        bytes_of(rt.alloc(), "08001100010209000000070013")?
+    );
     Ok(())
 }

@@ -1,14 +1,12 @@
 //! A link that gives nothing more until its client was let go.
-ghost use Rattle.std.specs.Prelude.{◌≡◌, IfOk, []};
 ghost use Rattle.game_io.specs.PlannedBytes.{sink_state, source_state};
 ghost use Rattle.game_io.specs.PlannedLinks.{net_state};
 
-use crate::serving::serve;
+use crate::serving::{serve, two_links};
 use game_io::{
     Failed, FailingCall, MAX_HOLD_TURNS, MemNet, MemSink, MemSource, Net, Remains, Sink, Source,
 };
 use match_serve::LinkEnd;
-use std::alloc::Global;
 use std::sync::atomic::{AtomicBool, Ordering};
 use std::test::Fail;
 use std::thread;
@@ -157,24 +155,6 @@ const HELLO: &[u8] = b"\x0b\x00\x01\x02\x00\xdf\xb7\x01\x86\x4c\xbd\x63\xaf";
 /// The bytes of a link whose client greets and says farewell.
 const HELLO_AND_BYE: &[u8] = b"\x0b\x00\x01\x02\x00\xdf\xb7\x01\x86\x4c\xbd\x63\xaf\x01\x00\x04";
 
-/// Links whose clients greet, and of which the first says farewell. These puts of the first fail.
-fn two_links(alloc: Global, puts: Vec<FailingCall>) -> Result<MemNet, Fail>
-    ensures { IfOk result (λ net. net.given ≡ []) }
-{
-    let mut net = MemNet::new(alloc, Vec::new(alloc));
-    net.add(
-        Vec::from_slice(alloc, HELLO_AND_BYE)?,
-        Vec::new(alloc),
-        puts,
-    )?;
-    net.add(
-        Vec::from_slice(alloc, HELLO)?,
-        Vec::new(alloc),
-        Vec::new(alloc),
-    )?;
-    Ok(net)
-}
-
 /// The last put to the first link, which has the welcome and two departures, fails or none does; and
 /// how often that link has then failed.
 const FAILING: [(Option<Remains>, u64); 2] = [(None, 0), (Some(Remains::Prefix(3)), 1)];
@@ -189,7 +169,7 @@ fn a_held_link(rt: HostRuntime) -> Result<(), Fail> {
             puts.push(FailingCall { call: 2, remains })?;
         }
         let mut net = HeldNet {
-            net: two_links(rt.alloc(), puts)?,
+            net: two_links(rt.alloc(), HELLO_AND_BYE, HELLO, puts)?,
             hold: &hold,
         };
         let served = serve(&rt, rt.alloc(), &mut net, b"kick 1\n")?;

@@ -1,8 +1,5 @@
 //! A client that plays while the console kicks it.
-ghost use Rattle.std.specs.Prelude.{◌≡◌, IfOk, []};
-
-use crate::serving::serve;
-use game_io::MemNet;
+use crate::serving::{serve, two_links};
 use match_serve::LinkEnd;
 use std::alloc::{AllocError, Global};
 use std::test::Fail;
@@ -11,8 +8,9 @@ use std::test::Fail;
 const FIVE_FRAMES: &[u8] =
     b"\x0b\x00\x01\x02\x00\xdf\xb7\x01\x86\x4c\xbd\x63\xaf\x06\x00\x02\x00\x00\x00\x00\x00\x06\x00\x02\x01\x00\x00\x00\x00\x06\x00\x02\x02\x00\x00\x00\x00\x06\x00\x02\x03\x00\x00\x00\x00\x06\x00\x02\x04\x00\x00\x00\x00";
 
-/// The farewell.
-const BYE: &[u8] = b"\x01\x00\x04";
+/// Such a link, whose client then says farewell.
+const FIVE_FRAMES_AND_BYE: &[u8] =
+    b"\x0b\x00\x01\x02\x00\xdf\xb7\x01\x86\x4c\xbd\x63\xaf\x06\x00\x02\x00\x00\x00\x00\x00\x06\x00\x02\x01\x00\x00\x00\x00\x06\x00\x02\x02\x00\x00\x00\x00\x06\x00\x02\x03\x00\x00\x00\x00\x06\x00\x02\x04\x00\x00\x00\x00\x01\x00\x04";
 
 /// True of a packet to a client that tells a play or the departure of client 1.
 fn is_of_client_1(packet: &[u8]) -> bool {
@@ -40,27 +38,21 @@ fn told_of_client_1(alloc: Global, written: &[u8]) -> Result<Vec<u8>, AllocError
     Ok(told)
 }
 
-/// The packets that tell so many plays of client 1, each without orders, and then its departure.
-fn column_packets(alloc: Global, plays: u8) -> Result<Vec<u8>, AllocError> {
-    let mut packets = Vec::new(alloc);
-    for n in 0..plays {
-        packets.extend_from_slice(&[7, 0, 0x13, 1, n, 0, 0, 0, 0])?;
+/// The packets that tell so many plays of client 1, each without orders, and then its departure. It
+/// has five plays at the most.
+fn column_packets(plays: u32) -> &'static [u8] {
+    match plays {
+        0 => b"\x06\x00\x14\x01\x00\x00\x00\x00",
+        1 => b"\x07\x00\x13\x01\x00\x00\x00\x00\x00\x06\x00\x14\x01\x01\x00\x00\x00",
+        2 =>
+            b"\x07\x00\x13\x01\x00\x00\x00\x00\x00\x07\x00\x13\x01\x01\x00\x00\x00\x00\x06\x00\x14\x01\x02\x00\x00\x00",
+        3 =>
+            b"\x07\x00\x13\x01\x00\x00\x00\x00\x00\x07\x00\x13\x01\x01\x00\x00\x00\x00\x07\x00\x13\x01\x02\x00\x00\x00\x00\x06\x00\x14\x01\x03\x00\x00\x00",
+        4 =>
+            b"\x07\x00\x13\x01\x00\x00\x00\x00\x00\x07\x00\x13\x01\x01\x00\x00\x00\x00\x07\x00\x13\x01\x02\x00\x00\x00\x00\x07\x00\x13\x01\x03\x00\x00\x00\x00\x06\x00\x14\x01\x04\x00\x00\x00",
+        _ =>
+            b"\x07\x00\x13\x01\x00\x00\x00\x00\x00\x07\x00\x13\x01\x01\x00\x00\x00\x00\x07\x00\x13\x01\x02\x00\x00\x00\x00\x07\x00\x13\x01\x03\x00\x00\x00\x00\x07\x00\x13\x01\x04\x00\x00\x00\x00\x06\x00\x14\x01\x05\x00\x00\x00",
     }
-    packets.extend_from_slice(&[6, 0, 0x14, 1, plays, 0, 0, 0])?;
-    Ok(packets)
-}
-
-/// The links of the match: both clients play five frames, and the first says farewell.
-fn two_links(alloc: Global) -> Result<MemNet, AllocError>
-    ensures { IfOk result (λ net. net.given ≡ []) }
-{
-    let mut first = Vec::from_slice(alloc, FIVE_FRAMES)?;
-    first.extend_from_slice(BYE)?;
-    let second = Vec::from_slice(alloc, FIVE_FRAMES)?;
-    let mut net = MemNet::new(alloc, Vec::new(alloc));
-    net.add(first, Vec::new(alloc), Vec::new(alloc))?;
-    net.add(second, Vec::new(alloc), Vec::new(alloc))?;
-    Ok(net)
 }
 
 /// True where a link may have ended so, whose client was kicked after so many plays, or before that
@@ -79,7 +71,8 @@ const MATCHES: u32 = 16;
 #[test]
 fn a_client_that_is_kicked(rt: HostRuntime) -> Result<(), Fail> {
     for _match in 0..MATCHES {
-        let mut net = two_links(rt.alloc())?;
+        let puts = Vec::new(rt.alloc());
+        let mut net = two_links(rt.alloc(), FIVE_FRAMES_AND_BYE, FIVE_FRAMES, puts)?;
         let mut served = serve(&rt, rt.alloc(), &mut net, b"kick 1\n")?;
         let first = served.table.seen(&mut served.pass, 0);
         let second = served.table.seen(&mut served.pass, 1);
@@ -90,10 +83,10 @@ fn a_client_that_is_kicked(rt: HostRuntime) -> Result<(), Fail> {
             (5, Some(LinkEnd::Ended))
         );
         assert!(rt; may_end(ends.get(1).copied(), second.plays), "{second:?}");
-        let packets = column_packets(rt.alloc(), second.plays.min(5) as u8)?;
+        let packets = column_packets(second.plays);
         for link in 0..2 {
             let told = told_of_client_1(rt.alloc(), net.written(link).unwrap_or(b""))?;
-            assert_eq!(rt; told, packets);
+            assert_eq!(rt; told.as_slice(), packets);
         }
     }
     Ok(())

@@ -1,6 +1,5 @@
 //! Tests of `match_serve`: matches over links in memory.
-//!
-//! They stand apart from the crate, so that its proofs need not be done again with them.
+//! They use what the crate makes public.
 #![tactic(auto)]
 
 #[cfg(test)]

@@ -1,12 +1,8 @@
 //! How links of a match end, by their bytes.
-ghost use Rattle.std.specs.Prelude.{◌≡◌, IfOk, []};
-
-use crate::serving::serve;
+use crate::serving::{serve, two_links};
 use frame_core::Sim;
-use game_io::MemNet;
 use match_net::ReadCause;
 use match_serve::LinkEnd;
-use std::alloc::{AllocError, Global};
 use std::test::Fail;
 
 /// The bytes of a link whose client greets, plays frame 0 and says farewell.
@@ -44,22 +40,10 @@ const LINKS: [(&[u8], LinkEnd, u64, u64); 4] = [
 /// Lines of a console, none of which kicks.
 const LINES: &[u8] = b"kick 2\nkick 00\n kick 0\n";
 
-/// A link with these bytes, and another one that has one frame.
-fn two_links(alloc: Global, bytes: &[u8]) -> Result<MemNet, AllocError>
-    ensures { IfOk result (λ net. net.given ≡ []) }
-{
-    let first = Vec::from_slice(alloc, bytes)?;
-    let other = Vec::from_slice(alloc, ONE_FRAME)?;
-    let mut net = MemNet::new(alloc, Vec::new(alloc));
-    net.add(first, Vec::new(alloc), Vec::new(alloc))?;
-    net.add(other, Vec::new(alloc), Vec::new(alloc))?;
-    Ok(net)
-}
-
 #[test]
 fn links(rt: HostRuntime) -> Result<(), Fail> {
     for (bytes, end, taken, hash) in LINKS {
-        let mut net = two_links(rt.alloc(), bytes)?;
+        let mut net = two_links(rt.alloc(), bytes, ONE_FRAME, Vec::new(rt.alloc()))?;
         let served = serve(&rt, rt.alloc(), &mut net, LINES)?;
         assert_eq!(rt; served.ends.as_slice().get(0).copied(), Some(end));
         assert_eq!(rt; served.taken.as_slice(), [taken, 24].as_slice());

@@ -3,10 +3,10 @@ ghost use Rattle.std.specs.Prelude.{◌≡◌, IfOk, [], length};
 ghost use Rattle.frame_table.specs.Calls.{plan_of, IsPassOf};
 
 use frame_core::Tally;
-use game_io::{MemSource, Net};
+use game_io::{FailingCall, MemNet, MemSource, Net};
 use match_net::Invite;
 use match_serve::{Served, serve_match};
-use std::alloc::Global;
+use std::alloc::{AllocError, Global};
 use std::sync::Wait;
 use std::test::Fail;
 use std::thread::Threads;
@@ -18,6 +18,33 @@ const INVITE: Invite = Invite {
     seed: 9,
     rules: 0xaf63_bd4c_8601_b7df,
 };
+
+/// Two links with these bytes. These puts of the first fail.
+pub fn two_links(
+    alloc: Global,
+    first: &[u8],
+    second: &[u8],
+    puts: Vec<FailingCall>,
+) -> Result<MemNet, AllocError>
+    ensures { IfOk result (λ net. net.given ≡ []) }
+{
+    let mut net = MemNet::new(alloc, Vec::new(alloc));
+    add_link(alloc, &mut net, first, puts)?;
+    add_link(alloc, &mut net, second, Vec::new(alloc))?;
+    Ok(net)
+}
+
+/// Adds a link with these bytes, of which these puts fail.
+fn add_link(
+    alloc: Global,
+    net: &mut MemNet,
+    bytes: &[u8],
+    puts: Vec<FailingCall>,
+) -> Result<(), AllocError>
+    ensures { net.new.given ≡ net.old.given }
+{
+    net.add(Vec::from_slice(alloc, bytes)?, Vec::new(alloc), puts)
+}
 
 /// Serves a match of two clients over the least world, while the console gives these lines.
 pub fn serve<N: Net, R: Threads + Wait + Sync>(
