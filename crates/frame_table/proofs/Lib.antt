@@ -8,5 +8,4 @@ pub mod Stores
 pub mod Calls
 pub mod Becoming
 pub mod Looking
-pub mod TestPasses
 pub mod Copied

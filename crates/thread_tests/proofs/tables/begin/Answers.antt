@@ -1,7 +1,7 @@
 use Rattle.std.proofs.Common.{◌≤◌, ◌∙◌, ap, sym, subst, arith}
 use Rattle.frame_table.specs.declared.view.View.{View}
 use Rattle.frame_table.specs.Passes.{first_view}
-use Rattle.frame_table.proofs.TestPasses.{first_feeds}
+use Rattle.thread_tests.proofs.TablePasses.{first_feeds}
 use Rattle.thread_tests.proofs.tables.begin.Goals as goal
 
 pub returns-clause-feeds : goal.returns-clause-feeds

@@ -1,4 +1,4 @@
-use Rattle.frame_table.proofs.TestPasses.{given_feeds, kept_free}
+use Rattle.thread_tests.proofs.TablePasses.{given_feeds, kept_free}
 use Rattle.thread_tests.proofs.tables.kicked.Goals as goal
 
 pub loop-n-init : goal.loop-n-init

@@ -1,4 +1,4 @@
--- What the tests need of a pass of a table with free columns.
+-- What is known of a pass of a table with free columns.
 use Rattle.std.proofs.Common.{◌≡◌, ℕ, zero, suc, ◌^◌, ◌<◌, Bool, true, false, List, [], ◌∷◌, length, get_or, replicate, refl, sym, ap, ◌∙◌, subst, inl, ⊎_elim, arith}
 use native.Mathlib.Decide.{ℕ_discrete}
 use mathlib.Core.Logic.{dite}
@@ -15,7 +15,7 @@ use Rattle.frame_table.specs.Part.{Part, part_of, part_in, no_mark}
 use Rattle.frame_table.specs.Passes.{kept_mark, given_marks, kept_view, given_view, first_view, first_mark}
 use Rattle.frame_table.specs.Steps.{MayEnd, loaded}
 use Rattle.frame_table.specs.Calls.{plan_of, view_of, IsPassOf, MayPut, MayPutPlay, MayLeaveBy, Acted, IsLater, IsLaterPart}
-use Rattle.frame_table.specs.Tests.{IsFreePass, IsFeedingPass}
+use Rattle.thread_tests.specs.Tables.{IsFreePass, IsFeedingPass}
 use Rattle.frame_table.specs.PassesLemmas.{first_at, handed}
 
 pub free_may_put : (p : Part) (n : ℕ) (e : Entry) → p.planned ≡ Free → p.feeds ≡ true → MayPut p n e
