@@ -1,6 +1,6 @@
 //! How the tests serve a match.
-ghost use Rattle.std.specs.Prelude.{◌≡◌, IfOk, [], length};
-ghost use Rattle.frame_table.specs.Calls.{plan_of, IsPassOf};
+ghost use Rattle.std.specs.Prelude.{◌≡◌, ◌^◌, IfOk, [], length};
+ghost use Rattle.frame_table.specs.Calls.{plan_of, view_of, IsPassOf};
 
 use frame_core::Tally;
 use game_io::{FailingCall, MemNet, MemSource, Net};
@@ -46,7 +46,8 @@ fn add_link(
     net.add(Vec::from_slice(alloc, bytes)?, Vec::new(alloc), puts)
 }
 
-/// Serves a match of two clients over the least world, while the console gives these lines.
+/// Serves a match of two clients over the least world, while the console gives these lines. The pass
+/// that is handed back has the whole share.
 pub fn serve<N: Net, R: Threads + Wait + Sync>(
     rt: &R,
     alloc: Global,
@@ -56,6 +57,7 @@ pub fn serve<N: Net, R: Threads + Wait + Sync>(
     requires no_links { (N.state net.old).given ≡ [] }
     ensures pass { IfOk result (λ served. IsPassOf served.table served.pass) }
     ensures clients { IfOk result (λ served. length (plan_of served.table) ≡ 2) }
+    ensures whole { IfOk result (λ served. (view_of served.pass).share ≡ 2 ^ 62) }
 {
     let mut console = MemSource::new(Vec::from_slice(alloc, lines)?, Vec::new(alloc));
     match serve_match(rt, alloc, &INVITE, "here", Tally::new(), net, &mut console) {
