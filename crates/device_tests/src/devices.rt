@@ -6,21 +6,25 @@ use game_io::{
     Remains, Sink, Source, StdSink, StdSource, SureDisk, SureNet, SureSink, SureSource, TcpNet,
 };
 use std::alloc::{AllocError, Global};
-use std::io::Write;
+use std::io::{Read, Write};
+use std::sync::atomic::{AtomicBool, Ordering};
 use std::test::Fail;
-use std::{env, fs, io, process};
+use std::{env, fs, io, process, thread};
 
 /// The one call of this number is to fail.
 fn failing(alloc: Global, call: u32, remains: Remains) -> Result<Vec<FailingCall>, AllocError> {
     Ok(vec![in alloc; FailingCall { call, remains }]?)
 }
 
-/// Puts `ab`, `cde` and `f`, and answers the count of faults.
-fn put_three(sink: &mut impl Sink) -> u64 {
+/// Puts `ab`, `cde` and `f`, and answers how many of these failed, and the count of faults.
+fn put_three(sink: &mut impl Sink) -> (u64, u64) {
+    let mut failed = 0u64;
     for piece in ["ab", "cde", "f"] {
-        let _ = sink.put(piece.as_bytes());
+        if sink.put(piece.as_bytes()).is_err() {
+            failed = failed.saturating_add(1);
+        }
     }
-    sink.faults()
+    (failed, sink.faults())
 }
 
 /// Takes two bytes at a time, five times.
@@ -80,10 +84,10 @@ fn chosen_puts_fail(rt: HostRuntime) -> Result<(), Fail> {
     ];
     for (call, remains, want) in rows {
         let mut sink = MemSink::new(rt.alloc(), failing(rt.alloc(), call, remains)?);
-        assert_eq!(rt; put_three(&mut sink), 1);
+        assert_eq!(rt; put_three(&mut sink), (1, 1));
         assert_eq!(rt; sink.bytes(), want.as_bytes());
     }
-    assert_eq!(rt; put_three(&mut SureSink), 0);
+    assert_eq!(rt; put_three(&mut SureSink), (0, 0));
     Ok(())
 }
 
@@ -189,7 +193,8 @@ fn a_writer_that_fails_is_counted(rt: HostRuntime) {
             fails_at,
             held: &mut held,
         });
-        assert_eq!(rt; put_three(&mut sink), u64::from(fails_at < 7));
+        let failed = u64::from(fails_at < 7);
+        assert_eq!(rt; put_three(&mut sink), (failed, failed));
         drop(sink);
         assert_eq!(rt; held.as_slice(), text.as_bytes());
     }
@@ -364,4 +369,73 @@ fn a_reader_is_a_source(rt: HostRuntime) {
     assert_eq!(rt; (source.take(&mut room), room), (Ok(2), *b"cd"));
     assert_eq!(rt; (source.take(&mut room), room), (Ok(1), *b"ed"));
     assert_eq!(rt; (source.take(&mut room), source.faults()), (Ok(0), 0));
+}
+
+/// A reader that always fails.
+#[derive(Drop)]
+struct Broken;
+
+impl Read for Broken {
+    fn read(&mut self, _buf: &mut [u8]) -> io::Result<usize> {
+        Err(io::Error::from(io::ErrorKind::BrokenPipe))
+    }
+}
+
+#[test]
+fn a_reader_that_fails_is_counted(rt: HostRuntime) {
+    let mut source = StdSource::new(Broken);
+    let mut room = [7u8; 2];
+    assert_eq!(rt; source.take(&mut room), Err(Failed));
+    assert_eq!(rt; (source.faults(), room), (1, [7; 2]));
+}
+
+/// A client that comes to a gate, and whether the other had come before it was let through.
+#[derive(Drop)]
+struct Comer {
+    client: u8,
+    other_came: bool,
+}
+
+/// How many turns client 1 comes later than client 0.
+const LATE_TURNS: u32 = 20_000;
+
+/// Client 0 comes to the gate with its play of a frame. Client 1 comes later, with what client 0
+/// waits for: its play of frame 0, or the answer to the put of that play.
+fn come(gate: &HoldGate, came: &AtomicBool, frame: u32, comer: &mut Comer) {
+    if comer.client == 0 {
+        gate.before(0, frame);
+        comer.other_came = came.load(Ordering::SeqCst);
+        return;
+    }
+    for _turn in 0..LATE_TURNS {
+        thread::yield_now();
+    }
+    came.store(true, Ordering::SeqCst);
+    if frame == 0 {
+        gate.before(1, 0);
+    } else {
+        gate.after(1, 0);
+    }
+}
+
+#[test]
+fn a_gate_holds_until_the_other_comes(rt: HostRuntime) {
+    for frame in 0..2 {
+        let gate = HoldGate::new();
+        let came = AtomicBool::new(false);
+        let mut comers = [
+            Comer {
+                client: 0,
+                other_came: false,
+            },
+            Comer {
+                client: 1,
+                other_came: false,
+            },
+        ];
+        let each = |_: usize, comer: &mut Comer| come(&gate, &came, frame, comer);
+        thread::for_each_mut(&rt, &mut comers, 2, &each);
+        assert!(rt; comers[0].other_came, "at frame {frame}");
+        assert!(rt; !gate.timed_out());
+    }
 }
