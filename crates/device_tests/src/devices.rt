@@ -2,8 +2,9 @@
 ghost use Rattle.std.specs.Prelude.{◌<◌};
 
 use game_io::{
-    Disk, DiskError, FailingCall, FileDisk, MAX_LINKS, MemDisk, MemNet, MemSink, MemSource, Net,
-    Remains, Sink, Source, StdSink, StdSource, SureDisk, SureNet, SureSink, SureSource, TcpNet,
+    Disk, DiskError, Failed, FailingCall, FileDisk, Gate, HoldGate, MAX_LINKS, MemDisk, MemNet,
+    MemSink, MemSource, Net, Remains, Sink, Source, StdSink, StdSource, SureDisk, SureNet,
+    SureSink, SureSource, TcpNet,
 };
 use std::alloc::{AllocError, Global};
 use std::io::{Read, Write};
