@@ -7,6 +7,8 @@ mod boards;
 #[cfg(test)]
 mod columns;
 #[cfg(test)]
+mod entries;
+#[cfg(test)]
 mod orders;
 #[cfg(test)]
 mod peers;

@@ -1,5 +1,6 @@
 //! What a peer answers.
 
+use crate::entries::{donation, play};
 use frame_core::{Tally, TickAnswer};
 use game_orders::{Entry, MAX_FRAMES, Order, Orders};
 use peer_core::{Delivered, Peer, Receipt, Report, SealFault};
@@ -8,16 +9,6 @@ use std::test::Fail;
 
 fn peer(rt: &HostRuntime) -> Result<Peer<Tally>, Fail> {
     Ok(Peer::create(rt.alloc(), 0, 2, 2, Tally::new())?)
-}
-
-fn play() -> Entry {
-    Entry::Play(Orders::empty())
-}
-
-fn donation() -> Entry {
-    let mut orders = Orders::empty();
-    let _ = orders.try_push(Order::Donate { to: 1, amount: 1 });
-    Entry::Play(orders)
 }
 
 fn deliver(

@@ -1,5 +1,6 @@
 //! Drills that are read, and faulty ones with the letter of their fault and its line.
 
+use crate::faults::letter;
 use drill_words::{
     Drill, DrillFault, Event, EventList, EventView, MAX_DRILL_BYTES, MAX_EVENTS, read_drill,
 };
@@ -8,23 +9,13 @@ use std::alloc::{AllocError, Global};
 use std::process::Abort;
 use std::test::Fail;
 
-/// The letter of a drill's fault and its line: `W` for a word, `N` for a number, `C` for a client,
-/// `O` for too many orders and `E` for too many events. A drill that is read has `-`, and out of
-/// memory has `M`.
+/// The letter of a drill's fault and its line. A drill that is read has `-`.
 fn fault(rt: &impl Abort, alloc: Global, text: &[u8]) -> (u8, u32) {
     assert!(rt; text.len() <= MAX_DRILL_BYTES as usize);
-    let Err(fault) = read_drill(alloc, text) else {
-        return (b'-', 0);
-    };
-    let letter = match fault.cause() {
-        "BadWord" => b'W',
-        "BadNumber" => b'N',
-        "NoSuchClient" => b'C',
-        "TooManyOrders" => b'O',
-        "TooManyEvents" => b'E',
-        _ => b'M',
-    };
-    (letter, fault.line())
+    match read_drill(alloc, text) {
+        Ok(_) => (b'-', 0),
+        Err(fault) => letter(&fault),
+    }
 }
 
 /// Texts without a kept line, faulty match lines, and texts of which several lines are faulty.

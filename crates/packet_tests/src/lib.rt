@@ -5,6 +5,8 @@
 #[cfg(test)]
 mod drills;
 #[cfg(test)]
+mod faults;
+#[cfg(test)]
 mod made;
 #[cfg(test)]
 mod packets;

@@ -1,28 +1,19 @@
 //! Scripts that are read, and faulty ones with the letter of their fault and its line.
 
+use crate::faults::letter;
 use drill_words::{MAX_DRILL_BYTES, MAX_EVENTS, Scripts, read_script};
 use game_orders::{Order, Orders};
 use std::alloc::{AllocError, Global};
 use std::process::Abort;
 use std::test::Fail;
 
-/// The letter of a script's fault and its line: `W` for a word, `N` for a number, `C` for a client,
-/// `O` for too many orders and `E` for too many events. A script that is read has `-`, and out of
-/// memory has `M`.
+/// The letter of a script's fault and its line. A script that is read has `-`.
 fn fault(rt: &impl Abort, alloc: Global, text: &[u8], solo: bool) -> (u8, u32) {
     assert!(rt; text.len() <= MAX_DRILL_BYTES as usize);
-    let Err(fault) = read_script(alloc, text, solo) else {
-        return (b'-', 0);
-    };
-    let letter = match fault.cause() {
-        "BadWord" => b'W',
-        "BadNumber" => b'N',
-        "NoSuchClient" => b'C',
-        "TooManyOrders" => b'O',
-        "TooManyEvents" => b'E',
-        _ => b'M',
-    };
-    (letter, fault.line())
+    match read_script(alloc, text, solo) {
+        Ok(_) => (b'-', 0),
+        Err(fault) => letter(&fault),
+    }
 }
 
 /// Faulty scripts, and whether each is read as a solo one.
