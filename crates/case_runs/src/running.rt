@@ -20,7 +20,15 @@ pub fn run_case<R: Threads + Wait + Sync>(
     let mut out = case.output(alloc)?;
     let mut net = case.net(alloc)?;
     let mut console = case.console(alloc)?;
-    let status = run_words(rt, alloc, words, &mut disk, &mut out, &mut net, &mut console);
+    let status = run_words(
+        rt,
+        alloc,
+        words,
+        &mut disk,
+        &mut out,
+        &mut net,
+        &mut console,
+    );
     Ok(Left {
         status,
         out,
