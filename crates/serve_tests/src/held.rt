@@ -155,6 +155,10 @@ const HELLO: &[u8] = b"\x0b\x00\x01\x02\x00\xdf\xb7\x01\x86\x4c\xbd\x63\xaf";
 /// The bytes of a link whose client greets and says farewell.
 const HELLO_AND_BYE: &[u8] = b"\x0b\x00\x01\x02\x00\xdf\xb7\x01\x86\x4c\xbd\x63\xaf\x01\x00\x04";
 
+/// Lines that kick nobody, more bytes than are taken at once, and then one that kicks client 1.
+const LINES: &[u8] =
+    b"kick 11\nkick 01\nkick  1\nKick 1\nkick 1 \nkick\nkick 2\nkick 99\nkick 1x\nkick 1\n";
+
 /// The last put to the first link, which has the welcome and two departures, fails or none does; and
 /// how often that link has then failed.
 const FAILING: [(Option<Remains>, u64); 2] = [(None, 0), (Some(Remains::Prefix(3)), 1)];
@@ -172,7 +176,7 @@ fn a_held_link(rt: HostRuntime) -> Result<(), Fail> {
             net: two_links(rt.alloc(), HELLO_AND_BYE, HELLO, puts)?,
             hold: &hold,
         };
-        let served = serve(&rt, rt.alloc(), &mut net, b"kick 1\n")?;
+        let served = serve(&rt, rt.alloc(), &mut net, LINES)?;
         let ends = [LinkEnd::Ended, LinkEnd::Kicked(0)];
         assert_eq!(rt; served.ends.as_slice(), ends.as_slice());
         assert_eq!(rt; (net.link_faults(0), net.link_faults(1)), (faults, 0));
