@@ -22,11 +22,9 @@ use std::alloc::Global;
 pub(crate) fn lockstep_command<'a>(alloc: Global) -> Result<Command<'a>, NoMemory>
     ensures { IfOk result (λ command. app_of command ≡ lockstep_app) }
 {
-    let replay = replay_command(alloc)?;
-    let migrate = migrate_command(alloc)?;
     linked_commands(alloc)?
-        .subcommand(replay)?
-        .subcommand(migrate)
+        .subcommand(replay_command(alloc)?)?
+        .subcommand(migrate_command(alloc)?)
 }
 
 /// The command of the program with the subcommands over links, too.
@@ -34,9 +32,9 @@ pub(crate) fn lockstep_command<'a>(alloc: Global) -> Result<Command<'a>, NoMemor
 fn linked_commands<'a>(alloc: Global) -> Result<Command<'a>, NoMemory>
     ensures { IfOk result (Follows linked_app) }
 {
-    let serve = serve_command(alloc)?;
-    let play = play_command(alloc)?;
-    playing_commands(alloc)?.subcommand(serve)?.subcommand(play)
+    playing_commands(alloc)?
+        .subcommand(serve_command(alloc)?)?
+        .subcommand(play_command(alloc)?)
 }
 
 /// The command of the program with the subcommands that play made matches and scripts, too.
@@ -44,9 +42,9 @@ fn linked_commands<'a>(alloc: Global) -> Result<Command<'a>, NoMemory>
 fn playing_commands<'a>(alloc: Global) -> Result<Command<'a>, NoMemory>
     ensures { IfOk result (Follows playing_app) }
 {
-    let make = make_command(alloc)?;
-    let local = local_command(alloc)?;
-    asking_commands(alloc)?.subcommand(make)?.subcommand(local)
+    asking_commands(alloc)?
+        .subcommand(make_command(alloc)?)?
+        .subcommand(local_command(alloc)?)
 }
 
 /// The command of the program with the subcommands that only ask about rules and maps, too.
@@ -54,9 +52,9 @@ fn playing_commands<'a>(alloc: Global) -> Result<Command<'a>, NoMemory>
 fn asking_commands<'a>(alloc: Global) -> Result<Command<'a>, NoMemory>
     ensures { IfOk result (Follows asking_app) }
 {
-    let check = check_command(alloc)?;
-    let route = route_command(alloc)?;
-    first_commands(alloc)?.subcommand(check)?.subcommand(route)
+    first_commands(alloc)?
+        .subcommand(check_command(alloc)?)?
+        .subcommand(route_command(alloc)?)
 }
 
 /// The command of the program with its first subcommands.
@@ -64,9 +62,9 @@ fn asking_commands<'a>(alloc: Global) -> Result<Command<'a>, NoMemory>
 fn first_commands<'a>(alloc: Global) -> Result<Command<'a>, NoMemory>
     ensures { IfOk result (Follows first_app) }
 {
-    let drill = drill_command(alloc)?;
-    let yaml = yaml_command(alloc)?;
-    bare_command(alloc).subcommand(drill)?.subcommand(yaml)
+    bare_command(alloc)
+        .subcommand(drill_command(alloc)?)?
+        .subcommand(yaml_command(alloc)?)
 }
 
 /// A command that one of its subcommands must follow, without words for help or the version.
@@ -85,11 +83,9 @@ fn bare_command<'a>(alloc: Global) -> Command<'a>
 fn drill_command<'a>(alloc: Global) -> Result<Command<'a>, NoMemory>
     ensures { IfOk result (Follows drill_app) }
 {
-    let record = option_named(alloc, "record");
-    let names = file_names(alloc);
     played_command(alloc, "drill", "script")?
-        .arg(record)?
-        .arg(names)
+        .arg(option_named(alloc, "record"))?
+        .arg(file_names(alloc))
 }
 
 /// A command that plays a match over the file of this option, and a map, if one is named, so far.
@@ -101,34 +97,32 @@ fn played_command<'a>(
 ) -> Result<Command<'a>, NoMemory>
     ensures { IfOk result (Follows (played_app command.entry.now option.entry.now)) }
 {
-    let file = required_option(alloc, option);
-    let map = option_named(alloc, "map");
-    Command::new(alloc, command).arg(file)?.arg(map)
+    Command::new(alloc, command)
+        .arg(required_option(alloc, option))?
+        .arg(option_named(alloc, "map"))
 }
 
 #[tactic(auto, unfolding(crate::specs::Commands::yaml_app))]
 fn yaml_command<'a>(alloc: Global) -> Result<Command<'a>, NoMemory>
     ensures { IfOk result (Follows yaml_app) }
 {
-    let names = file_names(alloc);
-    Command::new(alloc, "yaml").arg(names)
+    Command::new(alloc, "yaml").arg(file_names(alloc))
 }
 
 #[tactic(auto, unfolding(crate::specs::Commands::check_app))]
 fn check_command<'a>(alloc: Global) -> Result<Command<'a>, NoMemory>
     ensures { IfOk result (Follows check_app) }
 {
-    let map = option_named(alloc, "map");
-    let names = file_names(alloc);
-    Command::new(alloc, "check").arg(map)?.arg(names)
+    Command::new(alloc, "check")
+        .arg(option_named(alloc, "map"))?
+        .arg(file_names(alloc))
 }
 
 #[tactic(auto, unfolding(crate::specs::Commands::route_app))]
 fn route_command<'a>(alloc: Global) -> Result<Command<'a>, NoMemory>
     ensures { IfOk result (Follows route_app) }
 {
-    let names = file_names(alloc);
-    ends_command(alloc)?.arg(names)
+    ends_command(alloc)?.arg(file_names(alloc))
 }
 
 /// `route` with all its options.
@@ -136,9 +130,9 @@ fn route_command<'a>(alloc: Global) -> Result<Command<'a>, NoMemory>
 fn ends_command<'a>(alloc: Global) -> Result<Command<'a>, NoMemory>
     ensures { IfOk result (Follows ends_app) }
 {
-    let from = required_option(alloc, "from");
-    let to = required_option(alloc, "to");
-    routed_command(alloc)?.arg(from)?.arg(to)
+    routed_command(alloc)?
+        .arg(required_option(alloc, "from"))?
+        .arg(required_option(alloc, "to"))
 }
 
 /// `route` with its first options: what walks on which map.
@@ -146,26 +140,25 @@ fn ends_command<'a>(alloc: Global) -> Result<Command<'a>, NoMemory>
 fn routed_command<'a>(alloc: Global) -> Result<Command<'a>, NoMemory>
     ensures { IfOk result (Follows routed_app) }
 {
-    let map = required_option(alloc, "map");
-    let kind = required_option(alloc, "kind");
-    Command::new(alloc, "route").arg(map)?.arg(kind)
+    Command::new(alloc, "route")
+        .arg(required_option(alloc, "map"))?
+        .arg(required_option(alloc, "kind"))
 }
 
 #[tactic(auto, unfolding(crate::specs::Commands::local_app))]
 fn local_command<'a>(alloc: Global) -> Result<Command<'a>, NoMemory>
     ensures { IfOk result (Follows local_app) }
 {
-    let names = file_names(alloc);
-    played_command(alloc, "local", "script")?.arg(names)
+    played_command(alloc, "local", "script")?.arg(file_names(alloc))
 }
 
 #[tactic(auto, unfolding(crate::specs::Commands::serve_app))]
 fn serve_command<'a>(alloc: Global) -> Result<Command<'a>, NoMemory>
     ensures { IfOk result (Follows serve_app) }
 {
-    let map = option_named(alloc, "map");
-    let names = file_names(alloc);
-    timed_command(alloc)?.arg(map)?.arg(names)
+    timed_command(alloc)?
+        .arg(option_named(alloc, "map"))?
+        .arg(file_names(alloc))
 }
 
 /// `serve` with all its numbers.
@@ -173,9 +166,9 @@ fn serve_command<'a>(alloc: Global) -> Result<Command<'a>, NoMemory>
 fn timed_command<'a>(alloc: Global) -> Result<Command<'a>, NoMemory>
     ensures { IfOk result (Follows timed_app) }
 {
-    let lag = number_option(alloc, "lag", 1, u32::from(MAX_LAG));
-    let seed = number_option(alloc, "seed", 0, u32::MAX);
-    hosted_command(alloc)?.arg(lag)?.arg(seed)
+    hosted_command(alloc)?
+        .arg(number_option(alloc, "lag", 1, u32::from(MAX_LAG)))?
+        .arg(number_option(alloc, "seed", 0, u32::MAX))
 }
 
 /// `serve` with its first options: where, and to how many clients.
@@ -183,45 +176,41 @@ fn timed_command<'a>(alloc: Global) -> Result<Command<'a>, NoMemory>
 fn hosted_command<'a>(alloc: Global) -> Result<Command<'a>, NoMemory>
     ensures { IfOk result (Follows hosted_app) }
 {
-    let at = required_option(alloc, "at");
-    let clients = required_number(alloc, "clients", 1, u32::from(MAX_CLIENTS));
-    Command::new(alloc, "serve").arg(at)?.arg(clients)
+    Command::new(alloc, "serve")
+        .arg(required_option(alloc, "at"))?
+        .arg(required_number(alloc, "clients", 1, u32::from(MAX_CLIENTS)))
 }
 
 #[tactic(auto, unfolding(crate::specs::Commands::play_app))]
 fn play_command<'a>(alloc: Global) -> Result<Command<'a>, NoMemory>
     ensures { IfOk result (Follows play_app) }
 {
-    let at = required_option(alloc, "at");
-    let names = file_names(alloc);
-    played_command(alloc, "play", "script")?.arg(at)?.arg(names)
+    played_command(alloc, "play", "script")?
+        .arg(required_option(alloc, "at"))?
+        .arg(file_names(alloc))
 }
 
 #[tactic(auto, unfolding(crate::specs::Commands::replay_app))]
 fn replay_command<'a>(alloc: Global) -> Result<Command<'a>, NoMemory>
     ensures { IfOk result (Follows replay_app) }
 {
-    let names = file_names(alloc);
-    played_command(alloc, "replay", "file")?.arg(names)
+    played_command(alloc, "replay", "file")?.arg(file_names(alloc))
 }
 
 #[tactic(auto, unfolding(crate::specs::Commands::migrate_app))]
 fn migrate_command<'a>(alloc: Global) -> Result<Command<'a>, NoMemory>
     ensures { IfOk result (Follows migrate_app) }
 {
-    let target = required_option(alloc, "to");
-    let names = file_names(alloc);
     played_command(alloc, "migrate", "file")?
-        .arg(target)?
-        .arg(names)
+        .arg(required_option(alloc, "to"))?
+        .arg(file_names(alloc))
 }
 
 #[tactic(auto, unfolding(crate::specs::Commands::make_app))]
 fn make_command<'a>(alloc: Global) -> Result<Command<'a>, NoMemory>
     ensures { IfOk result (Follows make_app) }
 {
-    let number = required_number(alloc, "number", 0, u32::MAX);
-    Command::new(alloc, "make").arg(number)
+    Command::new(alloc, "make").arg(required_number(alloc, "number", 0, u32::MAX))
 }
 
 /// `--NAME VALUE`, which may be left out.
