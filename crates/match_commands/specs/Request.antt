@@ -50,7 +50,7 @@ text_reply step = step >>= λ text. Ok (done text)
 
 -- The reply of a command whose files have these contents, or its refusal. A map, a script and a
 -- replay are there wherever one is wanted. The replies of `serve` and `play` are none of files alone
--- (`specs/Linked.antt`): nothing here is said of them.
+-- (`specs/Waiting.antt`): nothing here is said of them.
 abbrev pub answer_of : RequestPlain → Contents → Step Reply
 answer_of (Drill query record_file) contents = drill_step query record_file contents
 answer_of (Yaml names) contents = text_reply (yaml_step names contents.rules)
