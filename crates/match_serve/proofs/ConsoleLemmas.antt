@@ -1,5 +1,5 @@
 -- What the reading of the console keeps of its pass, and what it knows of the lines.
-use Rattle.std.proofs.Common.{◌≡◌, ◌≢◌, ℕ, ◌+◌, ◌<◌, ◌≤◌, ◌==◌, ◌||◌, Bool, true, false, List, [], ◌∷◌, ◌++◌, length, take, drop, Option, Some, None, IfSome, inl, inr, refl, ap, sym, ◌∙◌, subst, arith}
+use Rattle.std.proofs.Common.{◌≡◌, ◌≢◌, ℕ, ◌+◌, ◌-◌, ◌⊎◌, append-nil, ◌<◌, ◌≤◌, ◌==◌, ◌||◌, Bool, true, false, List, [], ◌∷◌, ◌++◌, length, take, drop, Option, Some, None, IfSome, inl, inr, refl, ap, sym, ◌∙◌, subst, arith}
 use Rattle.std.specs.Prelude.{slice_index_or, slice_set}
 use native.Mathlib.Decide.{ℕ_discrete}
 use mathlib.Core.Logic.{dite}
@@ -11,6 +11,8 @@ use Rattle.std.proofs.lemmas.Bool.{false≢true}
 use Rattle.std.proofs.lemmas.Bool.Decides.{Decides-eqb}
 use Rattle.game_io.specs.SourceState.{SourceState}
 use Rattle.game_orders.specs.declared.limits.TheConstants.{MAX_CLIENTS}
+use Rattle.base.specs.Cause.{Rose}
+use Rattle.frame_core.specs.Column.{Column, left_column}
 use Rattle.frame_core.specs.Grows.{GrowsTo}
 use Rattle.frame_core.specs.GrowsLemmas.{GrowsTo-refl}
 use Rattle.frame_table.specs.declared.pass.Pass.{Pass}
@@ -18,15 +20,16 @@ use Rattle.frame_table.specs.declared.view.View.{View}
 use Rattle.frame_table.specs.declared.seen.Seen.{Seen}
 use Rattle.frame_table.specs.declared.table.FrameTable.{FrameTable}
 use Rattle.frame_table.specs.Part.{Part, OthersStay, part_of}
-use Rattle.frame_table.specs.Steps.{loaded}
-use Rattle.frame_table.specs.Calls.{view_of}
-use Rattle.match_net.specs.Taking.{Took}
+use Rattle.frame_table.specs.Word.{one_if}
+use Rattle.frame_table.specs.Steps.{IsFound, loaded, published}
+use Rattle.frame_table.specs.Calls.{view_of, standing}
+use Rattle.match_net.specs.Taking.{Took, NoneLeft}
 use Rattle.match_serve.specs.declared.kicks.Kicks.{Kicks}
-use Rattle.match_serve.specs.Passes.{IsServePass, IsTakenOut, IsKicking, Learns}
+use Rattle.match_serve.specs.Passes.{IsServePass, IsTakenOut, IsKicking, Learns, SeesLeft, StayLeft}
 use Rattle.match_serve.specs.Console.{ends_line, lines_of, kicks_client, holds_kick}
 use Rattle.match_serve.specs.Watching.{AreNewKicks, names_client, NamesKicked, KicksBy, WatchedSoFar, WatchedLines, TakenSoFar, IsAllIf, AfterTake, WatchesConsole}
-use Rattle.match_serve.proofs.LineLemmas.{lines_grow, lines_ended, first_more, kicks_first}
-use Rattle.match_serve.proofs.PassLemmas.{learns_trans}
+use Rattle.match_serve.proofs.LineLemmas.{lines_grow, lines_ended, lines_since, first_more, kicks_first}
+use Rattle.match_serve.proofs.PassLemmas.{learns_refl, learns_trans}
 use Rattle.match_serve.proofs.SeatLemmas.{taken_out}
 use Rattle.match_serve.proofs.SessionLemmas.{took_more}
 
@@ -49,6 +52,45 @@ look_learns p q c seen others part grows =
 pub looks_more : (a p q : View) (c : ℕ) (seen : Seen) → Learns a p → OthersStay c p q → part_of c q ≡ loaded (part_of c p) seen → GrowsTo (part_of c p).known (part_of c q).known → Learns a q
 looks_more a p q c seen far others part grows = learns_trans a p q far (look_learns p q c seen others part grows)
 
+-- Each client that was looked at has left.
+pub look_left : (p q : View) (c : ℕ) (seen : Seen) → OthersStay c p q → part_of c q ≡ loaded (part_of c p) seen → seen.left ≡ true → ((d : ℕ) → d < c → (part_of d p).reach.left ≡ true) → (d : ℕ) → d < c + 1 → (part_of d q).reach.left ≡ true
+look_left p q c seen others part left before d below = dite (ℕ_discrete d c)
+    (λ same. subst (λ e. (part_of e q).reach.left ≡ true) (sym same) (ap (λ (x : Part). x.reach.left) part ∙ left))
+    (λ apart. ap (λ (x : Part). x.reach.left) (others.2 d apart) ∙ before d (omega arith))
+
+-- One has not.
+pub look_plays : (clients : ℕ) (p q : View) (c : ℕ) (seen : Seen) → part_of c q ≡ loaded (part_of c p) seen → seen.left ≡ false → c < clients → SeesLeft clients q false
+look_plays clients p q c seen part left below = (c, below, ap (λ (x : Part). x.reach.left) part ∙ left)
+
+-- Who was seen to have left.
+pub stay_same : (p : View) → StayLeft p p
+stay_same p c left = (left, refl)
+
+pub stay_more : (a p q : View) → StayLeft a p → StayLeft p q → StayLeft a q
+stay_more a p q first second c left =
+    let was = first c left in
+    let is = second c was.0 in
+    (is.0, is.1 ∙ was.1)
+
+out_here : (old new : Part) (K : Column) → IsFound old K → new ≡ published old K (left_column K) → old.reach.left ≡ true → (new.reach.left ≡ true) × (new.made ≡ old.made)
+out_here old new K found is left = (
+  ap (λ (r : Part). r.reach.left) is,
+  ap (λ (r : Part). r.made) is
+      ∙ ap (λ b. old.made + (1 - one_if b)) (found.reach.left left).0
+      ∙ (let same : old.made + (1 - 1) ≡ old.made = omega arith in same),
+)
+
+out_stays : (c : ℕ) (p q : View) → IsTakenOut c p q → StayLeft p q
+out_stays c p q (answer, (K, acted, said)) d left = dite (ℕ_discrete d c)
+    (λ same.
+    subst (λ e. ((part_of e q).reach.left ≡ true) × ((part_of e q).made ≡ (part_of e p).made)) (sym same)
+    (out_here (part_of c p) (part_of c q) K acted.found acted.part (subst (λ e. (part_of e p).reach.left ≡ true) same left)))
+    (λ apart.
+    subst (λ (r : Part). (r.reach.left ≡ true) × (r.made ≡ (part_of d p).made)) (sym (acted.others.2 d apart)) (left, refl))
+
+out_left : (c : ℕ) (p q : View) → IsTakenOut c p q → (part_of c q).known.left ≡ true
+out_left c p q (answer, (K, acted, said)) = ap (λ (r : Part). r.known.left) acted.part
+
 -- A line kicks at most one client.
 or_false : (a b : Bool) → b ≡ false → (a || b) ≡ a
 or_false true b is = refl
@@ -69,6 +111,9 @@ kicks_none clients line named kicked p is names count =
       share = refl;
       kicked = λ c below. sym (or_false (slice_index_or kicked c false) (kicks_client c line) (names c below ∙ ap (names_client c) is));
       stays = λ c below free. refl;
+      known = λ c. GrowsTo-refl (part_of c p).known;
+      gone = λ c below kicks. absurd (false≢true (sym (names c below ∙ ap (names_client c) is) ∙ kicks));
+      left = stay_same p;
     }
 
 listed : (clients : ℕ) (line : List ℕ) (d : ℕ) (kicked : List Bool) → NamesKicked clients line (Some d) → length kicked ≡ clients → (c : ℕ) → c < clients →
@@ -90,8 +135,14 @@ kicks_one clients line named d kicked p q is names count long out =
       share = (taken_out d p q out).share;
       kicked = all;
       stays = λ c below free. (taken_out d p q out).made c (other c below free);
+      known = (taken_out d p q out).known;
+      gone = λ c below kicks. subst (λ e. (part_of e q).known.left ≡ true) (named_is c below kicks) (out_left d p q out);
+      left = out_stays d p q out;
     }
   where
+    named_is : (c : ℕ) → c < clients → kicks_client c line ≡ true → d ≡ c
+    named_is c below kicks = (Decides-eqb d c).0 (sym (names c below ∙ ap (names_client c) is) ∙ kicks)
+
     other : (c : ℕ) → c < clients → slice_index_or (slice_set kicked d true) c false ≡ false → c ≢ d
     other c below free same = false≢true (sym free ∙ subst (λ e. slice_index_or (slice_set kicked e true) c false ≡ true) same (get_or-set_same kicked c true false (omega arith)))
 
@@ -114,9 +165,17 @@ module _ (clients : ℕ) (table : FrameTable) where
           line_is = new.line_is;
           count = ap length new.nobody ∙ length-replicate clients false;
           kicked_are = λ c below. ap (λ k. slice_index_or k c false) new.nobody ∙ get_or-replicate clients c false false below;
-          pass = record { is = is; share = refl; stays = λ c below free. refl };
+          pass = record {
+            is = is;
+            share = refl;
+            stays = λ c below free. refl;
+            gone = λ c below kicked. absurd (false≢true (sym (ap (λ k. slice_index_or k c false) new.nobody ∙ get_or-replicate clients c false false below) ∙ kicked));
+          };
         };
       }
+
+  still_gone : (old new : Column) → GrowsTo old new → old.left ≡ true → new.left ≡ true
+  still_gone old new grows left = ap (λ (k : Column). k.left) (grows.closed left) ∙ left
 
   -- A look at the columns.
   watched_looked : (bytes : List ℕ) (start p q : Pass) (kicks : Kicks) → WatchedSoFar clients table bytes start p kicks → IsServePass clients table q → Learns (view_of p) (view_of q) → WatchedSoFar clients table bytes start q kicks
@@ -132,6 +191,7 @@ module _ (clients : ℕ) (table : FrameTable) where
           is = is;
           share = learns.share ∙ far.pass.share;
           stays = λ c below free. learns.made c ∙ far.pass.stays c below free;
+          gone = λ c below kicked. still_gone (standing p c).known (standing q c).known (learns.known c) (far.pass.gone c below kicked);
         };
       }
 
@@ -159,9 +219,18 @@ module _ (clients : ℕ) (table : FrameTable) where
           is = is;
           share = by.share ∙ far.pass.share;
           stays = λ c below free. by.stays c below free ∙ far.pass.stays c below (or_neither (slice_index_or kicks.kicked.items c false) (kicks_client c line) (sym (by.kicked c below) ∙ free)).0;
+          gone = λ c below kicked. gone_by c below (either (slice_index_or kicks.kicked.items c false) (kicks_client c line) (sym (by.kicked c below) ∙ kicked));
         };
       }
     where
+      either : (a b : Bool) → (a || b) ≡ true → (a ≡ true) ⊎ (b ≡ true)
+      either true b is = inl refl
+      either false b is = inr is
+
+      gone_by : (c : ℕ) → c < clients → (slice_index_or kicks.kicked.items c false ≡ true) ⊎ (kicks_client c line ≡ true) → (standing q c).known.left ≡ true
+      gone_by c below (inl before) = still_gone (standing p c).known (standing q c).known (by.known c) (far.pass.gone c below before)
+      gone_by c below (inr kicks_it) = by.gone c below kicks_it
+
       or_end : (a b : Bool) → (a || b) ≡ (a || (b || false))
       or_end true b = refl
       or_end false true = refl
@@ -210,29 +279,58 @@ module _ (clients : ℕ) (table : FrameTable) where
 
   -- The end of the console, and its last line.
   pub watches : (old new : SourceState) (start p q : Pass) (kicks next : Kicks) →
-      ((bytes : List ℕ) (s : Pass) → WatchedSoFar clients table bytes s p kicks → WatchedLines clients table bytes s q next) →
+      ((bytes : List ℕ) (s : Pass) → WatchedSoFar clients table bytes s p kicks → WatchedLines clients table bytes s q next) → StayLeft (view_of p) (view_of q) →
       AfterTake clients table old new start p kicks true → WatchesConsole clients table old new start q next.kicked.items
-  watches old new start p q kicks next ends (far, all) =
-      let lines = ends far.bytes start far.watched in
-      record {
-        read = record { bytes = far.bytes; took = far.took; later = far.later; done = all };
-        count = lines.count;
-        kicked_are = lines.kicked_are;
-        pass = lines.pass;
-      }
+  watches old new start p q kicks next ends stay (far, all) = by_end all (ends far.bytes start far.watched)
+    where
+      by_end : IsAllIf clients far.bytes old new start p true → WatchedLines clients table far.bytes start q next → WatchesConsole clients table old new start q next.kicked.items
+      by_end (inl rose) lines =
+          record {
+            read = record { bytes = far.bytes; before = lines_of far.bytes; since = []; lines = sym (append-nil (lines_of far.bytes)); took = far.took; later = far.later; done = inl rose };
+            count = lines.count;
+            kicked_are = lines.kicked_are;
+            pass = lines.pass;
+            by = λ c below none. lines.pass.stays c below (lines.kicked_are c below ∙ none);
+          }
+      by_end (inr (inl over)) lines =
+          record {
+            read = record { bytes = far.bytes; before = over.before; since = over.since; lines = over.lines; took = far.took; later = far.later; done = inr (inl (over.ends, over.ended)) };
+            count = lines.count;
+            kicked_are = lines.kicked_are;
+            pass = lines.pass;
+            by = λ c below none. (stay c (over.left c below)).1 ∙ over.by c below none;
+          }
+      by_end (inr (inr none_left)) lines =
+          record {
+            read = record { bytes = far.bytes; before = lines_of far.bytes; since = []; lines = sym (append-nil (lines_of far.bytes)); took = far.took; later = far.later; done = inr (inr none_left) };
+            count = lines.count;
+            kicked_are = lines.kicked_are;
+            pass = lines.pass;
+            by = λ c below none. lines.pass.stays c below (lines.kicked_are c below ∙ none);
+          }
 
   -- What was taken ends it, or not.
-  all_over : (bytes more : List ℕ) (first now : SourceState) (over : Bool) → true ≡ list_any ends_line more → IsAllIf (bytes ++ more) first now over
-  all_over bytes more first now true ends = inr (inl (list_any-append ends_line bytes more ∙ or_true (list_any ends_line bytes) (list_any ends_line more) (sym ends)))
-  all_over bytes more first now false ends = tt
+  all_over : (bytes more : List ℕ) (first now : SourceState) (start p mid q : Pass) (kicks : Kicks) (over : Bool) → true ≡ list_any ends_line more → WatchedSoFar clients table bytes start p kicks → Learns (view_of p) (view_of mid) → SeesLeft clients (view_of mid) over → StayLeft (view_of mid) (view_of q) → IsAllIf clients (bytes ++ more) first now start q over
+  all_over bytes more first now start p mid q kicks true ends far learns sees stay =
+      let since = lines_since more bytes far.ended (far.last ∷ []) far.lines (omega arith) in
+      inr (inl (record {
+        before = far.ended;
+        since = since.0;
+        lines = since.1;
+        ends = list_any-append ends_line bytes more ∙ or_true (list_any ends_line bytes) (list_any ends_line more) (sym ends);
+        ended = since.2 (sym ends);
+        left = λ c below. (stay c (sees c below)).0;
+        by = λ c below none. (stay c (sees c below)).1 ∙ learns.made c ∙ far.pass.stays c below (far.kicked_are c below ∙ none);
+      }))
+  all_over bytes more first now start p mid q kicks false ends far learns sees stay = tt
 
-  pub takes_line : (first old new : SourceState) (start p mid q : Pass) (kicks next : Kicks) (bytes : List ℕ) (over : Bool) → Took old.left new.left bytes → old.faults ≤ new.faults → IsServePass clients table mid → Learns (view_of p) (view_of mid) →
-      ((before : List ℕ) (s : Pass) → WatchedSoFar clients table before s mid kicks → WatchedSoFar clients table (before ++ bytes) s q next) →
+  pub takes_line : (first old new : SourceState) (start p mid q : Pass) (kicks next : Kicks) (bytes : List ℕ) (over : Bool) → Took old.left new.left bytes → old.faults ≤ new.faults → IsServePass clients table mid → Learns (view_of p) (view_of mid) → SeesLeft clients (view_of mid) over →
+      ((before : List ℕ) (s : Pass) → WatchedSoFar clients table before s mid kicks → WatchedSoFar clients table (before ++ bytes) s q next) → StayLeft (view_of mid) (view_of q) →
       true ≡ list_any ends_line bytes → TakenSoFar clients table first old start p kicks → AfterTake clients table first new start q next over
   unfolding taken_more
-  takes_line first old new start p mid q kicks next bytes over took later is learns reads ends far = (
+  takes_line first old new start p mid q kicks next bytes over took later is learns sees reads stay ends far = (
     taken_more first old new start p q kicks next bytes took later (λ before s seen. reads before s (watched_looked before s p mid kicks seen is learns)) far,
-    all_over far.bytes bytes first new over ends,
+    all_over far.bytes bytes first new start p mid q kicks over ends far.watched learns sees stay,
   )
 
   pub takes_part : (first old new : SourceState) (start p mid q : Pass) (kicks next : Kicks) (bytes : List ℕ) (ended : Bool) → Took old.left new.left bytes → old.faults ≤ new.faults → IsServePass clients table mid → Learns (view_of p) (view_of mid) →
@@ -241,8 +339,14 @@ module _ (clients : ℕ) (table : FrameTable) where
   unfolding taken_more
   takes_part first old new start p mid q kicks next bytes ended took later is learns reads none far = (
     taken_more first old new start p q kicks next bytes took later (λ before s seen. reads before s (watched_looked before s p mid kicks seen is learns)) far,
-    subst (IsAllIf (far.bytes ++ bytes) first new) (sym none) tt,
+    subst (IsAllIf clients (far.bytes ++ bytes) first new start q) (sym none) tt,
   )
+
+  -- It failed, or has none left.
+  pub takes_none : (first old new : SourceState) (start p : Pass) (kicks : Kicks) → new.left ≡ old.left → old.faults ≤ new.faults → IsServePass clients table p → Rose old.faults new.faults ⊎ NoneLeft new.left → TakenSoFar clients table first old start p kicks → AfterTake clients table first new start p kicks true
+  unfolding taken_still
+  takes_none first old new start p kicks same later is (inl rose) far = (taken_still first old new start p p kicks same later is (learns_refl (view_of p)) far, inl (let before = far.later in omega (arith, rose)))
+  takes_none first old new start p kicks same later is (inr none) far = (taken_still first old new start p p kicks same later is (learns_refl (view_of p)) far, inr (inr none))
 
   pub new_count : (kicks : Kicks) → AreNewKicks clients kicks → length kicks.kicked.items ≡ clients
   new_count kicks new = ap length new.nobody ∙ length-replicate clients false

@@ -93,6 +93,16 @@ module _ (c here : ℕ) (bytes : List ℕ) (session : Session) (rest : List ℕ)
   link_tells read sender.Lost kicked ends lost by = reader_tells read kicked ends (λ at is. inr (lost refl))
   link_tells read sender.NoMemory kicked ends lost by = tt
 
+-- A link whose passes have fixed a departure, and whose end is that of a client that was kicked.
+failed_if_kicked : (read : ReaderEnd) (sent : SenderEnd) (kicked : Bool) (fixed faults at : ℕ) → (sent ≡ sender.Lost → 0 < faults) → ((a : ℕ) → read ≡ reader.LeftAt a → sent ≡ sender.Sent → fixed ≡ 0) → fixed ≢ 0 → link_end_of read sent kicked ≡ end.Kicked at → 0 < faults
+failed_if_kicked read sender.Lost kicked fixed faults at lost none some is = lost refl
+failed_if_kicked read sender.NoMemory kicked fixed faults at lost none some is = absurd cc
+failed_if_kicked reader.Ended sender.Sent kicked fixed faults at lost none some is = absurd cc
+failed_if_kicked (reader.Refused why) sender.Sent kicked fixed faults at lost none some is = absurd cc
+failed_if_kicked (reader.LeftAt a) sender.Sent kicked fixed faults at lost none some is = absurd (some (none a refl refl))
+failed_if_kicked reader.Lost sender.Sent kicked fixed faults at lost none some is = absurd cc
+failed_if_kicked reader.NoMemory sender.Sent kicked fixed faults at lost none some is = absurd cc
+
 -- What the passes of a link fixed.
 module _ (clients : ℕ) (table : FrameTable) (invite : Invite) (hearer : Hearer) (coming : Option (List (List ℕ))) (c : ℕ) (piece : PieceState) (done : IsDone clients table invite hearer coming c piece) where
   is_own : done.before.seat.invite.client ≡ c
@@ -214,6 +224,11 @@ module _ (table : FrameTable) (invite : Invite) (all rest : List PieceState) (pi
       let stays = subst (λ (i : Invite). AreOf i.client (pushed before.seat.reading.reports) → AreOf i.client (pushed piece.seat.reading.reports)) done.is_new.told serves.reports.own in
       let input_failed : Rose before.input.faults piece.input.faults → 0 < faults_taken_back (Some (Some (taken_back piece.input piece.output))) = λ rose. let none = new_link.no_input_faults in omega (arith, rose) in
       let output_failed : Rose before.output.faults piece.output.faults → 0 < faults_taken_back (Some (Some (taken_back piece.input piece.output))) = λ rose. let none = new_link.no_output_faults in omega (arith, rose) in
+      let sender_failed : piece.seat.ends.sender ≡ sender.Lost → 0 < faults_taken_back (Some (Some (taken_back piece.input piece.output))) =
+      λ lost. output_failed (so_lost (invite_of invite c) reads.taken before.output piece.output (view_of before.seat.sending) (view_of piece.seat.sending) piece.seat.ends.reader
+      (subst (λ (s : SenderEnd). SendsSo (invite_of invite c) reads.taken before.output piece.output (view_of before.seat.sending) (view_of piece.seat.sending) piece.seat.ends.reader s) lost sends)) in
+      let own_none : (at : ℕ) → piece.seat.ends.reader ≡ reader.LeftAt at → piece.seat.ends.sender ≡ sender.Sent → fixed ≡ 0 =
+      λ at is sent. fixed_is ∙ made_none invite.clients table invite first coming c piece done at is sent in
       record {
         input = before.input;
         input_after = piece.input;
@@ -231,9 +246,8 @@ module _ (table : FrameTable) (invite : Invite) (all rest : List PieceState) (pi
         plays = column_known (view_of start) c ∙ sym (known_still c below) ∙ whole;
         ends = λ by.
             link_tells c invite.rules reads.taken reads.session reads.rest before.input piece.input (view_of before.seat.reading.pass) (view_of piece.seat.reading.pass) (faults_taken_back (Some (Some (taken_back piece.input piece.output)))) input_failed piece.seat.ends.reader piece.seat.ends.sender kicked reads.ends
-            (λ lost. output_failed (so_lost (invite_of invite c) reads.taken before.output piece.output (view_of before.seat.sending) (view_of piece.seat.sending) piece.seat.ends.reader
-            (subst (λ (s : SenderEnd). SendsSo (invite_of invite c) reads.taken before.output piece.output (view_of before.seat.sending) (view_of piece.seat.sending) piece.seat.ends.reader s) lost sends)))
-            (λ at is sent. by (fixed_is ∙ made_none invite.clients table invite first coming c piece done at is sent));
+            sender_failed (λ at is sent. by (own_none at is sent));
+        failed = λ some at is. failed_if_kicked piece.seat.ends.reader piece.seat.ends.sender kicked fixed (faults_taken_back (Some (Some (taken_back piece.input piece.output)))) at sender_failed own_none some is;
         reports = reads.reports;
         own = stays (subst (λ l. AreOf c l) (sym done.is_new.seat.unpushed) tt);
         sends = so_by (invite_of invite c) (columns_of start) before.output piece.output (view_of before.seat.sending) (view_of piece.seat.sending) long grown reads.taken piece.seat.ends.reader piece.seat.ends.sender sends;

@@ -1,8 +1,9 @@
 -- The lines of a console that is read byte by byte.
-use Rattle.std.proofs.Common.{◌≡◌, ℕ, zero, suc, ◌+◌, ◌/◌, ◌%◌, ◌<◌, ◌≤◌, Bool, true, false, cond, ltb, List, [], ◌∷◌, ◌++◌, length, take, drop, ◌^◌, ◌==◌, codes, Some, refl, sym, ap, ◌∙◌, map, ◌&&◌, nat_eq, ◌⊎◌, inl, inr, ⊎_elim, subst, arith}
-use Rattle.std.specs.List.{onto_first}
+use Rattle.std.proofs.Common.{◌≡◌, ℕ, zero, suc, append_assoc, append-nil, length-append, ◌+◌, ◌/◌, ◌%◌, ◌<◌, ◌≤◌, Bool, true, false, cond, ltb, List, [], ◌∷◌, ◌++◌, length, take, drop, ◌^◌, ◌==◌, codes, Some, refl, sym, ap, ◌∙◌, map, ◌&&◌, ◌||◌, nat_eq, ◌⊎◌, inl, inr, ⊎_elim, subst, arith}
+use Rattle.std.specs.List.{list_any, onto_first}
 use Rattle.std.specs.Str.{bytes_eq}
 use Rattle.std.specs.Fmt.{decimal}
+use Rattle.std.proofs.lemmas.Bool.{false≢true}
 use Rattle.std.proofs.lemmas.Bool.Decides.{Decides-eqb, Decides-ltb, not_from_Decides, same_from_decides}
 use Rattle.std.specs.Int.Digits.{digits_of}
 use Rattle.std.proofs.lemmas.Int.Digits.{digits_of_step}
@@ -101,6 +102,49 @@ lines_ended (x ∷ xs) b ends = by_end (ends_line x) (parts_some xs) (lines_ende
 
 pub lines_grow : (xs : List ℕ) (b : ℕ) (ended : List (List ℕ)) (last : List ℕ) → ends_line b ≡ false → lines_of xs ≡ ended ++ last ∷ [] → lines_of (xs ++ b ∷ []) ≡ ended ++ (last ++ b ∷ []) ∷ []
 lines_grow xs b ended last goes is = lines_longer xs b goes ∙ ap (longer_last b) is ∙ longer_at b ended last
+
+-- Lines since some that have ended.
+longer_past : (b : ℕ) (ended since : List (List ℕ)) → 0 < length since → longer_last b (ended ++ since) ≡ ended ++ longer_last b since
+longer_past b [] since some = refl
+longer_past b (l ∷ ended) [] some = absurd (omega arith)
+longer_past b (l ∷ []) (m ∷ since) some = refl
+longer_past b (l ∷ k ∷ ended) (m ∷ since) some = ap (λ r. l ∷ r) (longer_past b (k ∷ ended) (m ∷ since) some)
+
+longer_count : (b : ℕ) (since : List (List ℕ)) → length (longer_last b since) ≡ length since
+longer_count b [] = refl
+longer_count b (l ∷ []) = refl
+longer_count b (l ∷ m ∷ since) = ap suc (longer_count b (m ∷ since))
+
+abbrev Since : List ℕ → List ℕ → List (List ℕ) → ℕ → Type 0
+Since more bytes ended count =
+    (after : List (List ℕ)) × (lines_of (bytes ++ more) ≡ ended ++ after) × (list_any ends_line more ≡ true → count < length after) × (count ≤ length after)
+
+pub lines_since : (more bytes : List ℕ) (ended since : List (List ℕ)) → lines_of bytes ≡ ended ++ since → 0 < length since → Since more bytes ended (length since)
+lines_since [] bytes ended since is some = (since, ap lines_of (append-nil bytes) ∙ is, (λ ends. absurd (false≢true ends)), omega arith)
+lines_since (b ∷ more) bytes ended since is some =
+    by_end (ends_line b) refl (λ next here any. lines_since more (bytes ++ b ∷ []) ended next here any)
+  where
+    Again : Type 0
+    Again =
+        (next : List (List ℕ)) → lines_of (bytes ++ b ∷ []) ≡ ended ++ next → 0 < length next →
+        Since more (bytes ++ b ∷ []) ended (length next)
+
+    joined : (bytes ++ (b ∷ [])) ++ more ≡ bytes ++ (b ∷ more)
+    joined = append_assoc bytes (b ∷ []) more
+
+    by_end : (e : Bool) → ends_line b ≡ e → Again → Since (b ∷ more) bytes ended (length since)
+    by_end true ends again =
+        let next : lines_of (bytes ++ b ∷ []) ≡ ended ++ (since ++ [] ∷ []) = lines_ended bytes b ends ∙ ap (λ l. l ++ [] ∷ []) is ∙ append_assoc ended since ([] ∷ []) in
+        let count : length (since ++ [] ∷ []) ≡ length since + 1 = length-append since ([] ∷ []) in
+        let rest = again (since ++ [] ∷ []) next (omega arith) in
+        let most = rest.3 in
+        (rest.0, ap lines_of (sym joined) ∙ rest.1, (λ any. omega arith), omega arith)
+    by_end false goes again =
+        let next : lines_of (bytes ++ b ∷ []) ≡ ended ++ longer_last b since = lines_longer bytes b goes ∙ ap (longer_last b) is ∙ longer_past b ended since some in
+        let count = longer_count b since in
+        let rest = again (longer_last b since) next (omega arith) in
+        let most = rest.3 in
+        (rest.0, ap lines_of (sym joined) ∙ rest.1, (λ any. let ends = rest.2 (sym (ap (λ e. e || list_any ends_line more) goes) ∙ any) in omega arith), omega arith)
 
 -- The first bytes of a line.
 pub first_more : (n : ℕ) (xs : List ℕ) (b : ℕ) → take n (take n xs ++ b ∷ []) ≡ take n (xs ++ b ∷ [])

@@ -2,7 +2,8 @@
 use Rattle.std.proofs.Common.{◌≡◌, ℕ, zero, suc, ◌+◌, ◌-◌, ◌/◌, ◌^◌, ◌<◌, ◌≤◌, ◌⊎◌, Bool, true, false, List, [], ◌∷◌, ◌++◌, length, map, take, drop, replicate, get_or, Option, Some, None, refl, sym, ap, ap₂, ◌∙◌, subst, inl, inr, arith}
 use Rattle.std.specs.Prelude.{slice_get, All, IfSome}
 use Rattle.std.specs.Option.{option_map}
-use Rattle.std.proofs.lemmas.Bool.{cases_lt}
+use Rattle.std.specs.List.{list_any}
+use Rattle.std.proofs.lemmas.Bool.{cases_lt, false≢true}
 use Rattle.std.proofs.lemmas.List.Elements.{All-nil, All-cons}
 use Rattle.game_io.specs.NetState.{NetState, TakenBack}
 use Rattle.frame_core.specs.Column.{Column, column_of, length_of}
@@ -26,12 +27,12 @@ use Rattle.match_net.specs.declared.invite.Invite.{Invite}
 use Rattle.match_net.specs.Taking.{Took}
 use Rattle.match_serve.specs.declared.link_end.LinkEnd.{LinkEnd}
 use Rattle.match_serve.specs.declared.link_end.LinkEnd.TheVariants as end
-use Rattle.match_serve.specs.Passes.{IsServePass, Learns, FixedNone, IsKicking, AllGone, columns_of}
+use Rattle.match_serve.specs.Passes.{IsServePass, Learns, FixedNone, AllGone, columns_of}
 use Rattle.match_serve.specs.Heard.{HasHeard, first_report}
 use Rattle.match_serve.specs.Seats.{PieceState, IsNewSeat, AreNewPieces}
 use Rattle.match_serve.specs.Ticks.{TicksAll}
 use Rattle.game_io.specs.SourceState.{SourceState}
-use Rattle.match_serve.specs.Console.{ConsoleRead, AreKicked}
+use Rattle.match_serve.specs.Console.{kicks_client, ConsoleRead, AreKicked}
 use Rattle.match_serve.specs.Serve.{IsOver, IsGreatest, ServesLink, ServesMatch}
 use Rattle.match_serve.specs.Closed.{LinkClosed}
 use Rattle.match_serve.proofs.PassLemmas.{column_known, length_known}
@@ -137,12 +138,12 @@ fixed_or_kicked : (kicked : Bool) (ticked watched joined fixed handed : ℕ) →
 fixed_or_kicked true ticked watched joined fixed handed a b c d e f = refl
 fixed_or_kicked false ticked watched joined fixed handed a b c d e f = absurd (let none = b refl in omega arith)
 
-pub fixed_by : (clients : ℕ) (table : FrameTable) (kicked : List Bool) (opening ticked began watched joined handed : Pass) (fixed : ℕ → ℕ) → FixedNone (view_of opening) → Learns (view_of opening) (view_of ticked) → FixedNone (view_of began) → IsKicking clients table kicked began watched →
+pub fixed_by : (clients : ℕ) (kicks : ℕ → Bool) (opening ticked began watched joined handed : Pass) (fixed : ℕ → ℕ) → FixedNone (view_of opening) → Learns (view_of opening) (view_of ticked) → FixedNone (view_of began) → ((c : ℕ) → c < clients → kicks c ≡ false → (standing watched c).made ≡ (standing began c).made) →
     ((c : ℕ) → c < clients → (standing joined c).made ≡ (standing ticked c).made + (standing watched c).made) → ((c : ℕ) → c < clients → (standing handed c).made ≡ (standing joined c).made + fixed c) → ((c : ℕ) → c < clients → (standing handed c).made ≡ 1) →
-    (c : ℕ) → c < clients → fixed c ≡ 0 → get_or kicked c false ≡ true
-fixed_by clients table kicked opening ticked began watched joined handed fixed none learns none_began kicking joins hands one c below =
-    fixed_or_kicked (get_or kicked c false) (standing ticked c).made (standing watched c).made (standing joined c).made (fixed c) (standing handed c).made
-    (learns.made c ∙ none c) (λ not. kicking.stays c below not ∙ none_began c) (joins c below) (hands c below) (one c below)
+    (c : ℕ) → c < clients → fixed c ≡ 0 → kicks c ≡ true
+fixed_by clients kicks opening ticked began watched joined handed fixed none learns none_began stays joins hands one c below =
+    fixed_or_kicked (kicks c) (standing ticked c).made (standing watched c).made (standing joined c).made (fixed c) (standing handed c).made
+    (learns.made c ∙ none c) (λ not. stays c below not ∙ none_began c) (joins c below) (hands c below) (one c below)
 
 -- Links that are new may be served.
 pub may_serve : (clients : ℕ) (table : FrameTable) (invite : Invite) (hearer : Hearer) (coming : Option (List (List ℕ))) (c : ℕ) (pieces : List PieceState) → AreNewPieces clients table invite hearer coming c pieces → All (λ piece. IsNewSeat piece.seat.invite.clients table piece.seat) pieces
@@ -157,10 +158,10 @@ pub serves : {W : Type 0} (m : Match W) (invite : Invite) (coming : Option (List
     IsServePass invite.clients table ticked → IsServePass invite.clients table joined → IsServePass invite.clients table gone → TicksAll m invite.clients old (view_of ticked) noted.wanted n world → ((c : ℕ) → c < invite.clients → GrowsTo (standing ticked c).known (standing joined c).known) →
     ((c : ℕ) → c < invite.clients → (standing handed c).known ≡ (standing joined c).known) → AllGone invite.clients (view_of handed) (view_of gone) → (view_of gone).share ≡ 2 ^ 62 →
     board.wanted ≡ noted.wanted → length board.reports ≡ invite.clients → length net.given ≡ invite.clients → net.coming ≡ option_map (drop invite.clients) coming → length ends ≡ invite.clients → length taken ≡ invite.clients →
-    ((c : ℕ) → c < invite.clients → LinkClosed c invite (columns_of joined) (get_or lists c []) coming (get_or kicked c false) (fixed c) (slice_get net.given c) (get_or ends c end.Memory) (get_or taken c 0)) → AreKicked invite.clients read.bytes kicked → ((c : ℕ) → c < invite.clients → fixed c ≡ 0 → get_or kicked c false ≡ true) → HasHeard invite.clients board.reports heard → length lists ≡ invite.clients → IsInterleaving heard lists →
+    ((c : ℕ) → c < invite.clients → LinkClosed c invite (columns_of joined) (get_or lists c []) coming (get_or kicked c false) (fixed c) (slice_get net.given c) (get_or ends c end.Memory) (get_or taken c 0)) → AreKicked invite.clients read.bytes kicked → ((c : ℕ) → c < invite.clients → fixed c ≡ 0 → get_or kicked c false ≡ true) → ((c : ℕ) → c < invite.clients → fixed c ≡ 0 → list_any (kicks_client c) read.before ≡ true) → HasHeard invite.clients board.reports heard → length lists ≡ invite.clients → IsInterleaving heard lists →
     ((all : List Heard) (each : List (List Heard)) → IsInterleaving all each → ((k : ℕ) → AreOf k (get_or each k [])) → (c : ℕ) → of_client c all ≡ get_or each c []) →
     ServesMatch m invite coming console_old console_new net world n table gone board ends taken
-serves m invite coming console_old console_new read net table old ticked joined handed gone noted board ends taken n world heard lists kicked fixed of_ticked of_joined of_gone ticks mine same all share wanted boards given still long counts_long links kicked_are by has count between law =
+serves m invite coming console_old console_new read net table old ticked joined handed gone noted board ends taken n world heard lists kicked fixed of_ticked of_joined of_gone ticks mine same all share wanted boards given still long counts_long links kicked_are by by_before has count between law =
     let clients = invite.clients in
     let left = ticks.left.left in
     let columns = columns_same clients table ticked joined handed gone of_ticked of_gone left mine same all in
@@ -181,6 +182,7 @@ serves m invite coming console_old console_new read net table old ticked joined 
           subst (λ k. ServesLink c invite (columns_of gone) (reports_of board.reports c) coming k (slice_get net.given c) (get_or ends c end.Memory) (get_or taken c 0)) (kicked_are c below)
           (served_link c invite (columns_of gone) board.reports clients heard lists coming (get_or kicked c false) (fixed c) (slice_get net.given c) (get_or ends c end.Memory) (get_or taken c 0) below
           (subst (λ l. LinkClosed c invite l (get_or lists c []) coming (get_or kicked c false) (fixed c) (slice_get net.given c) (get_or ends c end.Memory) (get_or taken c 0)) (sym as_joined) (links c below)) (by c below) has (law heard lists between own c));
+      late = λ c at below is none. (links c below).failed (λ zero. false≢true (sym none ∙ by_before c below zero)) at is;
     }
   where
     by_place : (k : ℕ) → (k < length lists) ⊎ (length lists ≤ k) → AreOf k (get_or lists k [])

@@ -1,5 +1,5 @@
 -- What was written to a link, and what its sender left of the columns.
-use Rattle.std.proofs.Common.{◌≡◌, ◌≢◌, ℕ, ◌<◌, ◌≤◌, Bool, List, [], ◌++◌, length, Option, refl, sym, ap, ap₂, ◌∙◌, subst, inl, inr, arith}
+use Rattle.std.proofs.Common.{◌≡◌, ◌≢◌, ℕ, ◌<◌, Bool, List, [], length, Option, refl, sym, ap, ap₂, ◌∙◌, subst, inl, inr, arith}
 use Rattle.base.specs.Cause.{Rose}
 use Rattle.base.specs.Written.{Wrote, WrotePrefix, Wrote-nil, whole_prefix}
 use Rattle.game_io.specs.SinkState.{SinkState}
@@ -8,18 +8,18 @@ use Rattle.frame_core.specs.Grows.{GrowsTo}
 use Rattle.order_packets.specs.declared.down.Down.TheVariants as down
 use Rattle.order_packets.specs.PacketBytes.{down_bytes}
 use Rattle.frame_table.specs.declared.view.View.{View}
-use Rattle.frame_table.specs.Part.{Part, part_of}
+use Rattle.frame_table.specs.Part.{part_of}
 use Rattle.match_net.specs.declared.invite.Invite.{Invite}
 use Rattle.match_net.specs.declared.greeting.Greeting.{Greeting}
 use Rattle.match_net.specs.declared.greeting.Greeting.TheVariants as greeting
 use Rattle.match_net.specs.declared.reader_end.ReaderEnd.{ReaderEnd}
 use Rattle.match_net.specs.declared.sender_end.SenderEnd.{SenderEnd}
 use Rattle.match_net.specs.declared.sender_end.SenderEnd.TheVariants as sender
-use Rattle.match_net.specs.Sending.{At, SentColumn, SentMeans, entries_of}
-use Rattle.match_net.specs.SenderSession.{SendsAs, RefusalMeans, welcome_of}
+use Rattle.match_net.specs.Sending.{At, SentMeans, entries_of}
+use Rattle.match_net.specs.SenderSession.{SendsAs, RefusalMeans}
 use Rattle.match_serve.specs.declared.link_end.LinkEnd.TheVariants as end
 use Rattle.match_serve.specs.Seats.{SendsSo}
-use Rattle.match_serve.specs.Sent.{SendsFirst, SendsAll, SendsBy, SendsAllBy, greeting_in}
+use Rattle.match_serve.specs.Sent.{SendsBy, SendsAllBy, greeting_in}
 use Rattle.match_serve.specs.Closed.{link_end_of}
 use Rattle.match_serve.proofs.PassLemmas.{GrowsTo-trans}
 use Rattle.match_serve.proofs.SeatLemmas.{sender_keeps, sent_by, left_if}

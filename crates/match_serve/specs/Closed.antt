@@ -63,7 +63,8 @@ pub record Closes (clients : ℕ) (table : FrameTable) (seat : LinkSeat) (old ne
 -- Link c was handed back: what was taken from it, how many bytes these are, what they made of the
 -- client's column, the reports that its end of the queue brought, and what was written to it. The
 -- passes of the links have fixed so many departures in its column: what its end tells is so where
--- there is one, or the console kicked the client.
+-- there is one, or the console kicked the client. Where there is one and the end is that of a client
+-- whom the console kicked, the link had failed.
 pub record LinkClosed (c : ℕ) (invite : Invite) (columns : List Column) (listed : List Heard)
     (coming : Option (List (List ℕ))) (kicked : Bool) (fixed : ℕ)
     (back : Option (Option TakenBack)) (how : LinkEnd) (count : ℕ) : Type 0 where
@@ -83,6 +84,7 @@ pub record LinkClosed (c : ℕ) (invite : Invite) (columns : List Column) (liste
   pub plays : column_of columns c ≡ record { plays = session.plays; left = true }
   pub ends : (fixed ≡ 0 → kicked ≡ true) →
       EndTells c invite.rules bytes session rest input input_after kicked (faults_taken_back back) how
+  pub failed : fixed ≢ 0 → (at : ℕ) → how ≡ end.Kicked at → 0 < faults_taken_back back
   pub reports : listed ≡ session.reports
   pub own : AreOf c listed
   pub sends :

@@ -1,6 +1,6 @@
 -- The console of a server: its lines, and which clients they kick.
 use Rattle.std.specs.Prelude.{◌≡◌, ℕ, ◌<◌, ◌≤◌, ◌==◌, ◌⊎◌, Bool, true, false, List, ◌++◌, codes}
-use Rattle.std.specs.Prelude.{slice_index_or}
+use Rattle.std.specs.Prelude.{slice_index_or, length}
 use Rattle.std.specs.List.{list_any, slice_split}
 use Rattle.std.specs.Str.{bytes_eq}
 use Rattle.std.specs.Fmt.{decimal}
@@ -37,10 +37,19 @@ AreKicked clients bytes kicked =
 abbrev pub EndsLine : List ℕ → Type 0
 EndsLine bytes = list_any ends_line bytes ≡ true
 
--- The bytes that were taken from the console: it failed, or they hold the end of a line, or a
--- console that tells its bytes has none left.
+-- One of these lines has ended: another one follows it.
+abbrev pub HaveEnded : List (List ℕ) → Type 0
+HaveEnded lines = 1 < length lines
+
+-- The bytes that were taken from the console, and their lines: those that ended before every client
+-- was seen to have left, and the others. It failed, or one of the others has ended, or a console that
+-- tells its bytes has none left.
 pub record ConsoleRead (old new : SourceState) : Type 0 where
   pub bytes : List ℕ
+  pub before : List (List ℕ)
+  pub since : List (List ℕ)
+  pub lines : lines_of bytes ≡ before ++ since
   pub took : Took old.left new.left bytes
   pub later : old.faults ≤ new.faults
-  pub done : Rose old.faults new.faults ⊎ (EndsLine bytes ⊎ NoneLeft new.left)
+  pub done :
+      Rose old.faults new.faults ⊎ ((EndsLine bytes × HaveEnded since) ⊎ NoneLeft new.left)

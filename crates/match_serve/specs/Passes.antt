@@ -58,6 +58,18 @@ pub record Feeds (clients : ℕ) (table : FrameTable) (c : ℕ) (pass : Pass) : 
   pub handed_over : (d : ℕ) → d < c → (standing pass d).feeds ≡ false
   pub feeds_it : (standing pass c).feeds ≡ true
 
+-- The pass has seen that each client has left, or that one has not.
+abbrev pub SeesLeft : ℕ → View → Bool → Type 0
+SeesLeft clients view true = (c : ℕ) → c < clients → (part_of c view).reach.left ≡ true
+SeesLeft clients view false =
+    (c : ℕ) × (c < clients) × ((part_of c view).reach.left ≡ false)
+
+-- Of the clients that the pass had seen leave it has let none go.
+abbrev pub StayLeft : View → View → Type 0
+StayLeft old new =
+    (c : ℕ) → (part_of c old).reach.left ≡ true →
+    ((part_of c new).reach.left ≡ true) × ((part_of c new).made ≡ (part_of c old).made)
+
 -- A call let the client leave.
 abbrev pub IsTakenOut : ℕ → View → View → Type 0
 IsTakenOut c old new = (answer : Leaving) × LeavesSo c old new answer
@@ -69,11 +81,13 @@ pub record AllGone (clients : ℕ) (old new : View) : Type 0 where
   pub left : (c : ℕ) → c < clients → (part_of c new).known.left ≡ true
   pub reach : (c : ℕ) → c < clients → (part_of c new).reach ≡ whole_of (part_of c new).known
 
--- The pass still serves: it has its share, and what it knew. It has let no clients leave but those
--- that are listed as kicked.
+-- The pass still serves: it has its share. It has let no clients leave but those that are listed as
+-- kicked, and knows that each of these has left.
 pub record IsKicking (clients : ℕ) (table : FrameTable) (kicked : List Bool) (old new : Pass) :
     Type 0 where
   pub is : IsServePass clients table new
   pub share : (view_of new).share ≡ (view_of old).share
   pub stays : (c : ℕ) → c < clients → slice_index_or kicked c false ≡ false →
       (standing new c).made ≡ (standing old c).made
+  pub gone : (c : ℕ) → c < clients → slice_index_or kicked c false ≡ true →
+      (standing new c).known.left ≡ true

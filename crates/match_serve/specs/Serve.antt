@@ -2,6 +2,7 @@
 use Rattle.std.specs.Prelude.{◌≡◌, ◌≢◌, ℕ, ◌^◌, ◌<◌, ◌≤◌, ◌⊎◌, Bool, true, false}
 use Rattle.std.specs.Prelude.{List, length, take, drop, slice_get, slice_index_or}
 use Rattle.std.specs.Prelude.{Option, Some, IfSome}
+use Rattle.std.specs.List.{list_any}
 use Rattle.std.specs.Option.{option_map}
 use Rattle.game_io.specs.SourceState.{SourceState}
 use Rattle.game_io.specs.SinkState.{SinkState}
@@ -25,7 +26,7 @@ use Rattle.match_net.specs.Reading.{EndMeans}
 use Rattle.match_serve.specs.declared.link_end.LinkEnd.{LinkEnd}
 use Rattle.match_serve.specs.declared.link_end.LinkEnd.TheVariants as end
 use Rattle.match_serve.specs.Passes.{columns_of}
-use Rattle.match_serve.specs.Console.{ConsoleRead, holds_kick}
+use Rattle.match_serve.specs.Console.{ConsoleRead, holds_kick, kicks_client}
 use Rattle.match_serve.specs.Seats.{invite_of}
 use Rattle.match_serve.specs.Sent.{SendsBy, SendsAllBy, greeting_in}
 use Rattle.match_serve.specs.Heard.{first_report}
@@ -110,7 +111,9 @@ pub record ServesLink (c : ℕ) (invite : Invite) (columns : List Column)
 
 -- A match was served. The world is the agreed world of all frames, as many as the longest column has
 -- plays, and the board's wanted hashes are those of the agreed worlds after each. `coming` is what the
--- net told of the links to come. Of the console's bytes those that were taken are known.
+-- net told of the links to come. Of the console's bytes those that were taken are known. A line of
+-- them that ended since every client was seen to have left lets no client go: where the end is that
+-- of a client whom the console kicked, a line before kicked it, or its link had failed.
 pub record ServesMatch {W : Type 0} (of_match : Match W) (invite : Invite)
     (coming : Option (List (List ℕ))) (console_old console_new : SourceState)
     (net_after : NetState) (world : W) (steps : ℕ) (table : FrameTable) (pass : Pass)
@@ -129,3 +132,6 @@ pub record ServesMatch {W : Type 0} (of_match : Match W) (invite : Invite)
       ServesLink c invite (columns_of pass) (reports_of board.reports c) coming
       (holds_kick console.bytes c) (slice_get net_after.given c) (slice_index_or ends c end.Memory)
       (slice_index_or taken c 0)
+  pub late : (c at : ℕ) → c < invite.clients → slice_index_or ends c end.Memory ≡ end.Kicked at →
+      list_any (kicks_client c) console.before ≡ false →
+      0 < faults_taken_back (slice_get net_after.given c)

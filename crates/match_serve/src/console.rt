@@ -7,7 +7,7 @@ ghost use Rattle.game_orders.specs.declared.limits.TheConstants.{MAX_CLIENTS};
 ghost use Rattle.frame_table.specs.declared.pass.Pass.{Pass};
 ghost use Rattle.frame_table.specs.Calls.{view_of};
 ghost use Rattle.match_serve.specs.declared.kicks.TheConstants.{LINE_ROOM};
-ghost use Rattle.match_serve.specs.Passes.{IsServePass, Learns};
+ghost use Rattle.match_serve.specs.Passes.{IsServePass, Learns, SeesLeft, StayLeft};
 ghost use Rattle.match_serve.specs.Console.{ends_line, kicks_client};
 ghost use Rattle.match_serve.specs.Watching.{AreNewKicks, NamesKicked, KicksBy, WatchedSoFar};
 ghost use Rattle.match_serve.specs.Watching.{WatchedLines, TakenSoFar, AfterTake, WatchesConsole};
@@ -98,10 +98,11 @@ fn take_once<C: Source, R: Wait>(
     }
 }
 
-/// True where the pass sees that every client has left.
+/// True where the pass sees that every client has left, false where it sees that one has not.
 fn have_all_left(table: &FrameTable, pass: &mut Pass, clients: u8) -> bool
     requires pass { IsServePass clients table.now pass.old }
     ensures pass { IsServePass clients table.now pass.new }
+    ensures sees { SeesLeft clients (view_of pass.new) result }
     ensures learns { Learns (view_of pass.old) (view_of pass.new) }
 {
     for c in 0..clients {
@@ -127,6 +128,7 @@ fn read_bytes<R: Wait>(
     ensures pass { IsServePass clients table.now pass.new }
     ensures count { length kicks.new.kicked.items ≡ clients }
     ensures ends { result ≡ list_any ends_line bytes.now }
+    ensures left { StayLeft (view_of pass.old) (view_of pass.new) }
     ensures reads { (before : List ℕ) (start : Pass) →
         WatchedSoFar clients table.now before start pass.old kicks.old →
         WatchedSoFar clients table.now (before ++ bytes.now) start pass.new kicks.new }
@@ -154,6 +156,7 @@ fn read_byte<R: Wait>(
     ensures pass { IsServePass clients table.now pass.new }
     ensures count { length kicks.new.kicked.items ≡ clients }
     ensures ends { result ≡ ends_line byte }
+    ensures left { StayLeft (view_of pass.old) (view_of pass.new) }
     ensures reads { (before : List ℕ) (start : Pass) →
         WatchedSoFar clients table.now before start pass.old kicks.old →
         WatchedSoFar clients table.now (before ++ byte ∷ []) start pass.new kicks.new }
@@ -182,6 +185,7 @@ fn end_line<R: Wait>(rt: &R, table: &FrameTable, pass: &mut Pass, clients: u8, k
     requires count { length kicks.old.kicked.items ≡ clients }
     ensures pass { IsServePass clients table.now pass.new }
     ensures count { length kicks.new.kicked.items ≡ clients }
+    ensures left { StayLeft (view_of pass.old) (view_of pass.new) }
     ensures ends { (bytes : List ℕ) (start : Pass) →
         WatchedSoFar clients table.now bytes start pass.old kicks.old →
         WatchedLines clients table.now bytes start pass.new kicks.new }

@@ -1,5 +1,5 @@
 //! The thread that ticks.
-ghost use Rattle.std.specs.Prelude.{◌≡◌, ◌+◌, ◌<◌, ◌≤◌, ℕ, [], length, OnOk};
+ghost use Rattle.std.specs.Prelude.{◌≡◌, ◌+◌, ◌<◌, ◌≤◌, ℕ, [], length, true, OnOk, OnErr};
 ghost use Rattle.game_orders.specs.declared.entry.Entry.{Entry};
 ghost use Rattle.game_orders.specs.declared.limits.TheConstants.{MAX_CLIENTS, MAX_FRAMES};
 ghost use Rattle.frame_core.specs.Match.{Match};
@@ -52,6 +52,8 @@ pub(crate) fn tick_all<S: Sim, R: Wait>(
         (S.steps sim.new) sim.new) }
     ensures clients { OnOk result (S.clients_of sim.new ≡ S.clients_of sim.old) }
     ensures heard { OnOk result (HasHeard clients board.new.reports (heard hearer.new)) }
+    ensures gone { OnErr result ((c : ℕ) → c < clients →
+        (standing pass.new c).known.left ≡ true) }
     ensures joined { joined hearer.new ≡ joined hearer.old }
     ensures same { IsSameHearer hearer.old hearer.new }
 {

@@ -1,4 +1,4 @@
-use Rattle.std.proofs.Common.{get_or, false, refl, ap, arith}
+use Rattle.std.proofs.Common.{refl, ap, arith}
 use Rattle.std.specs.Prelude.{slice_set}
 use Rattle.match_serve.proofs.HandLemmas.{handed_first, handed_more}
 use Rattle.match_serve.proofs.handing.close_links.Goals as goal

@@ -1,4 +1,6 @@
-use Rattle.std.proofs.Common.{ℕ, ◌<◌, Bool, length, List, subst, ap, sym, ◌∙◌}
+use Rattle.std.proofs.Common.{ℕ, ◌<◌, Bool, false, length, List, get_or, subst, ap, sym, ◌∙◌}
+use Rattle.std.specs.List.{list_any}
+use Rattle.match_serve.specs.Console.{kicks_client}
 use Rattle.std.specs.Prelude.{All}
 use Rattle.frame_table.specs.Calls.{view_of}
 use Rattle.report_line.specs.declared.heard.Heard.{Heard}
@@ -70,12 +72,15 @@ returns-clause-served g c = λ coming are still.
     (joined_share _ _ _ _ _ ran.pass ran.watches.pass.is c.join.ensures.pass c.join.ensures.joined) handed.share gone.gone.share done.1 c.requires.shares in
     let was_left = joined_left _ _ c.run_threads.new.pass c.join.new.pass ran.pass ran.ticked.left.left c.join.ensures.mine in
     let once = λ (d : ℕ) (below : d < c.args.invite.now.clients). gone.once (sym gone.gone.share ∙ share) d below (ap (λ (k : Column). k.left) (handed.known d below) ∙ was_left d below) in
-    let by = fixed_by _ _ _ c.split-watching.new.pass c.run_threads.new.pass c.split-watching.result c.run_threads.new.watching c.join.new.pass c.close_links.new.pass _
-    (λ d. kept_made _ _ c.args.pass c.split-watching.new.pass c.split-watching.result c.requires.opening.is split.kept d ∙ c.requires.opening.fixed_none d) ran.ticked.learns
-    (given_made _ _ c.args.pass c.split-watching.new.pass c.split-watching.result c.requires.opening.is split.given) watches.pass
-    (joined_made _ _ _ _ _ ran.pass ran.watches.pass.is c.join.ensures.pass c.join.ensures.joined) handed.made once in
+    let made = joined_made _ _ _ _ _ ran.pass ran.watches.pass.is c.join.ensures.pass c.join.ensures.joined in
+    let none_made = λ (d : ℕ). kept_made _ _ c.args.pass c.split-watching.new.pass c.split-watching.result c.requires.opening.is split.kept d ∙ c.requires.opening.fixed_none d in
+    let none_given = given_made _ _ c.args.pass c.split-watching.new.pass c.split-watching.result c.requires.opening.is split.given in
+    let by = fixed_by _ (λ (d : ℕ). get_or _ d false) c.split-watching.new.pass c.run_threads.new.pass c.split-watching.result c.run_threads.new.watching c.join.new.pass c.close_links.new.pass _
+    none_made ran.ticked.learns none_given watches.pass.stays made handed.made once in
+    let by_before = fixed_by _ (λ (d : ℕ). list_any (kicks_client d) watches.read.before) c.split-watching.new.pass c.run_threads.new.pass c.split-watching.result c.run_threads.new.watching c.join.new.pass c.close_links.new.pass _
+    none_made ran.ticked.learns none_given watches.by made handed.made once in
     subst (λ (e : List LinkEnd). ServesMatch of_match c.args.invite.now coming (g.C.Source.state c.args.console.now) (g.C.Source.state c.run_threads.new.console) (g.N.Net.state c.close_links.new.net) c.run_threads.new.sim (g.S.Sim.steps c.run_threads.new.sim) c.args.table c.leave_all.new.pass c.take_reports.new.board e c.from_vec-2.result) (sym ends)
     (subst (λ (k : List ℕ). ServesMatch of_match c.args.invite.now coming (g.C.Source.state c.args.console.now) (g.C.Source.state c.run_threads.new.console) (g.N.Net.state c.close_links.new.net) c.run_threads.new.sim (g.S.Sim.steps c.run_threads.new.sim) c.args.table c.leave_all.new.pass c.take_reports.new.board c.close_links.new.ends k) (sym counts)
     (serves of_match c.args.invite.now coming (g.C.Source.state c.args.console.now) (g.C.Source.state c.run_threads.new.console) watches.read (g.N.Net.state c.close_links.new.net) c.args.table (view_of c.split-watching.new.pass) c.run_threads.new.pass c.join.new.pass c.close_links.new.pass c.leave_all.new.pass c.run_threads.new.board c.take_reports.new.board c.close_links.new.ends c.close_links.new.taken (g.S.Sim.steps c.run_threads.new.sim) c.run_threads.new.sim (heard c.take_reports.new.hearer) (joined c.close_links.new.hearer) _ _
     ran.pass of_joined gone.pass ran.ticked (joined_grows _ _ c.run_threads.new.pass c.join.new.pass ran.pass c.join.ensures.mine) handed.known gone.gone share
-    told.wanted (told.boards ∙ ran.boards) handed.given (handed.coming ∙ still) handed.ends handed.taken (handed.links coming done.0) watches.kicked_are by has handed.joined between c.reports_of_each_client_are_heard.ensures))
+    told.wanted (told.boards ∙ ran.boards) handed.given (handed.coming ∙ still) handed.ends handed.taken (handed.links coming done.0) watches.kicked_are by by_before has handed.joined between c.reports_of_each_client_are_heard.ensures))
