@@ -14,7 +14,7 @@ with_facing facing a = record a { body = record a.body { facing = facing } }
 abbrev pub with_reload : ℕ → Actor → Actor
 with_reload reload a = record a { body = record a.body { reload = reload } }
 
--- The activity in place of the first one, if there is one.
+-- The activity in place of the first one, also where there was none.
 abbrev pub with_first : Activity → Actor → Actor
 with_first activity a = record a { body = record a.body { acts = activity ∷ drop 1 a.body.acts } }
 

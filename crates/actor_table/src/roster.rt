@@ -205,8 +205,8 @@ impl Roster {
         self.slots[key].body.reload = reload;
     }
 
-    /// Puts an activity in place of the first one, if there is one, of the actor of an id, which is
-    /// there.
+    /// Puts an activity in place of the first one of the actor of an id, which is there. It is the
+    /// first one also where there was none.
     pub(crate) fn set_first(&mut self, id: u32, activity: Activity)
         requires { IsSome (actor_of self.old id) }
         ensures value { self.new ≡ changed_at self.old id (with_first activity) }
@@ -268,7 +268,7 @@ impl Roster {
     }
 }
 
-/// Puts the activity in place of the first, if there is one.
+/// Puts the activity in place of the first, also where there was none.
 fn put_first(acts: &mut Queue, activity: Activity)
     ensures { acts.new ≡ activity ∷ drop 1 acts.old }
 {

@@ -224,8 +224,8 @@ impl ActorTable {
         self.mark(place);
     }
 
-    /// Puts an activity in place of the first one, if there is one, of the actor of an id, which is
-    /// there.
+    /// Puts an activity in place of the first one of the actor of an id, which is there. It is the
+    /// first one also where there was none.
     pub fn set_first(&mut self, id: u32, activity: Activity)
         requires { IsSome (actor_of self.old.actors id) }
         ensures { self.new ≡ record self.old { actors = changed_at self.old.actors id (with_first activity) } }

@@ -1,4 +1,5 @@
 pub mod Advancing
+pub mod Asking
 pub mod Beginning
 pub mod Best
 pub mod Cells

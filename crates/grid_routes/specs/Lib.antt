@@ -7,6 +7,7 @@ pub mod Fares
 pub mod Kept
 pub mod KnownWalks
 pub mod Findings
+pub mod Asked
 pub mod Labels
 pub mod Least
 pub mod Held

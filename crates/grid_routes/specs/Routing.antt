@@ -1,16 +1,20 @@
 -- What is seen of a router.
-use Rattle.std.specs.Prelude.{◌≡◌, ◌⊎◌, ℕ, ◌+◌, ◌-◌, ◌^◌, min, Bool}
+use Rattle.std.specs.Prelude.{◌≡◌, ℕ, Bool, List, Option}
 use Rattle.game_model.specs.declared.map.Map.{Map}
 use Rattle.game_model.specs.declared.terrain.Terrain.{Terrain}
 use Rattle.game_model.specs.Grid.{Grid, HasSize}
+use Rattle.grid_routes.specs.declared.ask.Ask.{Ask}
 
--- The size of the maps that it serves, the ground that it looks at, and how many fields of distances
--- it began.
+-- The size of the maps that it serves, the ground that it looks at, the question to which the field
+-- belongs that it wrote last, all questions for which it keeps something, and how many fields of
+-- distances it began.
 pub record Routing : Type 0 where
   pub width : ℕ
   pub height : ℕ
   pub terrain : Grid Terrain
   pub built : Grid Bool
+  pub last : Option Ask
+  pub asks : List Ask
   pub computed : ℕ
 
 -- A router for maps of this size that began no field.
@@ -48,7 +52,3 @@ pub record IsSameSight (old new : Routing) : Type 0 where
   pub size : IsSameSize old new
   pub terrain : new.terrain ≡ old.terrain
   pub built : new.built ≡ old.built
-
--- At most one field more was begun. The count stays at the greatest number of 64 bits.
-abbrev pub CountsOn : ℕ → ℕ → Type 0
-CountsOn old new = (new ≡ old) ⊎ (new ≡ min (old + 1) (2 ^ 64 - 1))

@@ -1,10 +1,11 @@
 ghost use Rattle.std.specs.Prelude.{◌≡◌, ◌≤◌, ◌<◌, All, Some, IfOk, IsTrue, length, slice_index_or};
-ghost use Rattle.std.specs.Prelude.{slice_set, slice_get, ◌↔◌, IfSome, IsSomeAnd};
+ghost use Rattle.std.specs.Prelude.{slice_set, slice_get, ◌↔◌, IfSome, IsSomeAnd, IsFalse, Contains, []};
 ghost use Rattle.game_model.specs.Grid.{IsOn, HasSize};
 ghost use Rattle.game_model.specs.Walks.{IsBestDirection};
 ghost use Rattle.grid_routes.specs.declared.fields.Kept.{Kept};
 ghost use Rattle.grid_routes.specs.Tolls.{IsCheap, land_over};
 ghost use Rattle.grid_routes.specs.Labels.{label_of};
+ghost use Rattle.grid_routes.specs.Asked.{asks_of, IsOrIn};
 ghost use Rattle.grid_routes.specs.Kept.{AreFields, AreForgotten, IsFinal, IsFor, IsRoom, IsSameGround, IsWidened};
 
 use crate::ask::Ask;
@@ -75,6 +76,11 @@ impl Fields {
         ensures ground { IsSameGround self.old self.new }
         ensures search { IsFor self.new.search ask.now }
         ensures settled { label_of self.new.search.field.labels from ≤ self.new.search.field.level }
+        ensures begun { IsFalse result → Contains (asks_of self.old.ask self.old.kept.items) ask.now }
+        ensures asks { All (IsOrIn ask.now (asks_of self.old.ask self.old.kept.items))
+            (asks_of self.new.ask self.new.kept.items) }
+        ensures again { self.old.ask ≡ Some ask.now → IsFalse result }
+        ensures asked { self.new.ask ≡ Some ask.now }
     {
         let goal = ask.goal;
         let begun = self.turn_to(ask);
@@ -110,6 +116,8 @@ impl Fields {
         ensures fields { AreFields self.old.search.tolls.terrain.width
             self.old.search.tolls.terrain.height self.new }
         ensures ground { IsSameGround self.old self.new }
+        ensures asked { self.new.ask ≡ self.old.ask }
+        ensures kept { self.new.kept.items ≡ self.old.kept.items }
         ensures best { IsBestDirection (land_over self.old.search.tolls.terrain
             self.old.search.tolls.built ask.now.costs ask.now.goal) from result }
     {
@@ -128,6 +136,7 @@ impl Fields {
         ensures fields { AreFields map.now.width map.now.height self.new }
         ensures terrain { self.new.search.tolls.terrain ≡ map.now.terrain }
         ensures blocks { self.new.search.tolls.built ≡ blocks.now }
+        ensures asks { asks_of self.new.ask self.new.kept.items ≡ [] }
     {
         self.search.tolls.take_ground(map, blocks);
         self.ask = None;
@@ -147,6 +156,10 @@ impl Fields {
         ensures ground { IsSameGround self.old self.new }
         ensures asked { self.new.ask ≡ Some ask.now }
         ensures search { IsFor self.new.search ask.now }
+        ensures begun { IsFalse result → Contains (asks_of self.old.ask self.old.kept.items) ask.now }
+        ensures asks { All (IsOrIn ask.now (asks_of self.old.ask self.old.kept.items))
+            (asks_of self.new.ask self.new.kept.items) }
+        ensures again { self.old.ask ≡ Some ask.now → IsFalse result }
     {
         if is_asked(&self.ask, ask) {
             self.search.tolls.turn_to(&ask.costs, ask.goal);
@@ -167,6 +180,8 @@ impl Fields {
         ensures fields { AreFields self.old.search.tolls.terrain.width
             self.old.search.tolls.terrain.height self.new }
         ensures search { self.new.search ≡ self.old.search }
+        ensures asks { All (Contains (asks_of self.old.ask self.old.kept.items))
+            (asks_of self.new.ask self.new.kept.items) }
     {
         let w = self.search.field.width();
         let h = self.search.field.height();
@@ -180,6 +195,8 @@ impl Fields {
         ensures fields { AreFields self.old.search.tolls.terrain.width
             self.old.search.tolls.terrain.height self.new }
         ensures tolls { self.new.search.tolls ≡ self.old.search.tolls }
+        ensures asks { All (Contains (asks_of self.old.ask self.old.kept.items))
+            (asks_of self.new.ask self.new.kept.items) }
     {
         exchange(&mut self.kept, self.place, &mut self.search.field, self.ask);
         self.ask = None;
@@ -198,6 +215,9 @@ impl Fields {
         ensures ground { IsSameGround self.old self.new }
         ensures asked { self.new.ask ≡ Some ask.now }
         ensures search { IsFor self.new.search ask.now }
+        ensures begun { IsFalse result → Contains (asks_of self.old.ask self.old.kept.items) ask.now }
+        ensures asks { All (IsOrIn ask.now (asks_of self.old.ask self.old.kept.items))
+            (asks_of self.new.ask self.new.kept.items) }
     {
         let found = exchange(&mut self.kept, place, &mut self.search.field, None);
         let known = is_known(place, self.kept.len() - 1, &found, ask);

@@ -1,11 +1,12 @@
-ghost use Rattle.std.specs.Prelude.{◌≡◌, ◌≤◌, ◌⊎◌, ◌+◌, ◌-◌, ◌^◌, min, IfOk, IfSome};
+ghost use Rattle.std.specs.Prelude.{◌≡◌, ◌⊎◌, ◌≤◌, if◌then◌else◌, All, Contains, IfOk, IfSome};
+ghost use Rattle.std.specs.Prelude.{[], Some};
 ghost use Rattle.game_model.specs.Grid.{IsOn, HasSize};
 ghost use Rattle.game_model.specs.Walks.{IsBest, IsBestDirection};
 ghost use Rattle.grid_routes.specs.Tolls.{IsCheap, land_over};
 ghost use Rattle.grid_routes.specs.Kept.{IsFor, IsSameGround, IsSettled};
 ghost use Rattle.grid_routes.specs.KnownWalks.{AreBest, IsBestWalk};
 ghost use Rattle.grid_routes.specs.Findings.{AreFindings};
-ghost use Rattle.grid_routes.specs.Routing.{CountsOn};
+ghost use Rattle.grid_routes.specs.Asked.{asks_in, one_more, CountsOn, IsOrIn};
 
 use crate::ask::Ask;
 use crate::fields::Fields;
@@ -63,7 +64,11 @@ impl Findings {
         ensures ground { IsSameGround self.old.fields self.new.fields }
         ensures best { IsBestDirection (land_over self.old.fields.search.tolls.terrain
             self.old.fields.search.tolls.built ask.now.costs ask.now.goal) from result }
-        ensures computed { CountsOn self.old.computed self.new.computed }
+        ensures computed { CountsOn (asks_in self.old) ask.now self.old.computed self.new.computed }
+        ensures again { self.old.fields.ask ≡ Some ask.now →
+            self.new.computed ≡ self.old.computed }
+        ensures begun { (self.new.computed ≡ self.old.computed) ⊎
+            (self.new.fields.ask ≡ Some ask.now) }
     {
         match self.fields.final_place(ask, from) {
             Some(place) => self.fields.best_at(place, ask, from),
@@ -73,6 +78,7 @@ impl Findings {
 
     /// The best direction of a cell: that of a known step that is followed nearby, else what is found
     /// farther off.
+    #[tactic(auto, using(crate::proofs::Asking::known_counts, crate::proofs::Asking::same_asks, crate::proofs::Asking::counts_after))]
     fn find_near(&mut self, ask: &Ask, from: CPos) -> Option<u8>
         requires found { AreFindings self.old.fields.search.tolls.terrain.width
             self.old.fields.search.tolls.terrain.height self.old }
@@ -86,7 +92,11 @@ impl Findings {
         ensures ground { IsSameGround self.old.fields self.new.fields }
         ensures best { IsBestDirection (land_over self.old.fields.search.tolls.terrain
             self.old.fields.search.tolls.built ask.now.costs ask.now.goal) from result }
-        ensures computed { CountsOn self.old.computed self.new.computed }
+        ensures computed { CountsOn (asks_in self.old) ask.now self.old.computed self.new.computed }
+        ensures again { self.old.fields.ask ≡ Some ask.now →
+            self.new.computed ≡ self.old.computed }
+        ensures begun { (self.new.computed ≡ self.old.computed) ⊎
+            (self.new.fields.ask ≡ Some ask.now) }
     {
         match self.known(ask, from, Reach::Near) {
             Some(direction) => Some(direction),
@@ -96,6 +106,7 @@ impl Findings {
 
     /// The best direction of a cell: what its kept field says once it is final, else that of a known
     /// step that is followed elsewhere, else what a search finds.
+    #[tactic(auto, using(crate::proofs::Asking::known_counts, crate::proofs::Asking::same_asks, crate::proofs::Asking::counts_after))]
     fn find(&mut self, ask: &Ask, from: CPos) -> Option<u8>
         requires found { AreFindings self.old.fields.search.tolls.terrain.width
             self.old.fields.search.tolls.terrain.height self.old }
@@ -109,7 +120,11 @@ impl Findings {
         ensures ground { IsSameGround self.old.fields self.new.fields }
         ensures best { IsBestDirection (land_over self.old.fields.search.tolls.terrain
             self.old.fields.search.tolls.built ask.now.costs ask.now.goal) from result }
-        ensures computed { CountsOn self.old.computed self.new.computed }
+        ensures computed { CountsOn (asks_in self.old) ask.now self.old.computed self.new.computed }
+        ensures again { self.old.fields.ask ≡ Some ask.now →
+            self.new.computed ≡ self.old.computed }
+        ensures begun { (self.new.computed ≡ self.old.computed) ⊎
+            (self.new.fields.ask ≡ Some ask.now) }
     {
         if self.fields.has(ask) {
             self.settle(ask, from);
@@ -133,6 +148,11 @@ impl Findings {
         ensures terrain { self.new.fields.search.tolls.terrain ≡ map.now.terrain }
         ensures blocks { self.new.fields.search.tolls.built ≡ blocks.now }
         ensures computed { self.new.computed ≡ self.old.computed }
+        ensures asks { All (Contains (asks_in self.old)) (asks_in self.new) }
+        ensures same { self.old.fields.search.tolls.terrain ≡ map.now.terrain →
+            self.old.fields.search.tolls.built ≡ blocks.now → self.new ≡ self.old }
+        ensures forgets { (self.old.fields.search.tolls.terrain ≡ map.now.terrain →
+            self.old.fields.search.tolls.built ≡ blocks.now → ⊥) → asks_in self.new ≡ [] }
     {
         if !self.fields.search.tolls.is_over(map, blocks) {
             self.forget(map, blocks);
@@ -149,6 +169,7 @@ impl Findings {
         ensures terrain { self.new.fields.search.tolls.terrain ≡ map.now.terrain }
         ensures blocks { self.new.fields.search.tolls.built ≡ blocks.now }
         ensures computed { self.new.computed ≡ self.old.computed }
+        ensures asks { asks_in self.new ≡ [] }
     {
         self.fields.forget(map, blocks);
         self.known.clear();
@@ -165,6 +186,8 @@ impl Findings {
         ensures best { IfSome result (IsBest (land_over self.old.fields.search.tolls.terrain
             self.old.fields.search.tolls.built ask.now.costs ask.now.goal) from) }
         ensures computed { self.new.computed ≡ self.old.computed }
+        ensures kept { IfSome result (λ d. Contains (asks_in self.old) ask.now) }
+        ensures asks { asks_in self.new ≡ asks_in self.old }
     {
         self.known.direction(ask, from, reach)
     }
@@ -183,7 +206,11 @@ impl Findings {
         ensures ground { IsSameGround self.old.fields self.new.fields }
         ensures search { IsFor self.new.fields.search ask.now }
         ensures settled { IsSettled self.new.fields.search from }
-        ensures computed { CountsOn self.old.computed self.new.computed }
+        ensures computed { CountsOn (asks_in self.old) ask.now self.old.computed self.new.computed }
+        ensures asks { All (IsOrIn ask.now (asks_in self.old)) (asks_in self.new) }
+        ensures again { self.old.fields.ask ≡ Some ask.now →
+            self.new.computed ≡ self.old.computed }
+        ensures asked { self.new.fields.ask ≡ Some ask.now }
     {
         let begun = self.fields.settle(ask, from);
         self.computed = counted(self.computed, begun);
@@ -201,6 +228,7 @@ impl Findings {
         ensures best { IsBestDirection (land_over self.old.fields.search.tolls.terrain
             self.old.fields.search.tolls.built ask.now.costs ask.now.goal) from result }
         ensures computed { self.new.computed ≡ self.old.computed }
+        ensures asks { All (IsOrIn ask.now (asks_in self.old)) (asks_in self.new) }
     {
         let walk = walk_from(&self.fields.search, ask, from);
         self.known.put(from, walk);
@@ -217,7 +245,7 @@ fn walks_beside(most: usize) -> usize
 
 /// The count of fields that were begun, after one more if one was.
 fn counted(computed: u64, begun: bool) -> u64
-    ensures { CountsOn computed result }
+    ensures { result ≡ (if begun then one_more computed else computed) }
 {
     if begun {
         computed.saturating_add(1)
@@ -230,7 +258,8 @@ fn counted(computed: u64, begun: bool) -> u64
 fn walk_from(search: &Search, ask: &Ask, from: CPos) -> KnownWalk
     requires search { IsFor search.now ask.now }
     requires settled { IsSettled search.now from }
-    ensures { IsBestWalk search.now.tolls.terrain search.now.tolls.built result }
+    ensures best { IsBestWalk search.now.tolls.terrain search.now.tolls.built result }
+    ensures asked { result.ask ≡ ask.now }
 {
     let mut walk = KnownWalk::create(ask);
     let mut at = from;

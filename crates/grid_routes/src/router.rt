@@ -1,10 +1,11 @@
-ghost use Rattle.std.specs.Prelude.{◌≡◌, ◌≤◌, ◌+◌, ◌-◌, ◌^◌, ◌⊎◌, min, Bool, IfOk};
+ghost use Rattle.std.specs.Prelude.{◌≡◌, ◌⊎◌, ◌≤◌, Bool, All, Contains, IfOk, [], Some};
 ghost use Rattle.game_model.specs.Grid.{Grid, IsOn};
 ghost use Rattle.game_model.specs.BestDirection.{best_dir_of};
 ghost use Rattle.game_model.specs.Walks.{IsBestDirection, land_of};
 ghost use Rattle.game_model.specs.declared.map.Map.{Map};
 ghost use Rattle.grid_routes.specs.Tolls.{IsCheap, land_over};
-ghost use Rattle.grid_routes.specs.Routing.{AreSized, CountsOn, IsNew, IsSameSight, IsSameSize, LooksAt};
+ghost use Rattle.grid_routes.specs.Asked.{ask_for, one_more, CountsOn};
+ghost use Rattle.grid_routes.specs.Routing.{AreSized, IsNew, IsSameSight, IsSameSize, LooksAt};
 ghost use Rattle.grid_routes.specs.Steps.{IsRoute};
 
 use crate::ask::Ask;
@@ -27,6 +28,7 @@ pub struct Router {
 }
 
 impl Model for Router {
+    ghost use Rattle.grid_routes.specs.Asked.{asks_in};
     ghost use Rattle.grid_routes.specs.Findings.{AreFindings};
     ghost use Rattle.grid_routes.specs.Routing.{Routing};
 
@@ -37,6 +39,8 @@ impl Model for Router {
       height = r.height;
       terrain = r.findings.fields.search.tolls.terrain;
       built = r.findings.fields.search.tolls.built;
+      last = r.findings.fields.ask;
+      asks = asks_in r.findings;
       computed = r.findings.computed;
     } };
 
@@ -80,6 +84,9 @@ impl Router {
         ensures looks { LooksAt self.new map.now blocks.now }
         ensures size { IsSameSize self.old self.new }
         ensures computed { self.new.computed ≡ self.old.computed }
+        ensures asks { All (Contains self.old.asks) self.new.asks }
+        ensures same { LooksAt self.old map.now blocks.now → self.new ≡ self.old }
+        ensures forgets { (LooksAt self.old map.now blocks.now → ⊥) → self.new.asks ≡ [] }
     {
         self.findings.look(map, blocks);
     }
@@ -96,7 +103,12 @@ impl Router {
         ensures best { IsBestDirection (land_over self.old.terrain self.old.built costs.now goal)
             from result }
         ensures sight { IsSameSight self.old self.new }
-        ensures computed { CountsOn self.old.computed self.new.computed }
+        ensures computed { CountsOn self.old.asks (ask_for costs.now goal) self.old.computed
+            self.new.computed }
+        ensures again { self.old.last ≡ Some (ask_for costs.now goal) →
+            self.new.computed ≡ self.old.computed }
+        ensures begun { (self.new.computed ≡ self.old.computed) ⊎
+            (self.new.last ≡ Some (ask_for costs.now goal)) }
     {
         let ask = Ask {
             goal,
@@ -123,14 +135,24 @@ impl Router {
             best_dir_of map.now (land_of map.now blocks.now costs.now goal) from }
         ensures best { IsBestDirection (land_of map.now blocks.now costs.now goal) from result }
         ensures size { IsSameSize self.old self.new }
-        ensures computed { CountsOn self.old.computed self.new.computed }
+        ensures looks { LooksAt self.new map.now blocks.now }
+        ensures computed { CountsOn self.old.asks (ask_for costs.now goal) self.old.computed
+            self.new.computed }
+        ensures anew { (LooksAt self.old map.now blocks.now → ⊥) →
+            self.new.computed ≡ one_more self.old.computed }
+        ensures again { LooksAt self.old map.now blocks.now →
+            self.old.last ≡ Some (ask_for costs.now goal) →
+            self.new.computed ≡ self.old.computed }
+        ensures begun { (self.new.computed ≡ self.old.computed) ⊎
+            (self.new.last ≡ Some (ask_for costs.now goal)) }
     {
         self.look(map, blocks);
         self.best_dir_seen(costs, from, goal)
     }
 
     /// The walk that takes the best direction at each cell. `None` comes exactly where there is no
-    /// walk or the cell is the goal. Out of memory is its only error.
+    /// walk or the cell is the goal. Out of memory is its only error; the router then looks at the
+    /// ground and keeps what it found, as after an answer.
     pub fn walk(
         &mut self,
         alloc: Global,
@@ -146,7 +168,16 @@ impl Router {
         requires goal { IsOn map.now.width map.now.height goal }
         ensures route { IfOk result (IsRoute (land_of map.now blocks.now costs.now goal) from) }
         ensures size { IsSameSize self.old self.new }
-        ensures computed { CountsOn self.old.computed self.new.computed }
+        ensures looks { LooksAt self.new map.now blocks.now }
+        ensures computed { CountsOn self.old.asks (ask_for costs.now goal) self.old.computed
+            self.new.computed }
+        ensures anew { (LooksAt self.old map.now blocks.now → ⊥) →
+            self.new.computed ≡ one_more self.old.computed }
+        ensures again { LooksAt self.old map.now blocks.now →
+            self.old.last ≡ Some (ask_for costs.now goal) →
+            self.new.computed ≡ self.old.computed }
+        ensures begun { (self.new.computed ≡ self.old.computed) ⊎
+            (self.new.last ≡ Some (ask_for costs.now goal)) }
     {
         let ask = Ask {
             goal,

@@ -32,7 +32,8 @@ pub(crate) fn with_waits(activity: Activity, waits: u8) -> Activity
     }
 }
 
-/// Puts the activity in place of the first one of the actor of an id, if the actor is there.
+/// Puts the activity in place of the first one of the actor of an id, if the actor is there. It is
+/// the first one also where there was none.
 pub fn set_head(t: &mut ActorTable, id: u32, activity: Activity)
     ensures { t.new ≡ record t.old { actors = changed_at t.old.actors id (with_first activity) } }
 {

@@ -4,8 +4,9 @@
 //! over the rules and the map of a match. One step is one tick of the definitions in `game_tick`
 //! (`specs/Tick.antt` there). The world is held part by part: its head as plain numbers, its actors
 //! in a table, its ore, the cells of its buildings, routes, dice, and the numbers of which its hash
-//! is made; a step tells the hasher of what it changes alone, so that the hash costs the header.
-//! Contracts see a game as its setup, its world and its count of steps (`specs/Game.antt`).
+//! is made; a step tells the hasher of what it may change alone (with a Harvest, of the ore of its
+//! cell at each step), so that the hash costs the header. Contracts see a game as its setup, its
+//! world and its count of steps (`specs/Game.antt`).
 #![tactic(auto)]
 
 mod acting;

@@ -1,6 +1,7 @@
 use Rattle.std.proofs.Common.{sym, subst}
 use Rattle.game_model.specs.Grid.{HasSize}
 use Rattle.grid_routes.specs.Tolls.{Ground}
+use Rattle.grid_routes.proofs.Asking.{forgotten-asks}
 use Rattle.grid_routes.proofs.Keeping.{forgotten-kept}
 use Rattle.grid_routes.proofs.fields.Fields.forget.Goals as goal
 
@@ -18,3 +19,6 @@ returns-clause-fields c =
           c.args.self.now.kept.items c.forget_all.new.kept.items c.forget_all.ensures f.kept;
       place = rw c.forget_all.ensures.same f.place;
     }
+
+pub returns-clause-asks : goal.returns-clause-asks
+returns-clause-asks c = forgotten-asks c.args.self.now.kept.items c.forget_all.new.kept.items c.forget_all.ensures

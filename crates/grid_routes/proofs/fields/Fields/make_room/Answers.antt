@@ -1,5 +1,6 @@
 use Rattle.std.proofs.Common.{subst}
 use Rattle.grid_routes.specs.Kept.{IsWidened}
+use Rattle.grid_routes.proofs.Asking.{widened-asks}
 use Rattle.grid_routes.proofs.Keeping.{widened-kept, widened-place}
 use Rattle.grid_routes.proofs.fields.Fields.make_room.Goals as goal
 
@@ -19,3 +20,8 @@ returns-clause-fields c =
       kept = widened-kept w h old.search.tolls.terrain old.search.tolls.built old.kept.items c.widen.new.kept.items widened f.kept;
       place = widened-place w h old.place old.kept.items c.widen.new.kept.items widened f.place;
     }
+
+pub returns-clause-asks : goal.returns-clause-asks
+returns-clause-asks c =
+    let old = c.args.self.now in
+    widened-asks c.width-w.result c.height-h.result old.ask old.kept.items c.widen.new.kept.items c.widen.ensures

@@ -1,7 +1,8 @@
-use Rattle.std.proofs.Common.{sym, subst, length-set}
+use Rattle.std.proofs.Common.{refl, sym, subst, length-set}
 use Rattle.game_model.specs.Grid.{HasSize}
 use Rattle.grid_routes.specs.Labels.{Distances}
 use Rattle.grid_routes.specs.declared.fields.Kept.{Kept}
+use Rattle.grid_routes.proofs.Asking.{back-asks}
 use Rattle.grid_routes.proofs.Keeping.{own-going, kept-set}
 use Rattle.grid_routes.proofs.fields.Fields.put_back.Goals as goal
 
@@ -23,3 +24,9 @@ returns-clause-fields c =
           c.exchange-self.ensures.kept;
       place = rw (c.exchange-self.ensures.kept, length-set old.kept.items old.place mine) f.place;
     }
+
+pub returns-clause-asks : goal.returns-clause-asks
+returns-clause-asks c =
+    let old = c.args.self.now in
+    back-asks old.ask old.kept.items c.exchange-self.new.kept.items old.place
+    (record { ask = old.ask; field = old.search.field }) c.exchange-self.ensures.kept refl

@@ -1,10 +1,11 @@
-use Rattle.std.proofs.Common.{sym, subst, ◌∙◌, None, length-set}
+use Rattle.std.proofs.Common.{refl, sym, subst, ◌∙◌, None, length-set}
 use Rattle.std.specs.List.{All}
 use Rattle.game_model.specs.Grid.{HasSize}
 use Rattle.grid_routes.specs.Tolls.{Ground}
 use Rattle.grid_routes.specs.Labels.{Distances}
 use Rattle.grid_routes.specs.Kept.{IsKept}
 use Rattle.grid_routes.specs.declared.fields.Kept.{Kept}
+use Rattle.grid_routes.proofs.Asking.{found-ask, not-false, take-asks}
 use Rattle.grid_routes.proofs.Keeping.{for-own, found-going, kept-set, turned}
 use Rattle.grid_routes.proofs.fields.Fields.take_up.Goals as goal
 
@@ -55,3 +56,16 @@ returns-clause-search c = record {
       c.set_out.ensures.tolls;
   going = c.set_out.ensures.search;
 }
+
+pub returns-clause-asks : goal.returns-clause-asks
+returns-clause-asks c =
+    let old = c.args.self.now in
+    take-asks old.ask c.args.ask.now old.kept.items c.exchange-found.new.kept.items c.args.place
+    (record { ask = None; field = old.search.field }) c.exchange-found.ensures.kept refl
+
+pub returns-clause-begun : goal.returns-clause-begun
+returns-clause-begun c = λ kept.
+    let old = c.args.self.now in
+    let mine : Kept = record { ask = old.ask; field = old.search.field } in
+    found-ask old.ask old.kept.items c.args.place mine c.exchange-found.result c.args.ask.now c.requires.place
+    (c.exchange-found.ensures.found mine) (c.is_known-known.ensures (not-false c.is_known-known.result kept))

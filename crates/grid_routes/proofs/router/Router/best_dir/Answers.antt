@@ -1,3 +1,5 @@
+use Rattle.grid_routes.specs.Asked.{ask_for}
+use Rattle.grid_routes.proofs.Asking.{count-anew-looked, count-looked}
 use Rattle.grid_routes.proofs.Looking.{seen-best}
 use Rattle.grid_routes.proofs.router.Router.best_dir.Goals as goal
 
@@ -8,3 +10,15 @@ pub returns-clause-best : goal.returns-clause-best
 returns-clause-best c =
     seen-best c.look.new.self c.args.map.now c.args.blocks.now c.args.costs.now c.args.goal c.args.from c.best_dir_seen.result
     c.look.ensures.looks c.best_dir_seen.ensures.best
+
+pub returns-clause-computed : goal.returns-clause-computed
+returns-clause-computed c =
+    count-looked c.args.self.now.asks c.look.new.self.asks (ask_for c.args.costs.now c.args.goal) c.args.self.now.computed
+    c.look.new.self.computed c.best_dir_seen.new.self.computed c.look.ensures.computed c.look.ensures.asks
+    c.best_dir_seen.ensures.computed
+
+pub returns-clause-anew : goal.returns-clause-anew
+returns-clause-anew c = λ differs.
+    count-anew-looked c.look.new.self.asks (ask_for c.args.costs.now c.args.goal) c.args.self.now.computed
+    c.look.new.self.computed c.best_dir_seen.new.self.computed c.look.ensures.computed (c.look.ensures.forgets differs)
+    c.best_dir_seen.ensures.computed
