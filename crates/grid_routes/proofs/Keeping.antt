@@ -17,7 +17,7 @@ use Rattle.grid_routes.specs.declared.fields.Kept.{Kept}
 use Rattle.grid_routes.specs.declared.fields.Fields.{Fields}
 use Rattle.grid_routes.specs.declared.search.Search.{Search}
 use Rattle.grid_routes.specs.Steps.{IsGoing, IsSearch}
-use Rattle.grid_routes.specs.Kept.{AreFields, AreForgotten, IsFinal, IsFor, IsKept, IsOwn, IsRoom, IsWidened}
+use Rattle.grid_routes.specs.Kept.{AreFields, AreForgotten, IsFinal, IsFor, IsKept, IsOwn, IsWidened}
 use Rattle.grid_routes.proofs.Beginning.{may-go-on}
 
 pub forgotten-none : (old : List Kept) → AreForgotten old old 0

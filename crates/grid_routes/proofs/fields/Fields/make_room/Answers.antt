@@ -1,4 +1,3 @@
-use Rattle.std.proofs.Common.{subst}
 use Rattle.grid_routes.specs.Kept.{IsWidened}
 use Rattle.grid_routes.proofs.Asking.{widened-asks}
 use Rattle.grid_routes.proofs.Keeping.{widened-kept, widened-place}
