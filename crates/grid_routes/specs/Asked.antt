@@ -43,7 +43,6 @@ IsOrIn this asks ask = (ask ≡ this) ⊎ Contains asks ask
 abbrev pub one_more : ℕ → ℕ
 one_more count = min (count + 1) (2 ^ 64 - 1)
 
--- For a question of which nothing is kept a field is begun, and each field that is begun counts.
--- For another one at most one is.
+-- The count rises by one, or it stays, which it may only where something is kept for the question.
 abbrev pub CountsOn : List Ask → Ask → (old new : ℕ) → Type 0
 CountsOn asks ask old new = (Contains asks ask × (new ≡ old)) ⊎ (new ≡ one_more old)

@@ -41,9 +41,8 @@ EndsLine bytes = list_any ends_line bytes ≡ true
 abbrev pub HaveEnded : List (List ℕ) → Type 0
 HaveEnded lines = 1 < length lines
 
--- The bytes that were taken from the console, and their lines: those that ended before every client
--- was seen to have left, and the others. It failed, or one of the others has ended, or a console that
--- tells its bytes has none left.
+-- The bytes that were taken from the console, and their lines in two parts. It failed, or a line of
+-- the second part has ended, or a console that tells its bytes has none left.
 pub record ConsoleRead (old new : SourceState) : Type 0 where
   pub bytes : List ℕ
   pub before : List (List ℕ)

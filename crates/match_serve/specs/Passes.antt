@@ -64,7 +64,7 @@ SeesLeft clients view true = (c : ℕ) → c < clients → (part_of c view).reac
 SeesLeft clients view false =
     (c : ℕ) × (c < clients) × ((part_of c view).reach.left ≡ false)
 
--- Of the clients that the pass had seen leave it has let none go.
+-- Each client that the pass had seen leave it still sees left, and has not let go since.
 abbrev pub StayLeft : View → View → Type 0
 StayLeft old new =
     (c : ℕ) → (part_of c old).reach.left ≡ true →

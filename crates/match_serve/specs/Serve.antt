@@ -111,9 +111,9 @@ pub record ServesLink (c : ℕ) (invite : Invite) (columns : List Column)
 
 -- A match was served. The world is the agreed world of all frames, as many as the longest column has
 -- plays, and the board's wanted hashes are those of the agreed worlds after each. `coming` is what the
--- net told of the links to come. Of the console's bytes those that were taken are known. A line of
--- them that ended since every client was seen to have left lets no client go: where the end is that
--- of a client whom the console kicked, a line before kicked it, or its link had failed.
+-- net told of the links to come. Of the console's bytes those that were taken are known, and their
+-- lines in two parts, of which the second lets no client go: where the end is that of a client whom
+-- the console kicked, a line of the first part kicks it, or its link had failed.
 pub record ServesMatch {W : Type 0} (of_match : Match W) (invite : Invite)
     (coming : Option (List (List ℕ))) (console_old console_new : SourceState)
     (net_after : NetState) (world : W) (steps : ℕ) (table : FrameTable) (pass : Pass)

@@ -83,8 +83,8 @@ LetGoBy clients lines old new =
     (c : ℕ) → c < clients → list_any (kicks_client c) lines ≡ false →
     (standing new c).made ≡ (standing old c).made
 
--- A line of these bytes has ended since every client was seen to have left. The pass has let no
--- clients go but by the lines before.
+-- The pass sees that every client has left. The lines of these bytes are in two parts: one of the
+-- second has ended, and the pass has let no clients go but by those of the first.
 pub record EndsAfterAll (clients : ℕ) (bytes : List ℕ) (start now : Pass) : Type 0 where
   pub before : List (List ℕ)
   pub since : List (List ℕ)
@@ -94,7 +94,7 @@ pub record EndsAfterAll (clients : ℕ) (bytes : List ℕ) (start now : Pass) : 
   pub left : SeesLeft clients (view_of now) true
   pub by : LetGoBy clients before start now
 
--- That is all, as the answer says.
+-- Where the answer is true, that is all.
 abbrev pub IsAllIf :
     ℕ → List ℕ → SourceState → SourceState → Pass → Pass → Bool → Type 0
 IsAllIf clients bytes first now start pass false = Unit {0}
@@ -108,9 +108,8 @@ AfterTake clients table first now start pass kicks all =
     (taken : TakenSoFar clients table first now start pass kicks)
     × IsAllIf clients taken.bytes first now start pass all
 
--- The console was watched: of what was taken from it each line is known, and the pass has let go
--- the clients that these lines kick, and no others; and it has let none go by a line that ended
--- since every client was seen to have left.
+-- The console was watched: of what was taken from it each line is known, and each client that these
+-- lines kick has left. The pass has let no clients go but by the lines of the first part.
 pub record WatchesConsole (clients : ℕ) (table : FrameTable) (old new : SourceState)
     (before after : Pass) (kicked : List Bool) : Type 0 where
   pub read : ConsoleRead old new
