@@ -291,6 +291,7 @@ module _ (clients : ℕ) (table : FrameTable) where
             kicked_are = lines.kicked_are;
             pass = lines.pass;
             by = λ c below none. lines.pass.stays c below (lines.kicked_are c below ∙ none);
+            left = λ ended. absurd (omega arith);
           }
       by_end (inr (inl over)) lines =
           record {
@@ -299,6 +300,7 @@ module _ (clients : ℕ) (table : FrameTable) where
             kicked_are = lines.kicked_are;
             pass = lines.pass;
             by = λ c below none. (stay c (over.left c below)).1 ∙ over.by c below none;
+            left = λ ended c below. (stay c (over.left c below)).0;
           }
       by_end (inr (inr none_left)) lines =
           record {
@@ -307,6 +309,7 @@ module _ (clients : ℕ) (table : FrameTable) where
             kicked_are = lines.kicked_are;
             pass = lines.pass;
             by = λ c below none. lines.pass.stays c below (lines.kicked_are c below ∙ none);
+            left = λ ended. absurd (omega arith);
           }
 
   -- What was taken ends it, or not.

@@ -109,7 +109,8 @@ AfterTake clients table first now start pass kicks all =
     × IsAllIf clients taken.bytes first now start pass all
 
 -- The console was watched: of what was taken from it each line is known, and each client that these
--- lines kick has left. The pass has let no clients go but by the lines of the first part.
+-- lines kick has left. The pass has let no clients go but by the lines of the first part. A line of
+-- the second part has ended only where the pass sees that every client has left.
 pub record WatchesConsole (clients : ℕ) (table : FrameTable) (old new : SourceState)
     (before after : Pass) (kicked : List Bool) : Type 0 where
   pub read : ConsoleRead old new
@@ -117,3 +118,4 @@ pub record WatchesConsole (clients : ℕ) (table : FrameTable) (old new : Source
   pub kicked_are : AreKicked clients read.bytes kicked
   pub pass : IsKicking clients table kicked before after
   pub by : LetGoBy clients read.before before after
+  pub left : HaveEnded read.since → SeesLeft clients (view_of after) true
