@@ -5,3 +5,4 @@ pub mod FoundValuesLemmas
 pub mod PlainWordsLemmas
 pub mod NamesLemmas
 pub mod AcceptedLemmas
+pub mod SecondWordLemmas

@@ -3,7 +3,10 @@ use Rattle.std.proofs.Common.{◌≡◌, ◌==◌, Bool, true, false, [], ◌∷
 use Rattle.clap.specs.Walk.{Text}
 use Rattle.clap.proofs.OnLiterals.{clap_on_literals}
 use Rattle.clap.proofs.SimpleLemmas.{is_false}
-use Rattle.command_words.specs.RequestPlain.{Drill, Replay, Migrate, match_alone}
+use Rattle.command_words.specs.RequestPlain.{Drill, Replay, Migrate, Route, Make, Local, Serve, Play, match_alone}
+use Rattle.base.specs.Numbers.{number_of}
+use Rattle.rule_values.specs.Cells.{cell_of, coordinate_of}
+use Rattle.rule_values.specs.Parts.{parts_at}
 use Rattle.command_words.specs.Reading.{request_of, is_plain}
 use Rattle.command_words.proofs.OnCommands.{all_commands, request_on_literals}
 
@@ -24,6 +27,45 @@ pub migrated_files_after_equals : (program file to : Text)
     → request_of (program ∷ codes "migrate" ∷ (codes "--file=" ++ file) ∷ (codes "--to=" ++ to) ∷ []) ≡ Some (Migrate (match_alone file) to)
 unfolding request_on_literals all_commands clap_on_literals
 migrated_files_after_equals program file to = refl
+
+pub local_after_equals : (program script : Text) → request_of (program ∷ codes "local" ∷ (codes "--script=" ++ script) ∷ []) ≡ Some (Local (match_alone script))
+unfolding request_on_literals all_commands clap_on_literals
+local_after_equals program script = refl
+
+pub play_after_equals : (program at script : Text)
+    → request_of (program ∷ codes "play" ∷ (codes "--at=" ++ at) ∷ (codes "--script=" ++ script) ∷ []) ≡ Some (Play (match_alone script) at)
+unfolding request_on_literals all_commands clap_on_literals
+play_after_equals program at script = refl
+
+pub serve_without_options : (program at : Text)
+    → request_of (program ∷ codes "serve" ∷ (codes "--at=" ++ at) ∷ codes "--clients=16" ∷ [])
+    ≡ Some (Serve (record { at = at; clients = 16; lag = 2; seed = 1; map_file = None; rules = [] }))
+unfolding request_on_literals all_commands clap_on_literals
+serve_without_options program at = refl
+
+pub serve_with_options : (program at map_file : Text)
+    → request_of (program ∷ codes "serve" ∷ (codes "--map=" ++ map_file) ∷ codes "--seed=4294967295" ∷ codes "--lag=64" ∷ codes "--clients=3"
+    ∷ (codes "--at=" ++ at) ∷ [])
+    ≡ Some (Serve (record { at = at; clients = 3; lag = 64; seed = 4294967295; map_file = Some map_file; rules = [] }))
+unfolding request_on_literals all_commands clap_on_literals
+serve_with_options program at map_file = refl
+
+pub route_with_options : (program map_file kind : Text)
+    → request_of (program ∷ codes "route" ∷ codes "r" ∷ (codes "--kind=" ++ kind) ∷ codes "--to=3,4" ∷ codes "--from=1,2"
+    ∷ (codes "--map=" ++ map_file) ∷ [])
+    ≡ Some (Route (record { map_file = map_file; kind = kind; from = record { x = 1; y = 2 }; to = record { x = 3; y = 4 }; rules = codes "r" ∷ [] }))
+unfolding request_on_literals all_commands clap_on_literals cell_of coordinate_of parts_at number_of
+route_with_options program map_file kind = refl
+
+pub make_of_a_number : (program : Text) → request_of (program ∷ codes "make" ∷ codes "--number=4294967295" ∷ []) ≡ Some (Make 4294967295)
+unfolding request_on_literals all_commands clap_on_literals
+make_of_a_number program = refl
+
+pub map_after_equals : (program script map_file : Text)
+    → request_of (program ∷ codes "drill" ∷ (codes "--map=" ++ map_file) ∷ (codes "--script=" ++ script) ∷ [])
+    ≡ Some (Drill (record { file = script; map_file = Some map_file; rules = [] }) None)
+unfolding request_on_literals all_commands clap_on_literals
+map_after_equals program script map_file = refl
 
 pub script_in_a_word : (program script : Text) → is_plain script ≡ true → request_of (program ∷ codes "drill" ∷ codes "--script" ∷ script ∷ []) ≡ Some (Drill (match_alone script) None)
 unfolding request_on_literals all_commands clap_on_literals

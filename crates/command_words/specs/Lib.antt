@@ -2,3 +2,4 @@ pub mod Follows
 pub mod Commands
 pub mod RequestPlain
 pub mod Reading
+pub mod CommandNames

@@ -1,9 +1,11 @@
 ghost use Rattle.std.specs.Prelude.{◌≡◌, ◌∷◌, ◌++◌, [], ℕ, List, Some, None, true, codes};
-ghost use Rattle.std.specs.Prelude.{option_map, is_some, ◌⊎◌};
+ghost use Rattle.std.specs.Prelude.{option_map, is_some, slice_get, ◌⊎◌};
 ghost use Rattle.std.specs.List.{All};
 ghost use Rattle.clap.specs.Simple.{subcommand_of};
+ghost use Rattle.command_words.specs.CommandNames.{command_of};
 ghost use Rattle.command_words.specs.Commands.{lockstep_app};
-ghost use Rattle.command_words.specs.RequestPlain.{Drill, Yaml, Check, Replay, Migrate};
+ghost use Rattle.command_words.specs.RequestPlain.{RequestPlain, Drill, Yaml, Check, Replay};
+ghost use Rattle.command_words.specs.RequestPlain.{Migrate, Route, Make, Local, Serve, Play};
 ghost use Rattle.command_words.specs.RequestPlain.{match_alone};
 ghost use Rattle.command_words.specs.Reading.{request_of, is_accepted, is_plain, allowed};
 ghost use Rattle.command_words.specs.Reading.{NamesRefused, CellRefused};
@@ -13,6 +15,13 @@ ghost use Rattle.command_words.specs.Reading.{NamesRefused, CellRefused};
 pub fn no_command()
     ensures none { request_of [] ≡ None }
     ensures alone { (program : List ℕ) → request_of (program ∷ []) ≡ None }
+{}
+
+/// A law of the definition: the command of a request is the word after the program's name.
+#[tactic(auto, using(crate::proofs::SecondWordLemmas::command_comes_second))]
+pub fn command_comes_second()
+    ensures { (words : List (List ℕ)) (request : RequestPlain) →
+        request_of words ≡ Some request → slice_get words 1 ≡ Some (command_of request) }
 {}
 
 /// A law of the definition: `--script=FILE` names FILE, whatever it is.
@@ -49,6 +58,89 @@ pub fn migrated_files_after_equals()
         request_of (program ∷ codes "migrate" ∷ (codes "--file=" ++ file)
         ∷ (codes "--to=" ++ to) ∷ [])
         ≡ Some (Migrate (match_alone file) to) }
+{}
+
+/// A law of the definition: `local --script=FILE` names FILE, whatever it is.
+#[tactic(auto, using(crate::proofs::LiteralLemmas::local_after_equals))]
+pub fn local_after_equals()
+    ensures { (program script : List ℕ) →
+        request_of (program ∷ codes "local" ∷ (codes "--script=" ++ script) ∷ [])
+        ≡ Some (Local (match_alone script)) }
+{}
+
+/// A law of the definition: `play --at=ADDRESS --script=FILE` names the server's address and the
+/// script, whatever they are.
+#[tactic(auto, using(crate::proofs::LiteralLemmas::play_after_equals))]
+pub fn play_after_equals()
+    ensures { (program at script : List ℕ) →
+        request_of (program ∷ codes "play" ∷ (codes "--at=" ++ at)
+        ∷ (codes "--script=" ++ script) ∷ [])
+        ≡ Some (Play (match_alone script) at) }
+{}
+
+/// A law of the definition: `serve --at=ADDRESS --clients=16` names the address, whatever it is.
+/// The lag of the match is 2 and its seed 1, and it is over no map and no rules.
+#[tactic(auto, using(crate::proofs::LiteralLemmas::serve_without_options))]
+pub fn serve_without_options()
+    ensures { (program at : List ℕ) →
+        request_of (program ∷ codes "serve" ∷ (codes "--at=" ++ at) ∷ codes "--clients=16" ∷ [])
+        ≡ Some (Serve (record {
+          at = at;
+          clients = 16;
+          lag = 2;
+          seed = 1;
+          map_file = None;
+          rules = [];
+        })) }
+{}
+
+/// A law of the definition: each option of `serve` names what it is called by.
+#[tactic(auto, using(crate::proofs::LiteralLemmas::serve_with_options))]
+pub fn serve_with_options()
+    ensures { (program at map_file : List ℕ) →
+        request_of (program ∷ codes "serve" ∷ (codes "--map=" ++ map_file)
+        ∷ codes "--seed=4294967295" ∷ codes "--lag=64" ∷ codes "--clients=3"
+        ∷ (codes "--at=" ++ at) ∷ [])
+        ≡ Some (Serve (record {
+          at = at;
+          clients = 3;
+          lag = 64;
+          seed = 4294967295;
+          map_file = Some map_file;
+          rules = [];
+        })) }
+{}
+
+/// A law of the definition: each option of `route` names what it is called by.
+#[tactic(auto, using(crate::proofs::LiteralLemmas::route_with_options))]
+pub fn route_with_options()
+    ensures { (program map_file kind : List ℕ) →
+        request_of (program ∷ codes "route" ∷ codes "r" ∷ (codes "--kind=" ++ kind)
+        ∷ codes "--to=3,4" ∷ codes "--from=1,2" ∷ (codes "--map=" ++ map_file) ∷ [])
+        ≡ Some (Route (record {
+          map_file = map_file;
+          kind = kind;
+          from = record { x = 1; y = 2 };
+          to = record { x = 3; y = 4 };
+          rules = codes "r" ∷ [];
+        })) }
+{}
+
+/// A law of the definition: `make --number=N` names N, the greatest number here.
+#[tactic(auto, using(crate::proofs::LiteralLemmas::make_of_a_number))]
+pub fn make_of_a_number()
+    ensures { (program : List ℕ) →
+        request_of (program ∷ codes "make" ∷ codes "--number=4294967295" ∷ [])
+        ≡ Some (Make 4294967295) }
+{}
+
+/// A law of the definition: `--map=FILE` of `drill` names the map, whatever it is.
+#[tactic(auto, using(crate::proofs::LiteralLemmas::map_after_equals))]
+pub fn map_after_equals()
+    ensures { (program script map_file : List ℕ) →
+        request_of (program ∷ codes "drill" ∷ (codes "--map=" ++ map_file)
+        ∷ (codes "--script=" ++ script) ∷ [])
+        ≡ Some (Drill (record { file = script; map_file = Some map_file; rules = [] }) None) }
 {}
 
 /// A law of the definition: `--script FILE` names FILE, if that does not begin with `-` or is `-`

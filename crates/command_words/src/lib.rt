@@ -18,8 +18,10 @@ mod words_fault;
 
 pub use file_names::FileNames;
 pub use laws::{
-    accepted_words_name_a_request, check_names, migrated_files_after_equals, no_command,
-    record_after_equals, replay_after_equals, script_after_equals, script_in_a_word, yaml_names,
+    accepted_words_name_a_request, check_names, command_comes_second, local_after_equals,
+    make_of_a_number, map_after_equals, migrated_files_after_equals, no_command, play_after_equals,
+    record_after_equals, replay_after_equals, route_with_options, script_after_equals,
+    script_in_a_word, serve_with_options, serve_without_options, yaml_names,
 };
 pub use match_query::MatchQuery;
 pub use reading::read_words;

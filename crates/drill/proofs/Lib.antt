@@ -11,3 +11,4 @@ pub mod FoundLemmas
 pub mod SealedLemmas
 pub mod GrownLemmas
 pub mod DraftLemmas
+pub mod MadeLemmas

@@ -41,7 +41,7 @@ pub use entering::Entering;
 pub use laws::{
     columns_only_grow, entries_arrive_when_found, peers_tick_when_told, plays_were_sealed,
 };
-pub use made::made_drill;
+pub use made::{made_drill, made_drills_are_read};
 pub use made_limits::{
     DEPARTURE_ROUND, DRAWN_ACTORS, DRAWN_CASH, DRAWN_KINDS, DRAWN_SIDE, LOSS_CHOICES, MADE_CLIENTS,
     MADE_LAG, MADE_ROUNDS, ORDER_CHOICES,

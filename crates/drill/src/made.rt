@@ -1,5 +1,6 @@
-ghost use Rattle.std.specs.Prelude.{◌≡◌, ◌+◌, ◌*◌, ◌≤◌, IfOk, OnOk};
-ghost use Rattle.drill_words.specs.Drill.{plain_of};
+ghost use Rattle.std.specs.Prelude.{◌≡◌, ◌+◌, ◌*◌, ◌^◌, ◌<◌, ◌≤◌, ℕ, IfOk, Ok, OnOk};
+ghost use Rattle.drill_words.specs.Drill.{plain_of, read_of};
+ghost use Rattle.drill_words.specs.Text.{drill_text};
 ghost use Rattle.drill.specs.Draft.{fresh_draft, size};
 ghost use Rattle.drill.specs.MadeRound.{rising, with_round};
 ghost use Rattle.drill.specs.MadeDrill.{made_drill_of};
@@ -41,3 +42,10 @@ fn add_rounds(draft: &mut Draft) -> Result<(), NoMemory>
     }
     Ok(())
 }
+
+/// A law of the made drills: the text of each is read as a drill, and is exactly that one.
+#[tactic(auto, using(crate::proofs::MadeLemmas::made_drills_are_read))]
+pub fn made_drills_are_read()
+    ensures { (number : ℕ) → number < 2 ^ 32 →
+        read_of (drill_text (made_drill_of number)) ≡ Ok (made_drill_of number) }
+{}

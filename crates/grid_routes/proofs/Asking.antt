@@ -7,7 +7,7 @@ use Rattle.std.proofs.lemmas.List.Elements.{All-append, All-cons, All-contains, 
 use Rattle.std.proofs.lemmas.Option.{get_or_from_slice_get, slice_get_within}
 use Rattle.world_units.specs.declared.cell.CPos.{CPos}
 use Rattle.grid_routes.specs.Asked.{CountsOn, IsOrIn, asks_of, field_asks, one_more, walk_asks, with_ask}
-use Rattle.grid_routes.specs.Kept.{AreForgotten, IsFinal, IsWidened}
+use Rattle.grid_routes.specs.Kept.{AreForgotten, IsFinal, IsRoom, IsWidened}
 use Rattle.grid_routes.specs.KnownWalks.{IsKnown, IsPut}
 use Rattle.grid_routes.specs.declared.ask.Ask.{Ask}
 use Rattle.grid_routes.specs.declared.fields.Kept.{Kept}
@@ -138,7 +138,12 @@ none-asks (k ∷ kept) none =
     ap (λ (o : Option Ask). with_ask o (field_asks kept)) (All-head R k kept none)
     ∙ none-asks kept (All-tail R k kept none)
 
--- Fields that are forgotten belong to no question.
+-- Room belongs to no question.
+pub room_asks : (w h : ℕ) (kept : List Kept) → All (IsRoom w h) kept → asks_of None kept ≡ []
+room_asks w h kept room =
+    none-asks kept (All-weaker (IsRoom w h) (λ (k : Kept). k.ask ≡ None) (λ k is. is.none) kept room)
+
+-- Neither do fields that are forgotten.
 pub forgotten-asks : (old new : List Kept) → AreForgotten old new (length old) → asks_of None new ≡ []
 forgotten-asks old new forgotten =
     none-asks new (λ i d within. forgotten.none i d (omega (arith, forgotten.same)))
@@ -239,6 +244,10 @@ pub not-false : (b : Bool) → not b ≡ false → b ≡ true
 not-false true is = refl
 not-false false is = absurd (cc)
 
+pub not-true : (b : Bool) → not b ≡ true → b ≡ false
+not-true true is = absurd (cc)
+not-true false is = refl
+
 -- A count over fewer questions.
 pub count-through :
     (a b : List Ask) (ask : Ask) (old new : ℕ) → All (Contains a) b → CountsOn b ask old new → CountsOn a ask old new
@@ -287,6 +296,13 @@ pub final_counts :
 final_counts own xs b i ask p n final =
     inl (Contains-append_left (asks_of own xs) b ask (final-ask own xs i ask p (slice_get xs i) refl final), refl)
 
+pub same_fields :
+    (own after : Option Ask) (xs ys : List Kept) (b : List Ask) (ask : Ask) → after ≡ own → ys ≡ xs →
+    All (IsOrIn ask (asks_of own xs ++ b)) (asks_of after ys ++ b)
+same_fields own after xs ys b ask is same =
+    same_asks (asks_of own xs ++ b) (asks_of after ys ++ b) ask
+    (ap (λ (o : Option Ask). asks_of o ys ++ b) is ∙ ap (λ (l : List Kept). asks_of own l ++ b) same)
+
 -- What is known of walks.
 pub known_counts :
     (asks : List Ask) (ask : Ask) (old new : ℕ) → Contains asks ask → new ≡ old → CountsOn asks ask old new
@@ -298,3 +314,11 @@ pub counts_after :
     CountsOn a ask old new
 counts_after a b ask old mid new same is counts =
     subst (λ (n : ℕ). CountsOn a ask n new) is (subst (λ (l : List Ask). CountsOn l ask mid new) same counts)
+
+pub asks_after :
+    (a b c : List Ask) (ask : Ask) → b ≡ a → All (IsOrIn ask b) c → All (IsOrIn ask a) c
+asks_after a b c ask same all = subst (λ (l : List Ask). All (IsOrIn ask l) c) same all
+
+pub asks_twice :
+    (a b c d : List Ask) (ask : Ask) → b ≡ a → All (IsOrIn ask b) c → All (IsOrIn ask c) d → All (IsOrIn ask a) d
+asks_twice a b c d ask same first_all then_all = asks_after a b d ask same (twice b c d ask first_all then_all)

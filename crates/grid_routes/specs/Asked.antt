@@ -1,5 +1,6 @@
 -- The questions for which a router keeps what it found, and which of them count.
-use Rattle.std.specs.Prelude.{◌≡◌, ◌⊎◌, ℕ, ◌+◌, ◌-◌, ◌^◌, min, Contains, List, [], ◌∷◌, ◌++◌, map}
+use Rattle.std.specs.Prelude.{◌≡◌, ◌⊎◌, ℕ, ◌+◌, ◌-◌, ◌^◌, min, All, Contains, List, [], ◌∷◌, ◌++◌}
+use Rattle.std.specs.Prelude.{map}
 use Rattle.std.specs.Prelude.{Option, Some, None}
 use Rattle.world_units.specs.declared.cell.CPos.{CPos}
 use Rattle.rule_traits.specs.declared.trait_fields.Costs.{Costs}
@@ -38,6 +39,10 @@ asks_in findings =
 -- The question is this one, or one of these.
 abbrev pub IsOrIn : Ask → List Ask → Ask → Type 0
 IsOrIn this asks ask = (ask ≡ this) ⊎ Contains asks ask
+
+-- Something may be kept for this question now, and for no other one for which nothing was.
+abbrev pub KeepsOnly : Ask → (old new : List Ask) → Type 0
+KeepsOnly this old new = All (IsOrIn this old) new
 
 -- One field more. The count stays at the greatest number of 64 bits.
 abbrev pub one_more : ℕ → ℕ

@@ -1,5 +1,6 @@
 -- Cells in buckets.
-use Rattle.std.specs.Prelude.{◌≡◌, ℕ, ◌+◌, ◌*◌, ◌<◌, ◌≤◌, ◌++◌, nat_lt, if◌then◌else◌, Bool, true, List}
+use Rattle.std.specs.Prelude.{◌≡◌, ℕ, ◌+◌, ◌*◌, ◌<◌, ◌≤◌, ◌++◌, nat_lt, if◌then◌else◌, Bool, true}
+use Rattle.std.specs.Prelude.{List}
 use Rattle.std.specs.Int.{from_bool}
 use Rattle.std.specs.Prelude.{length, replicate}
 use Rattle.std.specs.Prelude.{slice_index_or, slice_set}

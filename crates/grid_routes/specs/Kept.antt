@@ -5,7 +5,7 @@ use Rattle.world_units.specs.declared.cell.CPos.{CPos}
 use Rattle.game_model.specs.declared.terrain.Terrain.{Terrain}
 use Rattle.game_model.specs.Grid.{Grid, HasSize, IsOn}
 use Rattle.grid_routes.specs.Tolls.{land_over, toll_in}
-use Rattle.grid_routes.specs.Labels.{label_of}
+use Rattle.grid_routes.specs.Labels.{Distances, begun, label_of}
 use Rattle.grid_routes.specs.declared.ask.Ask.{Ask}
 use Rattle.grid_routes.specs.declared.fields.Kept.{Kept}
 use Rattle.grid_routes.specs.declared.fields.Fields.{Fields}
@@ -41,6 +41,10 @@ abbrev pub IsOwn : Search → Ask → Type 0
 IsOwn search ask =
     IsSearch (land_over search.tolls.terrain search.tolls.built ask.costs ask.goal) search.field
     search.buckets
+
+-- A search to this goal has just begun with the field.
+abbrev pub IsBegun : CPos → Distances → Type 0
+IsBegun goal field = (before : Distances) × (field ≡ begun before goal)
 
 -- The field belongs to this, and its label of the cell is final.
 pub record IsFinal (ask : Ask) (p : CPos) (kept : Kept) : Type 0 where

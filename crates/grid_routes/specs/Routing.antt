@@ -1,5 +1,5 @@
 -- What is seen of a router.
-use Rattle.std.specs.Prelude.{◌≡◌, ℕ, Bool, List, Option}
+use Rattle.std.specs.Prelude.{◌≡◌, ℕ, Bool, List, [], Option, None}
 use Rattle.game_model.specs.declared.map.Map.{Map}
 use Rattle.game_model.specs.declared.terrain.Terrain.{Terrain}
 use Rattle.game_model.specs.Grid.{Grid, HasSize}
@@ -17,11 +17,13 @@ pub record Routing : Type 0 where
   pub asks : List Ask
   pub computed : ℕ
 
--- A router for maps of this size that began no field.
+-- A router for maps of this size that began no field and keeps nothing for any question.
 pub record IsNew (width height : ℕ) (router : Routing) : Type 0 where
   pub wide : router.width ≡ width
   pub high : router.height ≡ height
   pub none : router.computed ≡ 0
+  pub unasked : router.last ≡ None
+  pub nothing : router.asks ≡ []
 
 -- The map has this size, and a terrain for each of its cells.
 pub record IsMapSized (width height : ℕ) (map : Map) : Type 0 where

@@ -1,4 +1,5 @@
-ghost use Rattle.std.specs.Prelude.{◌≡◌, ℕ, ◌+◌, ◌*◌, ◌<◌, ◌≤◌, length, true, false, vec_capacity, IfOk, IsTrue};
+ghost use Rattle.std.specs.Prelude.{◌≡◌, ℕ, ◌+◌, ◌*◌, ◌<◌, ◌≤◌, length, true, false};
+ghost use Rattle.std.specs.Prelude.{vec_capacity, IfOk, IsTrue};
 ghost use Rattle.grid_routes.specs.Held.{HasRows, IsAt, IsWhole, emptied, len_of, pushed, tried};
 ghost use Rattle.grid_routes.specs.Held.{widened};
 

@@ -1,12 +1,14 @@
-ghost use Rattle.std.specs.Prelude.{◌≡◌, ◌≤◌, ◌<◌, All, Some, IfOk, IsTrue, length, slice_index_or};
-ghost use Rattle.std.specs.Prelude.{slice_set, slice_get, ◌↔◌, IfSome, IsSomeAnd, IsFalse, Contains, []};
+ghost use Rattle.std.specs.Prelude.{◌≡◌, ◌≤◌, ◌<◌, All, Some, None, IfOk, IsTrue, length};
+ghost use Rattle.std.specs.Prelude.{slice_index_or, slice_set, slice_get, ◌↔◌, IfSome, IsSomeAnd};
+ghost use Rattle.std.specs.Prelude.{IsFalse, Contains, []};
 ghost use Rattle.game_model.specs.Grid.{IsOn, HasSize};
 ghost use Rattle.game_model.specs.Walks.{IsBestDirection};
 ghost use Rattle.grid_routes.specs.declared.fields.Kept.{Kept};
 ghost use Rattle.grid_routes.specs.Tolls.{IsCheap, land_over};
 ghost use Rattle.grid_routes.specs.Labels.{label_of};
 ghost use Rattle.grid_routes.specs.Asked.{asks_of, IsOrIn};
-ghost use Rattle.grid_routes.specs.Kept.{AreFields, AreForgotten, IsFinal, IsFor, IsRoom, IsSameGround, IsWidened};
+ghost use Rattle.grid_routes.specs.Kept.{AreFields, AreForgotten, IsBegun, IsFinal, IsFor};
+ghost use Rattle.grid_routes.specs.Kept.{IsRoom, IsSameGround, IsWidened};
 
 use crate::ask::Ask;
 use crate::field::Field;
@@ -49,7 +51,9 @@ impl Fields {
     /// Room for at most so many kept fields over maps of this size. Out of memory is its only error.
     pub(crate) fn create(alloc: Global, w: u8, h: u8, most: usize) -> Result<Fields, NoMemory>
         requires { most ≤ FIELDS }
-        ensures { IfOk result (λ fields. AreFields w h fields) }
+        ensures fields { IfOk result (λ fields. AreFields w h fields) }
+        ensures unasked { IfOk result (λ fields. fields.ask ≡ None) }
+        ensures asks { IfOk result (λ fields. asks_of fields.ask fields.kept.items ≡ []) }
     {
         let search = Search::create(alloc, w, h)?;
         let kept = room(alloc, w, h, most)?;
@@ -160,6 +164,7 @@ impl Fields {
         ensures asks { All (IsOrIn ask.now (asks_of self.old.ask self.old.kept.items))
             (asks_of self.new.ask self.new.kept.items) }
         ensures again { self.old.ask ≡ Some ask.now → IsFalse result }
+        ensures anew { IsTrue result → IsBegun ask.now.goal self.new.search.field }
     {
         if is_asked(&self.ask, ask) {
             self.search.tolls.turn_to(&ask.costs, ask.goal);
@@ -218,6 +223,11 @@ impl Fields {
         ensures begun { IsFalse result → Contains (asks_of self.old.ask self.old.kept.items) ask.now }
         ensures asks { All (IsOrIn ask.now (asks_of self.old.ask self.old.kept.items))
             (asks_of self.new.ask self.new.kept.items) }
+        ensures anew { IsTrue result → IsBegun ask.now.goal self.new.search.field }
+        ensures found { IsFalse result → (d : Kept) →
+            (slice_index_or self.old.kept.items place d).ask ≡ Some ask.now }
+        ensures resumed { IsFalse result → (d : Kept) →
+            self.new.search.field ≡ (slice_index_or self.old.kept.items place d).field }
     {
         let found = exchange(&mut self.kept, place, &mut self.search.field, None);
         let known = is_known(place, self.kept.len() - 1, &found, ask);

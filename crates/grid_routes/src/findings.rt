@@ -1,12 +1,12 @@
 ghost use Rattle.std.specs.Prelude.{◌≡◌, ◌⊎◌, ◌≤◌, if◌then◌else◌, All, Contains, IfOk, IfSome};
-ghost use Rattle.std.specs.Prelude.{[], Some};
+ghost use Rattle.std.specs.Prelude.{[], None, Some};
 ghost use Rattle.game_model.specs.Grid.{IsOn, HasSize};
 ghost use Rattle.game_model.specs.Walks.{IsBest, IsBestDirection};
 ghost use Rattle.grid_routes.specs.Tolls.{IsCheap, land_over};
 ghost use Rattle.grid_routes.specs.Kept.{IsFor, IsSameGround, IsSettled};
 ghost use Rattle.grid_routes.specs.KnownWalks.{AreBest, IsBestWalk};
 ghost use Rattle.grid_routes.specs.Findings.{AreFindings};
-ghost use Rattle.grid_routes.specs.Asked.{asks_in, one_more, CountsOn, IsOrIn};
+ghost use Rattle.grid_routes.specs.Asked.{asks_in, one_more, CountsOn, KeepsOnly};
 
 use crate::ask::Ask;
 use crate::fields::Fields;
@@ -39,6 +39,8 @@ impl Findings {
         requires { most ≤ FIELDS }
         ensures found { IfOk result (λ findings. AreFindings w h findings) }
         ensures computed { IfOk result (λ findings. findings.computed ≡ 0) }
+        ensures unasked { IfOk result (λ findings. findings.fields.ask ≡ None) }
+        ensures asks { IfOk result (λ findings. asks_in findings ≡ []) }
     {
         let fields = Fields::create(alloc, w, h, most)?;
         let known = KnownWalks::create(alloc, w, h, walks_beside(most))?;
@@ -65,6 +67,7 @@ impl Findings {
         ensures best { IsBestDirection (land_over self.old.fields.search.tolls.terrain
             self.old.fields.search.tolls.built ask.now.costs ask.now.goal) from result }
         ensures computed { CountsOn (asks_in self.old) ask.now self.old.computed self.new.computed }
+        ensures asks { KeepsOnly ask.now (asks_in self.old) (asks_in self.new) }
         ensures again { self.old.fields.ask ≡ Some ask.now →
             self.new.computed ≡ self.old.computed }
         ensures begun { (self.new.computed ≡ self.old.computed) ⊎
@@ -93,6 +96,7 @@ impl Findings {
         ensures best { IsBestDirection (land_over self.old.fields.search.tolls.terrain
             self.old.fields.search.tolls.built ask.now.costs ask.now.goal) from result }
         ensures computed { CountsOn (asks_in self.old) ask.now self.old.computed self.new.computed }
+        ensures asks { KeepsOnly ask.now (asks_in self.old) (asks_in self.new) }
         ensures again { self.old.fields.ask ≡ Some ask.now →
             self.new.computed ≡ self.old.computed }
         ensures begun { (self.new.computed ≡ self.old.computed) ⊎
@@ -121,6 +125,7 @@ impl Findings {
         ensures best { IsBestDirection (land_over self.old.fields.search.tolls.terrain
             self.old.fields.search.tolls.built ask.now.costs ask.now.goal) from result }
         ensures computed { CountsOn (asks_in self.old) ask.now self.old.computed self.new.computed }
+        ensures asks { KeepsOnly ask.now (asks_in self.old) (asks_in self.new) }
         ensures again { self.old.fields.ask ≡ Some ask.now →
             self.new.computed ≡ self.old.computed }
         ensures begun { (self.new.computed ≡ self.old.computed) ⊎
@@ -207,7 +212,7 @@ impl Findings {
         ensures search { IsFor self.new.fields.search ask.now }
         ensures settled { IsSettled self.new.fields.search from }
         ensures computed { CountsOn (asks_in self.old) ask.now self.old.computed self.new.computed }
-        ensures asks { All (IsOrIn ask.now (asks_in self.old)) (asks_in self.new) }
+        ensures asks { KeepsOnly ask.now (asks_in self.old) (asks_in self.new) }
         ensures again { self.old.fields.ask ≡ Some ask.now →
             self.new.computed ≡ self.old.computed }
         ensures asked { self.new.fields.ask ≡ Some ask.now }
@@ -228,7 +233,7 @@ impl Findings {
         ensures best { IsBestDirection (land_over self.old.fields.search.tolls.terrain
             self.old.fields.search.tolls.built ask.now.costs ask.now.goal) from result }
         ensures computed { self.new.computed ≡ self.old.computed }
-        ensures asks { All (IsOrIn ask.now (asks_in self.old)) (asks_in self.new) }
+        ensures asks { KeepsOnly ask.now (asks_in self.old) (asks_in self.new) }
     {
         let walk = walk_from(&self.fields.search, ask, from);
         self.known.put(from, walk);

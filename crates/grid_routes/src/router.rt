@@ -4,7 +4,7 @@ ghost use Rattle.game_model.specs.BestDirection.{best_dir_of};
 ghost use Rattle.game_model.specs.Walks.{IsBestDirection, land_of};
 ghost use Rattle.game_model.specs.declared.map.Map.{Map};
 ghost use Rattle.grid_routes.specs.Tolls.{IsCheap, land_over};
-ghost use Rattle.grid_routes.specs.Asked.{ask_for, one_more, CountsOn};
+ghost use Rattle.grid_routes.specs.Asked.{ask_for, one_more, CountsOn, KeepsOnly};
 ghost use Rattle.grid_routes.specs.Routing.{AreSized, IsNew, IsSameSight, IsSameSize, LooksAt};
 ghost use Rattle.grid_routes.specs.Steps.{IsRoute};
 
@@ -105,6 +105,7 @@ impl Router {
         ensures sight { IsSameSight self.old self.new }
         ensures computed { CountsOn self.old.asks (ask_for costs.now goal) self.old.computed
             self.new.computed }
+        ensures asks { KeepsOnly (ask_for costs.now goal) self.old.asks self.new.asks }
         ensures again { self.old.last ≡ Some (ask_for costs.now goal) →
             self.new.computed ≡ self.old.computed }
         ensures begun { (self.new.computed ≡ self.old.computed) ⊎
@@ -138,6 +139,9 @@ impl Router {
         ensures looks { LooksAt self.new map.now blocks.now }
         ensures computed { CountsOn self.old.asks (ask_for costs.now goal) self.old.computed
             self.new.computed }
+        ensures asks { KeepsOnly (ask_for costs.now goal) self.old.asks self.new.asks }
+        ensures alone { (LooksAt self.old map.now blocks.now → ⊥) →
+            KeepsOnly (ask_for costs.now goal) [] self.new.asks }
         ensures anew { (LooksAt self.old map.now blocks.now → ⊥) →
             self.new.computed ≡ one_more self.old.computed }
         ensures again { LooksAt self.old map.now blocks.now →
@@ -171,6 +175,9 @@ impl Router {
         ensures looks { LooksAt self.new map.now blocks.now }
         ensures computed { CountsOn self.old.asks (ask_for costs.now goal) self.old.computed
             self.new.computed }
+        ensures asks { KeepsOnly (ask_for costs.now goal) self.old.asks self.new.asks }
+        ensures alone { (LooksAt self.old map.now blocks.now → ⊥) →
+            KeepsOnly (ask_for costs.now goal) [] self.new.asks }
         ensures anew { (LooksAt self.old map.now blocks.now → ⊥) →
             self.new.computed ≡ one_more self.old.computed }
         ensures again { LooksAt self.old map.now blocks.now →

@@ -5,7 +5,7 @@ ghost use Rattle.game_model.specs.Grid.{IsOn, HasSize};
 ghost use Rattle.game_model.specs.Walks.{IsBestDirection};
 ghost use Rattle.grid_routes.specs.Tolls.{IsCheap, land_over, toll_in};
 ghost use Rattle.grid_routes.specs.Beside.{IsPlaced};
-ghost use Rattle.grid_routes.specs.Labels.{IsFull, label_of};
+ghost use Rattle.grid_routes.specs.Labels.{IsFull, begun, label_of};
 ghost use Rattle.grid_routes.specs.Held.{HasRows, IsAt};
 ghost use Rattle.grid_routes.specs.Steps.{AreQueued, FitsTogether, HasLabel, IsClear, IsExpanded};
 ghost use Rattle.grid_routes.specs.Steps.{IsFilled, IsGoing, IsNext};
@@ -61,6 +61,7 @@ impl Search {
             self.new.field.labels }
         ensures search { IsSearch (record { toll = toll_in self.new.tolls; goal = goal })
             self.new.field self.new.buckets }
+        ensures field { self.new.field ≡ begun self.old.field goal }
     {
         self.tolls.turn_to(costs, goal);
         self.tolls.ground();
@@ -84,6 +85,7 @@ impl Search {
             self.new.field.labels }
         ensures search { IsSearch (record { toll = toll_in self.new.tolls; goal = goal })
             self.new.field self.new.buckets }
+        ensures field { self.new.field ≡ self.old.field }
     {
         self.tolls.turn_to(costs, goal);
         self.buckets.lose();
@@ -106,6 +108,8 @@ impl Search {
             self.new.field.labels }
         ensures search { IsSearch (record { toll = toll_in self.new.tolls; goal = goal })
             self.new.field self.new.buckets }
+        ensures resumed { IsTrue going → self.new.field ≡ self.old.field }
+        ensures anew { IsFalse going → self.new.field ≡ begun self.old.field goal }
     {
         if going {
             self.resume(costs, goal);

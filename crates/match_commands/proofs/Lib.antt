@@ -3,5 +3,7 @@ pub mod FilesLemmas
 pub mod AnswerLemmas
 pub mod DrillLemmas
 pub mod MadeLemmas
+pub mod SampleLemmas
+pub mod CommandLemmas
 pub mod RunLemmas
 pub mod WaitingLemmas

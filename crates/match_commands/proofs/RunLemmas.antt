@@ -1,9 +1,9 @@
 -- A whole run: from the request that the words name, or that they name none.
 use Rattle.std.specs.Prelude.{option_and_then, unwrap_or}
-use Rattle.std.proofs.Common.{◌≡◌, ◌⊎◌, ℕ, List, [], Option, None, Some, Ok, Err, IsOk, refl, sym, subst, inl, inr}
+use Rattle.std.proofs.Common.{◌≡◌, ◌⊎◌, ℕ, List, [], Option, None, Some, Ok, Err, IsOk, IfSome, IfNone, ◌≢◌, refl, sym, subst, inl, inr, arith}
 use Rattle.command_words.specs.RequestPlain.{RequestPlain, MatchPlain, Drill, Yaml, Check, Route, Make, Local, Serve, Play, Replay, Migrate}
 use Rattle.game_io.specs.Files.{Files}
-use Rattle.command_answers.specs.declared.statuses.TheConstants.{DONE, OUT_OF_MEMORY, MARK_DIFFERS}
+use Rattle.command_answers.specs.declared.statuses.TheConstants.{DONE, REFUSED_FILE, FAULT_READ, FAULT_WRITE, OUT_OF_MEMORY, MARK_DIFFERS}
 use Rattle.base.specs.Steps.{◌>>=◌}
 use Rattle.command_answers.specs.Step.{Step, replied}
 use Rattle.command_answers.specs.Contents.{Contents, contents_of}
@@ -12,7 +12,10 @@ use Rattle.rule_commands.specs.Checks.{check_step}
 use Rattle.rule_commands.specs.Routes.{route_step}
 use Rattle.match_commands.specs.Drills.{drill_step, prepared_step, numbered_step}
 use Rattle.match_commands.specs.Locals.{local_match_step}
-use Rattle.match_commands.specs.Made.{make_step}
+use Rattle.drill.specs.MadeDrill.{made_drill_of}
+use Rattle.rule_commands.specs.SampleSetup.{sample_setup}
+use Rattle.match_commands.specs.Made.{make_step, made_text}
+use Rattle.match_commands.proofs.SampleLemmas.{make_is}
 use Rattle.match_commands.specs.Replayed.{standing_step}
 use Rattle.game_model.specs.Setup.{Setup}
 use Rattle.replay_file.specs.declared.replay.Replay as file
@@ -21,11 +24,12 @@ use Rattle.replay_run.specs.declared.difference.Difference.{Difference}
 use Rattle.replay_run.specs.Rerun.{difference_of}
 use Rattle.replay_commands.specs.Refusals.{read_step}
 use Rattle.replay_commands.specs.Replays.{game_rerun, mark_status, migrated_reply}
-use Rattle.command_answers.specs.Reply.{Reply}
+use Rattle.command_answers.specs.Reply.{Reply, done, read_fault}
+use Rattle.command_answers.specs.Outcome.{IsPrinted, IsAnswered}
 use Rattle.command_answers.specs.Causes.{Causes, causes_of, IsQuiet}
 use Rattle.command_answers.specs.Outside.{Outside}
 use Rattle.match_commands.specs.Request.{IsFaultless, written_by, wanted, answer_of, given_reply, text_reply}
-use Rattle.match_commands.specs.Run.{Runs, RunsRequest, IsDone, IsToldAnswer}
+use Rattle.match_commands.specs.Run.{Runs, RunsRequest, IsDone, IsSound, IsToldAnswer, IsUntoldAnswer}
 use Rattle.command_answers.specs.OptionLemmas.{map_some}
 
 -- A command that prints a text and has it is done.
@@ -95,6 +99,66 @@ complete_of request files status causes old new quiet (inl (inl (inr (inr cut)))
 complete_of request files status causes old new quiet (inl (inr memory)) faultless = inr memory.0
 complete_of request files status causes old new quiet (inr fault) faultless = absurd (quiet.read fault.1)
 
+-- ---- the status of `make`
+
+done_sound : (text : List ℕ) (status : ℕ) (causes : Causes) (old new : Outside) → IsAnswered (done text) status causes old new → status ≢ REFUSED_FILE
+done_sound text status causes old new (inl (inl complete)) refused = absurd (omega (arith, complete.0, refused))
+done_sound text status causes old new (inl (inr (inl cut))) refused = absurd (omega (arith, cut.0, refused))
+done_sound text status causes old new (inl (inr (inr cut))) refused = absurd (omega (arith, cut.0, refused))
+done_sound text status causes old new (inr memory) refused = absurd (omega (arith, memory.0, refused))
+
+answered_sound :
+    (number status : ℕ) (causes : Causes) (old new : Outside) →
+    IsAnswered (replied (text_reply (make_step number))) status causes old new → status ≢ REFUSED_FILE
+answered_sound number status causes old new answered =
+    done_sound (made_text sample_setup (made_drill_of number)) status causes old new
+    (subst (λ step. IsAnswered (replied (text_reply step)) status causes old new) (make_is number) answered)
+
+told_sound :
+    (number : ℕ) (files : Files) (status : ℕ) (causes : Causes) (old new : Outside) →
+    IsToldAnswer (Make number) files status causes old new → status ≢ REFUSED_FILE
+told_sound number files status causes old new (inl answered) = answered_sound number status causes old new answered
+told_sound number files status causes old new (inr fault) = absurd fault.0
+
+read_sound :
+    (status : ℕ) (causes : Causes) (old new : Outside) → IsPrinted read_fault status causes old new → status ≢ REFUSED_FILE
+read_sound status causes old new (inl complete) refused = absurd (omega (arith, complete.0, refused))
+read_sound status causes old new (inr (inl cut)) refused = absurd (omega (arith, cut.0, refused))
+read_sound status causes old new (inr (inr cut)) refused = absurd (omega (arith, cut.0, refused))
+
+untold_sound :
+    (number status : ℕ) (causes : Causes) (old new : Outside) →
+    IsUntoldAnswer (Make number) status causes old new → status ≢ REFUSED_FILE
+untold_sound number status causes old new (inl given) = answered_sound number status causes old new given.1.1
+untold_sound number status causes old new (inr (inl (rose, inl unread))) = absurd unread.1.0
+untold_sound number status causes old new (inr (inl (rose, inr fault))) = read_sound status causes old new fault
+untold_sound number status causes old new (inr (inr memory)) = λ refused. absurd (omega (arith, memory.0, refused))
+
+-- A disk tells its files, or it tells nothing.
+by_disk :
+    (files : Option Files) (P : Files → Type 0) (Q R : Type 0) →
+    ((files : Files) → P files → R) → (Q → R) → IfSome files P → IfNone files Q → R
+by_disk None P Q R one other told untold = other untold
+by_disk (Some files) P Q R one other told untold = one files told
+
+request_sound :
+    (request : RequestPlain) (status : ℕ) (causes : Causes) (old new : Outside) →
+    RunsRequest request status causes old new → IsSound request status
+request_sound (Make number) status causes old new runs =
+    by_disk old.disk.files (λ files. IsToldAnswer (Make number) files status causes old new)
+    (IsUntoldAnswer (Make number) status causes old new) (status ≢ REFUSED_FILE)
+    (λ files answer. told_sound number files status causes old new answer)
+    (λ answer. untold_sound number status causes old new answer) runs.told runs.untold
+request_sound (Drill query record_file) status causes old new runs = tt
+request_sound (Yaml names) status causes old new runs = tt
+request_sound (Check map_file names) status causes old new runs = tt
+request_sound (Route query) status causes old new runs = tt
+request_sound (Local query) status causes old new runs = tt
+request_sound (Serve query) status causes old new runs = tt
+request_sound (Play query at) status causes old new runs = tt
+request_sound (Replay query) status causes old new runs = tt
+request_sound (Migrate query to) status causes old new runs = tt
+
 -- The words name a request, which was run.
 pub request_runs :
     (request : RequestPlain) (status : ℕ) (causes : Causes) (old new : Outside) →
@@ -106,6 +170,7 @@ request_runs request status causes old new runs = record {
   untold = runs.untold;
   complete = λ quiet. map_some old.disk.files _ _
       (λ files answer. complete_of request files status causes old new quiet answer) runs.told;
+  sound = request_sound request status causes old new runs;
   read = runs.read;
   write = runs.write;
   files = runs.files;

@@ -99,6 +99,7 @@ none_runs d s causes =
       told = tt;
       untold = tt;
       complete = λ quiet. tt;
+      sound = tt;
       read = has.read;
       write = has.write;
       files = refl;

@@ -1,9 +1,10 @@
 -- A run of the program: what it answers, prints and leaves, by its causes.
 use Rattle.std.specs.Prelude.{◌≡◌, ◌≢◌, ℕ, ◌⊎◌, Option, None, IfSome, IfNone, option_and_then}
-use Rattle.command_words.specs.RequestPlain.{RequestPlain, Replay, Migrate}
+use Rattle.command_words.specs.RequestPlain.{RequestPlain, Make, Replay, Migrate}
 use Rattle.game_io.specs.Files.{Files}
-use Rattle.command_answers.specs.declared.statuses.TheConstants.{DONE, REFUSED_WORDS, FAULT_READ}
-use Rattle.command_answers.specs.declared.statuses.TheConstants.{FAULT_WRITE, OUT_OF_MEMORY}
+use Rattle.command_answers.specs.declared.statuses.TheConstants.{DONE, REFUSED_WORDS, REFUSED_FILE}
+use Rattle.command_answers.specs.declared.statuses.TheConstants.{FAULT_READ, FAULT_WRITE}
+use Rattle.command_answers.specs.declared.statuses.TheConstants.{OUT_OF_MEMORY}
 use Rattle.command_answers.specs.declared.statuses.TheConstants.{MARK_DIFFERS}
 use Rattle.command_answers.specs.Reply.{Reply, words_reply, read_fault}
 use Rattle.command_answers.specs.FileWrite.{OnlyChanges}
@@ -50,6 +51,11 @@ IsDone (Replay query) status = (status ≡ DONE) ⊎ (status ≡ MARK_DIFFERS)
 IsDone (Migrate query to) status = (status ≡ DONE) ⊎ (status ≡ MARK_DIFFERS)
 IsDone request status = status ≡ DONE
 
+-- `make` is not refused for a fault: it reads no files, and those that are built in have none.
+abbrev pub IsSound : RequestPlain → ℕ → Type 0
+IsSound (Make number) status = status ≢ REFUSED_FILE
+IsSound request status = Unit {0}
+
 -- A run of a request.
 pub record RunsRequest
     (request : RequestPlain) (status : ℕ) (causes : Causes) (old new : Outside) : Type 0 where
@@ -83,6 +89,8 @@ pub record Runs
       IfSome request (λ request.
       IfSome old.disk.files
       (λ files. IsFaultless request files → IsDone request status ⊎ (status ≡ OUT_OF_MEMORY)))
+  -- Status 3: never of `make`.
+  pub sound : IfSome request (λ request. IsSound request status)
   -- Status 4 and 5: only where a count of faults rose.
   pub read : status ≡ FAULT_READ → causes.read ⊎ causes.net
   pub write : status ≡ FAULT_WRITE → causes.sink ⊎ causes.write

@@ -32,6 +32,7 @@ use std::alloc::Global;
 /// - 0, the command is done, and exactly its text was written;
 /// - 2, the words are refused;
 /// - 3, a file that they name is missing, too long, or has a fault, or there is a `RouteFault`;
+///   never of `make`, which reads no files;
 /// - 4, a read failed: the disk's count of faults rose;
 /// - 5, a write failed: a count of faults rose, and a prefix of the text was written;
 /// - 6, out of memory, and a prefix of the text was written;

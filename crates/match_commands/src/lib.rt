@@ -21,4 +21,5 @@ mod waiting;
 mod worlds;
 
 pub use command::run;
+pub use making::made_matches_are_accepted;
 pub use waiting::{may_wait, run_waiting};

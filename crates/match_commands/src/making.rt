@@ -1,11 +1,15 @@
-ghost use Rattle.std.specs.Prelude.{◌≡◌, ◌++◌, ◌∷◌, [], string_bytes, IfOk};
+ghost use Rattle.std.specs.Prelude.{◌≡◌, ◌++◌, ◌∷◌, [], ℕ, Ok, string_bytes, IfOk};
 ghost use Rattle.drill.specs.MadeDrill.{made_drill_of};
 ghost use Rattle.drill_words.specs.Drill.{plain_of};
+ghost use Rattle.command_words.specs.RequestPlain.{Make};
 ghost use Rattle.command_answers.specs.Given.{given_contents};
 ghost use Rattle.command_answers.specs.Stop.{ReturnsStep};
+ghost use Rattle.game_io.specs.Files.{Files};
 ghost use Rattle.replay_commands.specs.Matches.{game_match};
+ghost use Rattle.rule_commands.specs.SampleSetup.{sample_setup};
 ghost use Rattle.match_commands.specs.Made.{closing_of, made_line, made_text, make_step};
 ghost use Rattle.match_commands.specs.Made.{sample_step};
+ghost use Rattle.match_commands.specs.Request.{IsFaultless};
 
 use base::NoMemory;
 use command_answers::{GivenFiles, Stop};
@@ -80,3 +84,12 @@ pub(crate) fn make_text(alloc: Global, number: u32) -> Result<Vec<u8>, Stop<'sta
     let text = made_text(alloc, &maker, number)?;
     Ok(text.into_bytes())
 }
+
+/// A law of the command `make`: its text is that of the made drill over the values of the sample,
+/// and no file that there is can make it refused.
+#[tactic(auto, using(crate::proofs::SampleLemmas::make_is, crate::proofs::SampleLemmas::made_matches_are_accepted))]
+pub fn made_matches_are_accepted()
+    ensures text { (number : ℕ) →
+        make_step number ≡ Ok (made_text sample_setup (made_drill_of number)) }
+    ensures faultless { (number : ℕ) (files : Files) → IsFaultless (Make number) files }
+{}

@@ -1,8 +1,8 @@
 //! The commands that may wait for threads or links.
 ghost use Rattle.std.specs.Prelude.{◌≡◌, ◌≤◌, [], None, Some, length, map, option_map, slice_get};
-ghost use Rattle.std.specs.Prelude.{string_bytes};
+ghost use Rattle.std.specs.Prelude.{string_bytes, is_some};
 ghost use Rattle.command_words.specs.RequestPlain.{Local, HasClients, HasFewFiles, plain_match};
-ghost use Rattle.command_words.specs.RequestPlain.{plain_of};
+ghost use Rattle.command_words.specs.RequestPlain.{RequestPlain, plain_of};
 ghost use Rattle.command_words.specs.Reading.{request_of};
 ghost use Rattle.command_answers.specs.Causes.{causes_of};
 ghost use Rattle.command_answers.specs.Given.{script_contents};
@@ -30,8 +30,18 @@ use std::sync::Wait;
 use std::thread::Threads;
 
 /// Whether the word after the program's name is a command of [`run_waiting`], and no one of
-/// [`run`](crate::run).
+/// [`run`](crate::run). Where the words name a request, that is whether [`run_waiting`] runs it.
 pub fn may_wait(words: &[String]) -> bool
+    ensures second { result ≡ names_waiting (option_map string_bytes (slice_get words.now 1)) }
+    ensures request { (request : RequestPlain) →
+        request_of (map string_bytes words.now) ≡ Some request →
+        result ≡ is_some (waiting request) }
+{
+    is_second_waiting(words)
+}
+
+/// Whether the word after the program's name is the name of such a command.
+fn is_second_waiting(words: &[String]) -> bool
     ensures { result ≡ names_waiting (option_map string_bytes (slice_get words.now 1)) }
 {
     match words.get(1) {

@@ -1,5 +1,5 @@
 -- A kind that is found by its name is valid, as all kinds are.
-use Rattle.std.proofs.Common.{◌≡◌, ◌⊎◌, ◌<◌, Bool, true, false, cond, List, [], ◌∷◌, length, Bor, Option, None, Some, IfSome, inl, inr, subst, arith}
+use Rattle.std.proofs.Common.{◌≡◌, ◌⊎◌, Bool, true, false, cond, List, [], ◌∷◌, length, Bor, Option, None, Some, IfSome, inl, inr, subst, arith}
 use Rattle.std.proofs.lemmas.List.Elements.{All-tail}
 use Rattle.std.specs.Prelude.{find}
 use Rattle.std.specs.List.{All}

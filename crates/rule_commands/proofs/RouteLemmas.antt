@@ -1,5 +1,5 @@
 -- A route that takes the best directions is the one that is printed.
-use Rattle.std.proofs.Common.{◌≡◌, ◌≢◌, ◌⊎◌, ◌<◌, ◌≤◌, ◌+◌, ◌*◌, ◌%◌, ◌==◌, ◌&&◌, ◌||◌, not, ℕ, zero, suc, Bool, true, false, cond, List, [], ◌∷◌, length, map, Option, None, Some, Result, Ok, Err, IfOk, inl, inr, refl, sym, ap, ap₂, subst, ◌∙◌, arith}
+use Rattle.std.proofs.Common.{◌≡◌, ◌≢◌, ◌<◌, ◌≤◌, ◌+◌, ◌*◌, ◌&&◌, ◌||◌, ℕ, zero, suc, Bool, true, false, cond, List, [], ◌∷◌, length, map, Option, None, Some, Result, Ok, Err, IfOk, inl, inr, refl, sym, ap, ap₂, subst, ◌∙◌, arith}
 use Rattle.std.specs.Prelude.{find, option_map}
 use Rattle.std.specs.List.{IsDistinct, AllByRecursion, list_any}
 use Rattle.std.proofs.lemmas.Bool.{cases_eq}
@@ -15,7 +15,7 @@ use Rattle.game_model.specs.declared.map.Map.{Map}
 use Rattle.rule_traits.specs.declared.trait_fields.Costs.{Costs}
 use Rattle.game_model.specs.Grid.{Grid, HasSize, IsOn, is_on, place_of}
 use Rattle.game_model.specs.Walks.{Land, IsStep, IsWalk, IsDistance, HasNoWalk, LeadsOn, IsBest, FollowsBest, IsRouteOver, fare_of, toll_of, land_of}
-use Rattle.game_model.specs.BestDirection.{directions, by_direction, least_within, enough_steps, distance_of, is_cost, leads_on, best_dir_of}
+use Rattle.game_model.specs.BestDirection.{directions, by_direction, enough_steps, distance_of, is_cost, leads_on, best_dir_of}
 use Rattle.grid_routes.specs.declared.route.Route.{Route}
 use Rattle.grid_routes.specs.Steps.{IsRoute}
 use Rattle.grid_routes.proofs.Cells.{apart, placed, is_on-on}

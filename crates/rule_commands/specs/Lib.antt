@@ -5,3 +5,4 @@ pub mod Routes
 pub mod FoundRoute
 pub mod Refusals
 pub mod Setups
+pub mod SampleSetup

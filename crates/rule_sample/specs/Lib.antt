@@ -1,1 +1,3 @@
 pub mod RuleText
+pub mod MapText
+pub mod SampleMap

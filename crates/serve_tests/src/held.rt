@@ -1,8 +1,9 @@
-//! A link that gives nothing more until its client was let go.
+//! A link that gives nothing more until its client was let go, and a console that gives nothing
+//! before.
 ghost use Rattle.game_io.specs.PlannedBytes.{sink_state, source_state};
 ghost use Rattle.game_io.specs.PlannedLinks.{net_state};
 
-use crate::serving::{serve, two_links};
+use crate::serving::{serve, serve_watched, two_links};
 use game_io::{
     Failed, FailingCall, MAX_HOLD_TURNS, MemNet, MemSink, MemSource, Net, Remains, Sink, Source,
 };
@@ -11,23 +12,49 @@ use std::sync::atomic::{AtomicBool, Ordering};
 use std::test::Fail;
 use std::thread;
 
-/// What the halves of a held link share: whether the departure of client 1 at frame 0 was put into
-/// its sink, and whether the turns have ended in which its source waits for that.
+/// The departures of clients 0 and 1 at frame 0, as packets in this order.
+const FIRST_LEAVES_FIRST: &[u8] =
+    b"\x06\x00\x14\x00\x00\x00\x00\x00\x06\x00\x14\x01\x00\x00\x00\x00";
+
+/// The same packets in the other order.
+const SECOND_LEAVES_FIRST: &[u8] =
+    b"\x06\x00\x14\x01\x00\x00\x00\x00\x06\x00\x14\x00\x00\x00\x00\x00";
+
+/// The departure of client 1 at frame 0, as a packet.
+const SECOND_LEAVES: &[u8] = b"\x06\x00\x14\x01\x00\x00\x00\x00";
+
+/// How the bytes of a sink end once client 1 is seen to have left.
+const SECOND_HAS_LEFT: &[&[u8]] = &[SECOND_LEAVES, SECOND_LEAVES_FIRST];
+
+/// How the bytes of a sink end once both clients are seen to have left.
+const BOTH_HAVE_LEFT: &[&[u8]] = &[FIRST_LEAVES_FIRST, SECOND_LEAVES_FIRST];
+
+/// What the halves of a held link share: with which bytes its sink is to end, whether it has ended so,
+/// and whether the turns have ended in which its source waits for that.
 #[derive(Drop)]
 struct Hold {
+    until: &'static [&'static [u8]],
     let_go: AtomicBool,
     ended: AtomicBool,
 }
 
 impl Hold {
-    fn new() -> Hold {
+    fn new(until: &'static [&'static [u8]]) -> Hold {
         Hold {
+            until,
             let_go: AtomicBool::new(false),
             ended: AtomicBool::new(false),
         }
     }
 
-    /// Waits for the departure, at most [`MAX_HOLD_TURNS`] turns.
+    /// Ends the hold if the bytes of the sink end as they are to.
+    fn look_at(&self, bytes: &[u8]) {
+        if self.until.iter().any(|end| bytes.ends_with(end)) {
+            self.let_go.store(true, Ordering::SeqCst);
+        }
+    }
+
+    /// Waits for the end of the hold, at most [`MAX_HOLD_TURNS`] turns.
     fn wait(&self) {
         for _turn in 0..MAX_HOLD_TURNS {
             if self.let_go.load(Ordering::SeqCst) {
@@ -63,15 +90,12 @@ impl<'a> Source for HeldSource<'a> {
     }
 }
 
-/// The sink of a link. If the link is held, the departure of client 1 at frame 0 ends the hold.
+/// The sink of a link. If the link is held, its bytes end the hold.
 #[derive(Drop)]
 struct HeldSink<'a> {
     sink: MemSink,
     hold: Option<&'a Hold>,
 }
-
-/// The departure of client 1 at frame 0, as a packet.
-const DEPARTURE: &[u8] = b"\x06\x00\x14\x01\x00\x00\x00\x00";
 
 impl<'a> Sink for HeldSink<'a> {
     ghost state = { λ held. sink_state held.sink };
@@ -83,9 +107,7 @@ impl<'a> Sink for HeldSink<'a> {
     fn put(&mut self, piece: &[u8]) -> Result<(), Failed> {
         let put = self.sink.put(piece);
         if let Some(hold) = self.hold {
-            if self.sink.bytes().ends_with(DEPARTURE) {
-                hold.let_go.store(true, Ordering::SeqCst);
-            }
+            hold.look_at(self.sink.bytes());
         }
         put
     }
@@ -167,7 +189,7 @@ const FAILING: [(Option<Remains>, u64); 2] = [(None, 0), (Some(Remains::Prefix(3
 #[test]
 fn a_held_link(rt: HostRuntime) -> Result<(), Fail> {
     for (remains, faults) in FAILING {
-        let hold = Hold::new();
+        let hold = Hold::new(SECOND_HAS_LEFT);
         let mut puts = Vec::new(rt.alloc());
         if let Some(remains) = remains {
             puts.push(FailingCall { call: 2, remains })?;
@@ -186,5 +208,57 @@ fn a_held_link(rt: HostRuntime) -> Result<(), Fail> {
         );
         assert!(rt; !hold.ended.load(Ordering::SeqCst));
     }
+    Ok(())
+}
+
+/// A console that gives nothing before the hold has ended.
+#[derive(Drop)]
+struct HeldConsole<'a> {
+    source: MemSource,
+    hold: &'a Hold,
+}
+
+impl<'a> Source for HeldConsole<'a> {
+    ghost state = { λ held. source_state held.source };
+
+    fn faults(&self) -> u64 {
+        self.source.faults()
+    }
+
+    fn take(&mut self, into: &mut [u8]) -> Result<usize, Failed> {
+        self.hold.wait();
+        self.source.take(into)
+    }
+}
+
+/// A line as long as what the server takes at once, and a second line.
+const LAST_LINES: &[u8] =
+    b"They have left. This line is 64 bytes long, its end counts too.\nkick 0\n";
+
+/// The first line that comes once both have left ends the console.
+#[test]
+fn a_held_console(rt: HostRuntime) -> Result<(), Fail> {
+    let hold = Hold::new(BOTH_HAVE_LEFT);
+    let mut net = HeldNet {
+        net: two_links(
+            rt.alloc(),
+            HELLO_AND_BYE,
+            HELLO_AND_BYE,
+            Vec::new(rt.alloc()),
+        )?,
+        hold: &hold,
+    };
+    let mut console = HeldConsole {
+        source: MemSource::new(
+            Vec::from_slice(rt.alloc(), LAST_LINES)?,
+            Vec::new(rt.alloc()),
+        ),
+        hold: &hold,
+    };
+    let served = serve_watched(&rt, rt.alloc(), &mut net, &mut console)?;
+    let ends = [LinkEnd::Ended, LinkEnd::Ended];
+    assert_eq!(rt; served.ends.as_slice(), ends.as_slice());
+    assert_eq!(rt; console.source.left(), b"kick 0\n".as_slice());
+    assert!(rt; !hold.ended.load(Ordering::SeqCst));
     Ok(())
 }

@@ -3,7 +3,7 @@ ghost use Rattle.std.specs.Prelude.{◌≡◌, ◌^◌, IfOk, [], length};
 ghost use Rattle.frame_table.specs.Calls.{plan_of, view_of, IsPassOf};
 
 use frame_core::Tally;
-use game_io::{FailingCall, MemNet, MemSource, Net};
+use game_io::{FailingCall, MemNet, MemSource, Net, Source};
 use match_net::Invite;
 use match_serve::{Served, serve_match};
 use std::alloc::{AllocError, Global};
@@ -60,7 +60,22 @@ pub fn serve<N: Net, R: Threads + Wait + Sync>(
     ensures whole { IfOk result (λ served. (view_of served.pass).share ≡ 2 ^ 62) }
 {
     let mut console = MemSource::new(Vec::from_slice(alloc, lines)?, Vec::new(alloc));
-    match serve_match(rt, alloc, &INVITE, "here", Tally::new(), net, &mut console) {
+    serve_watched(rt, alloc, net, &mut console)
+}
+
+/// Serves such a match over this console.
+pub fn serve_watched<N: Net, C: Source + Send, R: Threads + Wait + Sync>(
+    rt: &R,
+    alloc: Global,
+    net: &mut N,
+    console: &mut C,
+) -> Result<Served<Tally>, Fail>
+    requires no_links { (N.state net.old).given ≡ [] }
+    ensures pass { IfOk result (λ served. IsPassOf served.table served.pass) }
+    ensures clients { IfOk result (λ served. length (plan_of served.table) ≡ 2) }
+    ensures whole { IfOk result (λ served. (view_of served.pass).share ≡ 2 ^ 62) }
+{
+    match serve_match(rt, alloc, &INVITE, "here", Tally::new(), net, console) {
         Ok(served) => Ok(served),
         Err(_) => Err(Fail::new("the match is not served")),
     }

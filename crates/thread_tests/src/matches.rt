@@ -6,6 +6,7 @@ use match_run::run_local;
 use std::alloc::Global;
 use std::process::Abort;
 use std::sync::Wait;
+use std::sync::atomic::{AtomicU64, Ordering};
 use std::test::Fail;
 use std::thread::Threads;
 
@@ -53,5 +54,51 @@ fn each_client_has_a_thread(rt: HostRuntime) -> Result<(), Fail> {
     let script = b"script 2 9\n0\n0\n1\n1\n";
     assert_eq!(rt; hash_after(&rt, rt.alloc(), script, &gate)?, 5);
     assert!(rt; !gate.timed_out());
+    Ok(())
+}
+
+/// A gate that never holds. It notes what it is asked for each of clients 0 and 1: a hexadecimal
+/// digit a call, `2 n + 1` before the play of frame n and `2 n + 2` after it.
+#[derive(Drop)]
+struct NotingGate {
+    first: AtomicU64,
+    second: AtomicU64,
+}
+
+impl NotingGate {
+    fn note(&self, client: u8, digit: u32) {
+        let notes = if client == 0 {
+            &self.first
+        } else {
+            &self.second
+        };
+        let noted = notes.load(Ordering::SeqCst);
+        notes.store(
+            noted.wrapping_mul(16).wrapping_add(u64::from(digit)),
+            Ordering::SeqCst,
+        );
+    }
+}
+
+impl Gate for NotingGate {
+    fn before(&self, client: u8, frame: u32) {
+        self.note(client, frame.wrapping_mul(2).wrapping_add(1));
+    }
+
+    fn after(&self, client: u8, frame: u32) {
+        self.note(client, frame.wrapping_mul(2).wrapping_add(2));
+    }
+}
+
+#[test]
+fn each_play_comes_to_the_gate(rt: HostRuntime) -> Result<(), Fail> {
+    let gate = NotingGate {
+        first: AtomicU64::new(0),
+        second: AtomicU64::new(0),
+    };
+    let script = b"script 2 9\n0\n1\n0\n0\n";
+    assert_eq!(rt; hash_after(&rt, rt.alloc(), script, &gate)?, 7);
+    assert_eq!(rt; gate.first.load(Ordering::SeqCst), 0x12_34_56);
+    assert_eq!(rt; gate.second.load(Ordering::SeqCst), 0x12);
     Ok(())
 }

@@ -5,7 +5,7 @@ use Rattle.grid_routes.specs.Tolls.{Ground}
 use Rattle.grid_routes.specs.Labels.{Distances}
 use Rattle.grid_routes.specs.Kept.{IsKept}
 use Rattle.grid_routes.specs.declared.fields.Kept.{Kept}
-use Rattle.grid_routes.proofs.Asking.{found-ask, not-false, take-asks}
+use Rattle.grid_routes.proofs.Asking.{found-ask, not-false, not-true, take-asks}
 use Rattle.grid_routes.proofs.Keeping.{for-own, found-going, kept-set, turned}
 use Rattle.grid_routes.proofs.fields.Fields.take_up.Goals as goal
 
@@ -69,3 +69,15 @@ returns-clause-begun c = λ kept.
     let mine : Kept = record { ask = old.ask; field = old.search.field } in
     found-ask old.ask old.kept.items c.args.place mine c.exchange-found.result c.args.ask.now c.requires.place
     (c.exchange-found.ensures.found mine) (c.is_known-known.ensures (not-false c.is_known-known.result kept))
+
+pub returns-clause-anew : goal.returns-clause-anew
+returns-clause-anew c = λ begun.
+    (c.exchange-found.new.field, c.set_out.ensures.anew (not-true c.is_known-known.result begun))
+
+pub returns-clause-found : goal.returns-clause-found
+returns-clause-found c = λ kept d.
+    sym (c.exchange-found.ensures.found d) ∙ c.is_known-known.ensures (not-false c.is_known-known.result kept)
+
+pub returns-clause-resumed : goal.returns-clause-resumed
+returns-clause-resumed c = λ kept d.
+    c.set_out.ensures.resumed (not-false c.is_known-known.result kept) ∙ c.exchange-found.ensures.field d

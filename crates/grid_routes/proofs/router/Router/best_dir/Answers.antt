@@ -1,5 +1,6 @@
+use Rattle.std.proofs.Common.{[]}
 use Rattle.grid_routes.specs.Asked.{ask_for}
-use Rattle.grid_routes.proofs.Asking.{count-anew-looked, count-looked}
+use Rattle.grid_routes.proofs.Asking.{asks_after, count-anew-looked, count-looked, through}
 use Rattle.grid_routes.proofs.Looking.{seen-best}
 use Rattle.grid_routes.proofs.router.Router.best_dir.Goals as goal
 
@@ -22,3 +23,13 @@ returns-clause-anew c = λ differs.
     count-anew-looked c.look.new.self.asks (ask_for c.args.costs.now c.args.goal) c.args.self.now.computed
     c.look.new.self.computed c.best_dir_seen.new.self.computed c.look.ensures.computed (c.look.ensures.forgets differs)
     c.best_dir_seen.ensures.computed
+
+pub returns-clause-asks : goal.returns-clause-asks
+returns-clause-asks c =
+    through c.args.self.now.asks c.look.new.self.asks c.best_dir_seen.new.self.asks
+    (ask_for c.args.costs.now c.args.goal) c.look.ensures.asks c.best_dir_seen.ensures.asks
+
+pub returns-clause-alone : goal.returns-clause-alone
+returns-clause-alone c = λ differs.
+    asks_after [] c.look.new.self.asks c.best_dir_seen.new.self.asks (ask_for c.args.costs.now c.args.goal)
+    (c.look.ensures.forgets differs) c.best_dir_seen.ensures.asks

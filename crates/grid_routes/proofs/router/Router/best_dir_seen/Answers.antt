@@ -1,5 +1,5 @@
 use Rattle.std.proofs.Common.{sym, subst}
-use Rattle.grid_routes.specs.Asked.{CountsOn, ask_for, asks_in}
+use Rattle.grid_routes.specs.Asked.{CountsOn, KeepsOnly, ask_for, asks_in}
 use Rattle.grid_routes.specs.Routing.{LooksAt, Routing}
 use Rattle.grid_routes.proofs.Looking.{seen-value}
 use Rattle.grid_routes.proofs.router.Router.best_dir_seen.Goals as goal
@@ -24,3 +24,8 @@ returns-clause-computed c =
     let ask = ask_for c.args.costs.now c.args.goal in
     subst (λ (x : Routing). CountsOn x.asks ask x.computed c.best_dir.new.self.computed) c.self.view_is
     c.best_dir.ensures.computed
+
+pub returns-clause-asks : goal.returns-clause-asks
+returns-clause-asks c =
+    let ask = ask_for c.args.costs.now c.args.goal in
+    subst (λ (x : Routing). KeepsOnly ask x.asks (asks_in c.best_dir.new.self)) c.self.view_is c.best_dir.ensures.asks

@@ -1,0 +1,17 @@
+-- The word that names a command.
+use Rattle.std.specs.Prelude.{List, ℕ, codes}
+use Rattle.command_words.specs.RequestPlain.{RequestPlain, Drill, Yaml, Check, Route, Make}
+use Rattle.command_words.specs.RequestPlain.{Local, Serve, Play, Replay, Migrate}
+
+-- The command of a request.
+abbrev pub command_of : RequestPlain → List ℕ
+command_of (Drill query recorded) = codes "drill"
+command_of (Yaml files) = codes "yaml"
+command_of (Check map_file rules) = codes "check"
+command_of (Route query) = codes "route"
+command_of (Make number) = codes "make"
+command_of (Local query) = codes "local"
+command_of (Serve query) = codes "serve"
+command_of (Play query at) = codes "play"
+command_of (Replay query) = codes "replay"
+command_of (Migrate query to) = codes "migrate"
