@@ -1,6 +1,6 @@
 -- For which questions something is kept after fields are put back, taken up and forgotten, and
 -- after walks are taken in.
-use Rattle.std.proofs.Common.{◌≡◌, ℕ, ◌<◌, inl, inr, Bool, true, false, length, List, [], ◌∷◌, ◌++◌, get_or, set, Option, Some, None, refl, ap, sym, ◌∙◌, arith, subst}
+use Rattle.std.proofs.Common.{◌≡◌, ℕ, ◌<◌, ◌⊎◌, inl, inr, Bool, true, false, length, List, [], ◌∷◌, ◌++◌, get_or, set, Option, Some, None, refl, ap, sym, ◌∙◌, arith, subst}
 use Rattle.std.specs.Prelude.{Contains, IfSome, IsSomeAnd, slice_get, not, if◌then◌else◌}
 use Rattle.std.specs.List.{All}
 use Rattle.std.proofs.lemmas.List.Elements.{All-append, All-cons, All-contains, All-contains_itself, All-head, All-map, All-nil, All-push, All-same, All-set, All-tail, All-weaker, Contains-append_left, Contains-append_right, Contains-push}
@@ -288,6 +288,13 @@ pub count-anew-looked :
     new ≡ one_more old
 count-anew-looked asks ask old mid new is none counts =
     count-anew asks ask mid new none counts ∙ ap one_more is
+
+-- Whether a field was begun, after a look.
+pub begun_looked :
+    (ask : Ask) (old mid new : ℕ) (last : Option Ask) → mid ≡ old → (new ≡ mid) ⊎ (last ≡ Some ask) →
+    (new ≡ old) ⊎ (last ≡ Some ask)
+begun_looked ask old mid new last is (inl same) = inl (same ∙ is)
+begun_looked ask old mid new last is (inr asked) = inr asked
 
 -- A field that is read where it lies.
 pub final_counts :

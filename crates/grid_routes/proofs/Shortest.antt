@@ -1,5 +1,5 @@
 -- A walk of least cost enters no cell twice, so the size of the map bounds what it costs.
-use Rattle.std.proofs.Common.{◌≡◌, ℕ, ◌+◌, ◌*◌, ◌<◌, ◌≤◌, ◌⊎◌, inl, inr, eqb, Bool, true, false, length, List, [], ◌∷◌, map, refl, arith, subst}
+use Rattle.std.proofs.Common.{◌≡◌, ℕ, suc, ◌+◌, ◌*◌, ◌<◌, ◌≤◌, ◌⊎◌, inl, inr, eqb, Bool, true, false, length, List, [], ◌∷◌, map, refl, arith, subst}
 use Rattle.std.specs.List.{AllByRecursion, IsDistinct, list_any}
 use Rattle.std.proofs.lemmas.Bool.Decides.{eqb_tells, nat_tests}
 use Rattle.std.proofs.lemmas.List.{length-map}
@@ -88,6 +88,15 @@ module _ (land : Land) (w h : ℕ) (fair : IsFair land.toll w h) where
         distinct cells q walk.2 rest walk.5,
       )
 
+  whole-distinct :
+      (cells : List CPos) (p : CPos) (n : ℕ) → IsOn w h p → IsDistance land p n → IsWalk land p cells n →
+      IsDistinct eqb (map (place_of w) (p ∷ cells))
+  unfolding IsDistinct
+  whole-distinct cells p n on is walk = (
+    none-again p n on is cells (nearer cells p n n (omega arith) is walk),
+    distinct cells p n is walk,
+  )
+
   below :
       (cells : List CPos) (n : ℕ) → AllByRecursion (IsNearer land w h n) cells → (x : ℕ) →
       list_any (eqb x) (map (place_of w) cells) ≡ true → x < w * h
@@ -108,6 +117,19 @@ module _ (land : Land) (w h : ℕ) (fair : IsFair land.toll w h) where
       let cheap = fair.cheap p q walk.0 walk.1 walk.3 in
       let sum : n ≡ walk.1 + walk.2 = walk.4 in
       omega (arith, rest, cheap)
+
+  -- A walk of least cost has at most as many cells as the map, its first one with it.
+  pub walk-fits :
+      (cells : List CPos) (p : CPos) (n : ℕ) → IsOn w h p → IsDistance land p n → IsWalk land p cells n →
+      suc (length cells) ≤ w * h
+  walk-fits cells p n on is walk =
+      let apart : IsDistinct eqb (map (place_of w) (p ∷ cells)) = whole-distinct cells p n on is walk in
+      let within : (x : ℕ) → list_any (eqb x) (map (place_of w) (p ∷ cells)) ≡ true → x < w * h =
+      below (p ∷ cells) (suc n)
+      (record { on = on; left = n; is = is; less = omega arith }, nearer cells p n (suc n) (omega arith) is walk) in
+      let few = length-le_from_distinct_below (map (place_of w) (p ∷ cells)) (w * h) apart within in
+      let short : length (map (place_of w) (p ∷ cells)) ≡ length (p ∷ cells) = length-map (p ∷ cells) (place_of w) in
+      omega (arith, few, short)
 
   -- The distance of a cell is at most 70 for each cell of the map.
   pub distance-most : (p : CPos) (n : ℕ) → IsDistance land p n → n ≤ 70 * (w * h)

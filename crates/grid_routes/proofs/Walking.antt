@@ -1,5 +1,5 @@
 -- A route that follows the best directions, cell by cell.
-use Rattle.std.proofs.Common.{◌≡◌, ◌≢◌, ℕ, ◌+◌, ◌<◌, ◌≤◌, List, [], ◌∷◌, ◌++◌, Some, refl, ap, sym, ◌∙◌, arith, subst, append_assoc, append-nil}
+use Rattle.std.proofs.Common.{◌≡◌, ◌≢◌, ℕ, suc, ◌+◌, ◌*◌, ◌<◌, ◌≤◌, length, List, [], ◌∷◌, ◌++◌, Some, refl, ap, sym, ◌∙◌, arith, subst, append_assoc, append-nil, length-append}
 use Rattle.world_units.specs.declared.cell.CPos.{CPos}
 use Rattle.world_units.specs.Directions.{step_of}
 use Rattle.game_model.specs.Grid.{IsOn}
@@ -9,6 +9,7 @@ use Rattle.grid_routes.specs.Labels.{Distances, label_of}
 use Rattle.grid_routes.specs.Held.{Shelves}
 use Rattle.grid_routes.specs.Steps.{IsSearch, IsLead, IsLeastLead, IsOnward}
 use Rattle.grid_routes.proofs.Best.{best-is, distance, no-lead-goal}
+use Rattle.grid_routes.proofs.Shortest.{walk-fits}
 use Rattle.grid_routes.proofs.StepCosts.{step-on}
 
 no-cost : (land : Land) (cells : List CPos) (p : CPos) (n : ℕ) → n ≡ 0 → IsWalk land p cells n → p ≡ land.goal
@@ -62,9 +63,9 @@ pub record RouteSoFar (land : Land) (f : Distances) (from at : CPos) (cells : Li
   pub all : cells ≡ from ∷ passed
   pub sum : spent + label_of f.labels at ≡ label_of f.labels from
   pub on : IsOn f.labels.width f.labels.height at
-  pub rest :
-      (others : List CPos) (m n : ℕ) → n ≡ spent + m → IsWalk land at others m → FollowsBest land at others →
-      IsWalk land from (passed ++ others) n × FollowsBest land from (passed ++ others)
+  pub walks :
+      (others : List CPos) (m n : ℕ) → n ≡ spent + m → IsWalk land at others m → IsWalk land from (passed ++ others) n
+  pub best : (others : List CPos) → FollowsBest land at others → FollowsBest land from (passed ++ others)
 
 pub route-first :
     (land : Land) (f : Distances) (from : CPos) (cells : List CPos) → cells ≡ from ∷ [] →
@@ -75,8 +76,8 @@ route-first land f from cells all on = record {
   all = all;
   sum = omega arith;
   on = on;
-  rest = λ others m n is walk best.
-      (subst (λ (k : ℕ). IsWalk land from others k) (omega (arith, is)) walk, best);
+  walks = λ others m n is walk. subst (λ (k : ℕ). IsWalk land from others k) (omega (arith, is)) walk;
+  best = λ others best. best;
 }
 
 pub route-step :
@@ -89,11 +90,13 @@ route-step land f s search from at q cells cells' so_far onward more = record {
   all = more ∙ ap (λ xs. xs ++ q ∷ []) so_far.all;
   sum = omega (arith, so_far.sum, onward.label);
   on = step-on land.toll f.labels.width f.labels.height search.fair at q onward.direction onward.cost onward.step;
-  rest = λ others m n is walk best.
+  walks = λ others m n is walk.
       rw (append_assoc so_far.passed (q ∷ []) others)
-      (so_far.rest (q ∷ others) (onward.cost + m) n (omega (arith, is))
-      (onward.direction, onward.cost, m, onward.step, refl, walk)
-      (onward.direction, onward.best, onward.step.enters, best));
+      (so_far.walks (q ∷ others) (onward.cost + m) n (omega (arith, is))
+      (onward.direction, onward.cost, m, onward.step, refl, walk));
+  best = λ others best.
+      rw (append_assoc so_far.passed (q ∷ []) others)
+      (so_far.best (q ∷ others) (onward.direction, onward.best, onward.step.enters, best));
 }
 
 pub route-end :
@@ -103,13 +106,36 @@ pub route-end :
     label_of f.labels at ≤ 0 → IsRouteOver land from cost cells
 route-end land f s search from at cells cost so_far on final less is none =
     let there = zero-goal land f s search at (omega (arith, none)) in
-    let both = so_far.rest [] 0 cost (omega (arith, so_far.sum, is, none)) (there, refl) there in
+    let walk = so_far.walks [] 0 cost (omega (arith, so_far.sum, is, none)) (there, refl) in
     let short = append-nil so_far.passed in
     record {
       entered = so_far.passed;
       all = so_far.all;
-      walk = subst (λ (xs : List CPos). IsWalk land from xs cost) short both.0;
-      best = subst (λ (xs : List CPos). FollowsBest land from xs) short both.1;
+      walk = subst (λ (xs : List CPos). IsWalk land from xs cost) short walk;
+      best = subst (λ (xs : List CPos). FollowsBest land from xs) short (so_far.best [] there);
       least = λ other m walk.
           let least = (distance land f s search from on final less).least other m walk in omega (arith, least, is);
     }
+
+-- A walk that goes on has a cell.
+goes-on : (land : Land) (cells : List CPos) (p : CPos) (n : ℕ) → 0 < n → IsWalk land p cells n → 0 < length cells
+goes-on land [] p n some walk = let none : n ≡ 0 = walk.1 in absurd (omega (arith, none))
+goes-on land (q ∷ cells) p n some walk = omega arith
+
+-- Up to the goal there is room for one cell more among as many as the map has.
+pub route-fits :
+    (land : Land) (f : Distances) (s : Shelves) → IsSearch land f s → (from at : CPos) (cells : List CPos) →
+    RouteSoFar land f from at cells → IsOn f.labels.width f.labels.height from →
+    label_of f.labels from ≤ f.level → label_of f.labels from < NONE → 0 < label_of f.labels at →
+    length cells < f.labels.width * f.labels.height
+route-fits land f s search from at cells so_far on final less some =
+    let others = search.right.walks at (omega (arith, so_far.sum)) in
+    let more = goes-on land others.0 at (label_of f.labels at) some others.1 in
+    let whole =
+    so_far.walks others.0 (label_of f.labels at) (label_of f.labels from) (sym so_far.sum) others.1 in
+    let fits =
+    walk-fits land f.labels.width f.labels.height search.fair (so_far.passed ++ others.0) from (label_of f.labels from) on
+    (distance land f s search from on final less) whole in
+    let long = length-append so_far.passed others.0 in
+    let all : length cells ≡ suc (length so_far.passed) = ap length so_far.all in
+    omega (arith, fits, long, all, more)

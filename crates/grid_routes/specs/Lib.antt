@@ -13,3 +13,4 @@ pub mod Least
 pub mod Held
 pub mod Steps
 pub mod Routing
+pub mod Questions

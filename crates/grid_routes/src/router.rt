@@ -1,10 +1,12 @@
-ghost use Rattle.std.specs.Prelude.{◌≡◌, ◌⊎◌, ◌≤◌, Bool, All, Contains, IfOk, [], Some};
+ghost use Rattle.std.specs.Prelude.{◌≡◌, ◌⊎◌, ◌*◌, ◌≤◌, Bool, All, Contains, IfOk, OnErr, OnOk};
+ghost use Rattle.std.specs.Prelude.{[], Some, vec_capacity};
 ghost use Rattle.game_model.specs.Grid.{Grid, IsOn};
 ghost use Rattle.game_model.specs.BestDirection.{best_dir_of};
 ghost use Rattle.game_model.specs.Walks.{IsBestDirection, land_of};
 ghost use Rattle.game_model.specs.declared.map.Map.{Map};
 ghost use Rattle.grid_routes.specs.Tolls.{IsCheap, land_over};
-ghost use Rattle.grid_routes.specs.Asked.{ask_for, one_more, CountsOn, KeepsOnly};
+ghost use Rattle.grid_routes.specs.Asked.{ask_for, CountsOn, KeepsOnly};
+ghost use Rattle.grid_routes.specs.Questions.{IsAsked};
 ghost use Rattle.grid_routes.specs.Routing.{AreSized, IsNew, IsSameSight, IsSameSize, LooksAt};
 ghost use Rattle.grid_routes.specs.Steps.{IsRoute};
 
@@ -137,26 +139,15 @@ impl Router {
         ensures best { IsBestDirection (land_of map.now blocks.now costs.now goal) from result }
         ensures size { IsSameSize self.old self.new }
         ensures looks { LooksAt self.new map.now blocks.now }
-        ensures computed { CountsOn self.old.asks (ask_for costs.now goal) self.old.computed
-            self.new.computed }
-        ensures asks { KeepsOnly (ask_for costs.now goal) self.old.asks self.new.asks }
-        ensures alone { (LooksAt self.old map.now blocks.now → ⊥) →
-            KeepsOnly (ask_for costs.now goal) [] self.new.asks }
-        ensures anew { (LooksAt self.old map.now blocks.now → ⊥) →
-            self.new.computed ≡ one_more self.old.computed }
-        ensures again { LooksAt self.old map.now blocks.now →
-            self.old.last ≡ Some (ask_for costs.now goal) →
-            self.new.computed ≡ self.old.computed }
-        ensures begun { (self.new.computed ≡ self.old.computed) ⊎
-            (self.new.last ≡ Some (ask_for costs.now goal)) }
+        ensures asked { IsAsked map.now blocks.now (ask_for costs.now goal) self.old self.new }
     {
         self.look(map, blocks);
         self.best_dir_seen(costs, from, goal)
     }
 
     /// The walk that takes the best direction at each cell. `None` comes exactly where there is no
-    /// walk or the cell is the goal. Out of memory is its only error; the router then looks at the
-    /// ground and keeps what it found, as after an answer.
+    /// walk or the cell is the goal. Out of memory is its only error, and then the router is as
+    /// before.
     pub fn walk(
         &mut self,
         alloc: Global,
@@ -172,26 +163,26 @@ impl Router {
         requires goal { IsOn map.now.width map.now.height goal }
         ensures route { IfOk result (IsRoute (land_of map.now blocks.now costs.now goal) from) }
         ensures size { IsSameSize self.old self.new }
-        ensures looks { LooksAt self.new map.now blocks.now }
-        ensures computed { CountsOn self.old.asks (ask_for costs.now goal) self.old.computed
-            self.new.computed }
-        ensures asks { KeepsOnly (ask_for costs.now goal) self.old.asks self.new.asks }
-        ensures alone { (LooksAt self.old map.now blocks.now → ⊥) →
-            KeepsOnly (ask_for costs.now goal) [] self.new.asks }
-        ensures anew { (LooksAt self.old map.now blocks.now → ⊥) →
-            self.new.computed ≡ one_more self.old.computed }
-        ensures again { LooksAt self.old map.now blocks.now →
-            self.old.last ≡ Some (ask_for costs.now goal) →
-            self.new.computed ≡ self.old.computed }
-        ensures begun { (self.new.computed ≡ self.old.computed) ⊎
-            (self.new.last ≡ Some (ask_for costs.now goal)) }
+        ensures looks { OnOk result (LooksAt self.new map.now blocks.now) }
+        ensures asked { OnOk result
+            (IsAsked map.now blocks.now (ask_for costs.now goal) self.old self.new) }
+        ensures kept { OnErr result (self.new ≡ self.old) }
     {
+        let room = room_for_walk(alloc, self.width, self.height)?;
         let ask = Ask {
             goal,
             costs: *costs,
         };
         self.findings.look(map, blocks);
         self.findings.settle(&ask, from);
-        self.findings.fields.search.route(alloc, from, goal)
+        Ok(self.findings.fields.search.route(room, from, goal))
     }
+}
+
+/// Room for each cell of a map of this size. Out of memory is its only error.
+fn room_for_walk(alloc: Global, w: u8, h: u8) -> Result<Vec<CPos>, NoMemory>
+    ensures empty { IfOk result (λ room. room.items ≡ []) }
+    ensures room { IfOk result (λ room. w * h ≤ vec_capacity room) }
+{
+    Vec::with_capacity(alloc, usize::from(w) * usize::from(h))
 }

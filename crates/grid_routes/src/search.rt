@@ -1,5 +1,5 @@
 ghost use Rattle.std.specs.Prelude.{◌≡◌, ◌≢◌, ℕ, ◌+◌, ◌*◌, ◌%◌, ◌^◌, ◌<◌, ◌≤◌, false, IfOk};
-ghost use Rattle.std.specs.Prelude.{IsTrue, IsFalse, MatchOption, length};
+ghost use Rattle.std.specs.Prelude.{IsTrue, IsFalse, MatchOption, [], length, vec_capacity};
 ghost use Rattle.world_units.specs.declared.cell.CPos.{CPos};
 ghost use Rattle.game_model.specs.Grid.{IsOn, HasSize};
 ghost use Rattle.game_model.specs.Walks.{IsBestDirection};
@@ -545,36 +545,34 @@ impl Search {
         }
     }
 
-    /// The walk that takes the best direction at each cell. `None` comes exactly where there is no
-    /// walk or the cell is the goal. Out of memory is its only error.
-    pub(crate) fn route(
-        &self,
-        alloc: Global,
-        from: CPos,
-        goal: CPos,
-    ) -> Result<Option<Route>, NoMemory>
+    /// The walk that takes the best direction at each cell, in room for each cell of the map. `None`
+    /// comes exactly where there is no walk or the cell is the goal.
+    pub(crate) fn route(&self, room: Vec<CPos>, from: CPos, goal: CPos) -> Option<Route>
         requires search { IsSearch (record { toll = toll_in self.now.tolls; goal = goal })
             self.now.field self.now.buckets }
         requires on { IsOn self.now.field.labels.width self.now.field.labels.height from }
         requires settled { label_of self.now.field.labels from ≤ self.now.field.level }
-        ensures { IfOk result (IsRoute (record { toll = toll_in self.now.tolls; goal = goal })
-            from) }
+        requires empty { room.items ≡ [] }
+        requires room { self.now.field.labels.width * self.now.field.labels.height
+            ≤ vec_capacity room }
+        ensures { IsRoute (record { toll = toll_in self.now.tolls; goal = goal }) from result }
     {
         let cost = self.field.label(from);
         if cost == NONE {
-            return Ok(None);
+            return None;
         }
         if cost == 0 {
-            return Ok(None);
+            return None;
         }
-        let mut cells = List::new(alloc);
-        cells.push(from)?;
+        let mut cells = room;
+        cells.push_reserved(from);
         let mut at = from;
         while self.field.label(at) > 0 {
             at = self.next(at, goal);
-            cells.push(at)?;
+            cells.push_reserved(at);
         }
-        Ok(Some(Route { cost, cells }))
+        let cells = List::from_vec(cells);
+        Some(Route { cost, cells })
     }
 
     /// The cell that the best step enters.

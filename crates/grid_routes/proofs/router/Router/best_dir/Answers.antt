@@ -1,6 +1,7 @@
-use Rattle.std.proofs.Common.{[]}
+use Rattle.std.proofs.Common.{◌∙◌, [], ap}
 use Rattle.grid_routes.specs.Asked.{ask_for}
-use Rattle.grid_routes.proofs.Asking.{asks_after, count-anew-looked, count-looked, through}
+use Rattle.grid_routes.specs.Routing.{Routing}
+use Rattle.grid_routes.proofs.Asking.{asks_after, begun_looked, count-anew-looked, count-looked, through}
 use Rattle.grid_routes.proofs.Looking.{seen-best}
 use Rattle.grid_routes.proofs.router.Router.best_dir.Goals as goal
 
@@ -12,24 +13,26 @@ returns-clause-best c =
     seen-best c.look.new.self c.args.map.now c.args.blocks.now c.args.costs.now c.args.goal c.args.from c.best_dir_seen.result
     c.look.ensures.looks c.best_dir_seen.ensures.best
 
-pub returns-clause-computed : goal.returns-clause-computed
-returns-clause-computed c =
-    count-looked c.args.self.now.asks c.look.new.self.asks (ask_for c.args.costs.now c.args.goal) c.args.self.now.computed
-    c.look.new.self.computed c.best_dir_seen.new.self.computed c.look.ensures.computed c.look.ensures.asks
-    c.best_dir_seen.ensures.computed
-
-pub returns-clause-anew : goal.returns-clause-anew
-returns-clause-anew c = λ differs.
-    count-anew-looked c.look.new.self.asks (ask_for c.args.costs.now c.args.goal) c.args.self.now.computed
-    c.look.new.self.computed c.best_dir_seen.new.self.computed c.look.ensures.computed (c.look.ensures.forgets differs)
-    c.best_dir_seen.ensures.computed
-
-pub returns-clause-asks : goal.returns-clause-asks
-returns-clause-asks c =
-    through c.args.self.now.asks c.look.new.self.asks c.best_dir_seen.new.self.asks
-    (ask_for c.args.costs.now c.args.goal) c.look.ensures.asks c.best_dir_seen.ensures.asks
-
-pub returns-clause-alone : goal.returns-clause-alone
-returns-clause-alone c = λ differs.
-    asks_after [] c.look.new.self.asks c.best_dir_seen.new.self.asks (ask_for c.args.costs.now c.args.goal)
-    (c.look.ensures.forgets differs) c.best_dir_seen.ensures.asks
+pub returns-clause-asked : goal.returns-clause-asked
+returns-clause-asked c =
+    let ask = ask_for c.args.costs.now c.args.goal in
+    let mid = c.look.new.self in
+    record {
+      computed =
+          count-looked c.args.self.now.asks mid.asks ask c.args.self.now.computed mid.computed
+          c.best_dir_seen.new.self.computed c.look.ensures.computed c.look.ensures.asks c.best_dir_seen.ensures.computed;
+      asks =
+          through c.args.self.now.asks mid.asks c.best_dir_seen.new.self.asks ask c.look.ensures.asks
+          c.best_dir_seen.ensures.asks;
+      alone = λ differs.
+          asks_after [] mid.asks c.best_dir_seen.new.self.asks ask (c.look.ensures.forgets differs)
+          c.best_dir_seen.ensures.asks;
+      anew = λ differs.
+          count-anew-looked mid.asks ask c.args.self.now.computed mid.computed c.best_dir_seen.new.self.computed
+          c.look.ensures.computed (c.look.ensures.forgets differs) c.best_dir_seen.ensures.computed;
+      again = λ looks is.
+          c.best_dir_seen.ensures.again (ap (λ (r : Routing). r.last) (c.look.ensures.same looks) ∙ is) ∙ c.look.ensures.computed;
+      begun =
+          begun_looked ask c.args.self.now.computed mid.computed c.best_dir_seen.new.self.computed
+          c.best_dir_seen.new.self.last c.look.ensures.computed c.best_dir_seen.ensures.begun;
+    }
