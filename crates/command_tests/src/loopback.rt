@@ -114,12 +114,18 @@ fn first_hash(seats: &[Seat]) -> Option<&str> {
     hash(seats.first()?.out.bytes())
 }
 
+/// The first of the ports that are tried, and how many they are. They end below those from which
+/// systems dial: a player that dials one of these before the server listens may be joined to itself.
+const FIRST_PORT: u32 = 20_000;
+
+const PORTS: u32 = 12_000;
+
 /// A port of the loopback at which nothing listens.
 fn free_port<N: Net>(alloc: Global, net: &mut N, first: u32) -> Result<u32, Fail>
-    requires { first < 20_000 }
+    requires { first < PORTS }
 {
     for step in 0..200 {
-        let port = 20_000 + (first + step) % 20_000;
+        let port = FIRST_PORT + (first + step) % PORTS;
         let at = format!(in alloc; "127.0.0.1:{port}")?;
         if net.listen(&at).is_ok() {
             return Ok(port);
@@ -130,7 +136,7 @@ fn free_port<N: Net>(alloc: Global, net: &mut N, first: u32) -> Result<u32, Fail
 
 #[test]
 fn a_served_match_of_two_players(rt: HostRuntime) -> Result<(), Fail> {
-    let first = process::id(rt.process()) % 20_000;
+    let first = process::id(rt.process()) % PORTS;
     let port = free_port(rt.alloc(), &mut TcpNet::new(&rt), first)?;
     let mut seats = seats_at(rt.alloc(), port)?;
     run_seats(&rt, seats.as_mut_slice());
