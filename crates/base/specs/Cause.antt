@@ -3,5 +3,5 @@
 use Rattle.std.specs.Prelude.{ℕ, ◌+◌, ◌-◌, ◌^◌, ◌≤◌, min}
 
 -- A count went up, or stands at the greatest 64-bit number, above which it cannot go.
-abbrev pub Rose : ℕ → ℕ → Type 0
-Rose before now = min (before + 1) (2 ^ 64 - 1) ≤ now
+abbrev pub Increased : ℕ → ℕ → Type 0
+Increased before now = min (before + 1) (2 ^ 64 - 1) ≤ now

@@ -1,5 +1,5 @@
 ghost use Rattle.std.specs.Prelude.{◌≡◌, ◌+◌, ◌-◌, ◌^◌, ◌≤◌, min};
-ghost use Rattle.base.specs.Cause.{Rose};
+ghost use Rattle.base.specs.Cause.{Increased};
 
 use std::marker::Model;
 
@@ -37,7 +37,7 @@ impl FaultCount {
     /// Counts one more fault.
     pub fn raise(&mut self)
         ensures next { self.new ≡ min (self.old + 1) (2 ^ 64 - 1) }
-        ensures rose { Rose self.old self.new }
+        ensures rose { Increased self.old self.new }
         ensures later { self.old ≤ self.new }
     {
         self.count = self.count.saturating_add(1);

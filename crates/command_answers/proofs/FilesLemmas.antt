@@ -1,7 +1,7 @@
 -- Rule files that are read, and a map after them.
 use Rattle.std.proofs.Common.{◌≡◌, ◌≤◌, ℕ, List, [], ◌∷◌, ◌++◌, map, Option, None, Some, Ok, IfSome, IfNone, IsSome, refl, subst, inl, inr, arith}
 use Rattle.std.specs.Prelude.{option_map}
-use Rattle.base.specs.Cause.{Rose}
+use Rattle.base.specs.Cause.{Increased}
 use Rattle.base.specs.Steps.{◌>>=◌}
 use Rattle.game_io.specs.Files.{Files}
 use Rattle.command_answers.specs.declared.stop.Stop.{Stop}
@@ -133,5 +133,5 @@ map_stop_untold names map_file stop R Q None o' rose same stops =
 map_stop_untold names map_file stop R Q (Some files) o' rose same stops = tt
 
 -- A count that rose in the second of two calls rose in both.
-pub rose_later : (a b c : ℕ) → a ≤ b → Rose b c → Rose a c
+pub rose_later : (a b c : ℕ) → a ≤ b → Increased b c → Increased a c
 rose_later a b c later rose = omega arith

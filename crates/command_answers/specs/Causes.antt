@@ -1,7 +1,7 @@
 -- What failed in a call. Each field is that the count of faults of an object rose in it.
 use Rattle.std.specs.Prelude.{ℕ, List, Option, IsSome}
-use Rattle.base.specs.Cause.{Rose}
-use Rattle.command_answers.specs.Outside.{Outside}
+use Rattle.base.specs.Cause.{Increased}
+use Rattle.command_answers.specs.Environment.{Environment}
 
 pub record Causes : Type 1 where
   -- The disk, in a read.
@@ -14,11 +14,11 @@ pub record Causes : Type 1 where
   pub net : Type 0
 
 -- The causes of a command that uses no net, and writes the file of this name, if one is given.
-abbrev pub causes_of : (written : Option (List ℕ)) → (old new : Outside) → Causes
+abbrev pub causes_of : (written : Option (List ℕ)) → (old new : Environment) → Causes
 causes_of written old new = record {
-  read = Rose old.disk.faults new.disk.faults;
-  write = IsSome written × Rose old.disk.faults new.disk.faults;
-  sink = Rose old.sink.faults new.sink.faults;
+  read = Increased old.disk.faults new.disk.faults;
+  write = IsSome written × Increased old.disk.faults new.disk.faults;
+  sink = Increased old.sink.faults new.sink.faults;
   net = ⊥;
 }
 

@@ -5,7 +5,7 @@ use Rattle.command_answers.specs.declared.statuses.TheConstants.{DONE, REFUSED_W
 use Rattle.command_answers.specs.FileWrite.{FileWrite, name_of, files_after, IsLeftPartly, OnlyChanges}
 use Rattle.command_answers.specs.Reply.{Reply}
 use Rattle.command_answers.specs.Causes.{Causes}
-use Rattle.command_answers.specs.Outside.{Outside}
+use Rattle.command_answers.specs.Environment.{Environment}
 use Rattle.command_answers.specs.Outcome.{IsAnswered}
 
 -- The status of a request. `read_failed` and `write_failed` say that a count of faults rose.
@@ -63,7 +63,7 @@ at_read status rf wf failed e =
 
 -- A reply that was answered.
 pub answered_causes :
-    (reply : Reply) (status : ℕ) (causes : Causes) (old new : Outside) →
+    (reply : Reply) (status : ℕ) (causes : Causes) (old new : Environment) →
     IsSettled reply.status → IsAnswered reply status causes old new →
     HasCauses status causes.read (causes.sink ⊎ causes.write)
 answered_causes reply status causes old new is (inl (inl complete)) = at_settled status reply.status _ _ is complete.0
@@ -90,7 +90,7 @@ partly_changes (Some write) old new (inr (inr part)) = inr (Some part.0, part.3)
 
 -- A reply that was answered.
 pub answered_changes :
-    (reply : Reply) (status : ℕ) (causes : Causes) (old new : Outside) →
+    (reply : Reply) (status : ℕ) (causes : Causes) (old new : Environment) →
     IsAnswered reply status causes old new → OnlyChanges (name_of reply.write) old.disk.files new.disk.files
 answered_changes reply status causes old new (inl (inl complete)) = written_changes reply.write _ _ complete.2
 answered_changes reply status causes old new (inl (inr (inl cut))) = none_changes (name_of reply.write) _ _ cut.3

@@ -2,7 +2,7 @@ pub mod FileWrite
 pub mod Reply
 pub mod Answer
 pub mod Causes
-pub mod Outside
+pub mod Environment
 pub mod Outcome
 pub mod Printing
 pub mod Step

@@ -1,6 +1,6 @@
 -- The file of an answer, after its text.
 use Rattle.std.specs.Prelude.{◌≡◌, ℕ, ◌⊎◌, Option, Result, Ok, Err}
-use Rattle.base.specs.Cause.{Rose}
+use Rattle.base.specs.Cause.{Increased}
 use Rattle.game_io.specs.DiskState.{DiskState}
 use Rattle.game_io.specs.SinkState.{SinkState}
 use Rattle.command_answers.specs.declared.statuses.TheConstants.{FAULT_WRITE, OUT_OF_MEMORY}
@@ -10,7 +10,7 @@ use Rattle.command_answers.specs.Answer.{reply_of}
 use Rattle.command_answers.specs.Causes.{causes_of}
 use Rattle.command_answers.specs.FileWrite.{FileWrite, name_of, files_after, IsLeftPartly}
 use Rattle.command_answers.specs.Outcome.{IsAnswered}
-use Rattle.command_answers.specs.Outside.{outside}
+use Rattle.command_answers.specs.Environment.{environment}
 use Rattle.command_answers.specs.Reply.{Reply}
 use Rattle.command_answers.specs.Stop.{PrintsStop}
 
@@ -21,7 +21,7 @@ abbrev pub WritesLast :
 WritesLast write status result old new =
     ((result ≡ status) × (new.files ≡ files_after write old.files))
     ⊎ (((result ≡ FAULT_WRITE)
-    × Rose old.faults new.faults
+    × Increased old.faults new.faults
     × IsLeftPartly write old.files new.files)
     ⊎ ((result ≡ OUT_OF_MEMORY) × (new.files ≡ old.files)))
 
@@ -30,8 +30,8 @@ abbrev pub AnswersReply :
     Reply → ℕ → (old new : DiskState) → (old_sink new_sink : SinkState) → Type 0
 AnswersReply reply status d d' s s' =
     IsAnswered reply status
-    (causes_of (name_of reply.write) (outside d s) (outside d' s'))
-    (outside d s) (outside d' s')
+    (causes_of (name_of reply.write) (environment d s) (environment d' s'))
+    (environment d s) (environment d' s')
 
 -- What is printed, written and answered for an answer, or for a stop before it.
 abbrev pub PrintsAnswer :

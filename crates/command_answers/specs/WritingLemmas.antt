@@ -1,6 +1,6 @@
 -- From the file that was written after a text to the outcome of the reply.
 use Rattle.std.proofs.Common.{◌≡◌, ◌≤◌, ℕ, List, Option, None, Some, IsSome, refl, subst, inl, inr, arith}
-use Rattle.base.specs.Cause.{Rose}
+use Rattle.base.specs.Cause.{Increased}
 use Rattle.base.specs.Written.{Wrote, whole_prefix}
 use Rattle.game_io.specs.Files.{Files}
 use Rattle.game_io.specs.DiskState.{DiskState}
@@ -8,7 +8,7 @@ use Rattle.game_io.specs.SinkState.{SinkState}
 use Rattle.command_answers.specs.FileWrite.{FileWrite, name_of, files_after, IsLeftPartly}
 use Rattle.command_answers.specs.Reply.{Reply}
 use Rattle.command_answers.specs.Causes.{causes_of}
-use Rattle.command_answers.specs.Outside.{outside}
+use Rattle.command_answers.specs.Environment.{environment}
 use Rattle.command_answers.specs.Outcome.{IsAnswered}
 use Rattle.command_answers.specs.Writing.{WritesLast, AnswersReply}
 
@@ -28,15 +28,15 @@ writes_outcome reply status d d' s s' wrote (inr (inl cut)) =
 writes_outcome reply status d d' s s' wrote (inr (inr memory)) =
     inr (memory.0, whole_prefix s.written s'.written reply.text wrote, memory.1)
 
-rose_earlier : (a b c : ℕ) → a ≤ b → Rose b c → Rose a c
+rose_earlier : (a b c : ℕ) → a ≤ b → Increased b c → Increased a c
 rose_earlier a b c later rose = omega arith
 
 -- The same outcome of a command that read files before, by which no file changed.
 pub answered_since :
     (reply : Reply) (status : ℕ) (written : Option (List ℕ)) (d d1 d' : DiskState) (s s' : SinkState) →
     d1.files ≡ d.files → d.faults ≤ d1.faults →
-    IsAnswered reply status (causes_of written (outside d1 s) (outside d' s')) (outside d1 s) (outside d' s') →
-    IsAnswered reply status (causes_of written (outside d s) (outside d' s')) (outside d s) (outside d' s')
+    IsAnswered reply status (causes_of written (environment d1 s) (environment d' s')) (environment d1 s) (environment d' s') →
+    IsAnswered reply status (causes_of written (environment d s) (environment d' s')) (environment d s) (environment d' s')
 answered_since reply status written d d1 d' s s' same later (inl (inl complete)) =
     inl (inl (complete.0, complete.1, subst (λ files. d'.files ≡ files_after reply.write files) same complete.2))
 answered_since reply status written d d1 d' s s' same later (inl (inr (inl cut))) =

@@ -1,6 +1,6 @@
 ghost use Rattle.std.specs.Prelude.{◌≡◌, ◌≤◌, ◌∷◌, [], map, length, IfOk, IfSome, IfNone, IsSome};
 ghost use Rattle.std.specs.Prelude.{option_map};
-ghost use Rattle.base.specs.Cause.{Rose};
+ghost use Rattle.base.specs.Cause.{Increased};
 ghost use Rattle.command_answers.specs.Contents.{content_of, read_after, IsFirstThere, AreWithinLimits};
 ghost use Rattle.command_answers.specs.Contents.{read_optional, contents_of, IsWithinLimit, AreContents};
 ghost use Rattle.command_answers.specs.Reply.{refusal};
@@ -39,11 +39,11 @@ pub fn read_one<'a, D: Disk>(
     ensures told { IfSome (D.state disk.old).files
         (λ files. ReturnsOrStops result (λ bytes. bytes.items)
         (content_of (record { name = name.now; limit = limit }) (files name.now))
-        (IsSome (files name.now) × Rose (D.state disk.old).faults (D.state disk.new).faults)) }
+        (IsSome (files name.now) × Increased (D.state disk.old).faults (D.state disk.new).faults)) }
     ensures untold { IfNone (D.state disk.old).files
         (ReturnsUntold result (λ bytes. length bytes.items ≤ limit)
         (record { name = name.now; limit = limit } ∷ [])
-        (Rose (D.state disk.old).faults (D.state disk.new).faults)) }
+        (Increased (D.state disk.old).faults (D.state disk.new).faults)) }
     ensures short { IfOk result (λ bytes. length bytes.items ≤ limit) }
     ensures files { (D.state disk.new).files ≡ (D.state disk.old).files }
     ensures later { (D.state disk.old).faults ≤ (D.state disk.new).faults }
@@ -67,13 +67,13 @@ pub fn read_rules<'a, D: Disk>(
         (λ files. ReturnsOrStops result (λ contents. map (λ bytes. bytes.items) contents.items)
         (read_after [] (map rule_file (map (λ name. name.now) names.now)) files)
         (IsFirstThere (map rule_file (map (λ name. name.now) names.now)) files
-        × Rose (D.state disk.old).faults (D.state disk.new).faults)) }
+        × Increased (D.state disk.old).faults (D.state disk.new).faults)) }
     ensures untold { IfNone (D.state disk.old).files
         (ReturnsUntold result
         (λ contents. AreWithinLimits (map rule_file (map (λ name. name.now) names.now))
         (map (λ bytes. bytes.items) contents.items))
         (map rule_file (map (λ name. name.now) names.now))
-        (Rose (D.state disk.old).faults (D.state disk.new).faults)) }
+        (Increased (D.state disk.old).faults (D.state disk.new).faults)) }
     ensures one_each { IfOk result (λ contents. length contents.items ≡ length names.now) }
     ensures files { (D.state disk.new).files ≡ (D.state disk.old).files }
     ensures later { (D.state disk.old).faults ≤ (D.state disk.new).faults }
@@ -119,13 +119,13 @@ fn read_map<'a, D: Disk>(
         (λ files. ReturnsOrStops result (option_map (λ bytes. bytes.items))
         (read_optional (Some (rule_file name.now)) files)
         (IsFirstThere (rule_file name.now ∷ []) files
-        × Rose (D.state disk.old).faults (D.state disk.new).faults)) }
+        × Increased (D.state disk.old).faults (D.state disk.new).faults)) }
     ensures untold { IfNone (D.state disk.old).files
         (ReturnsUntold result
         (λ given. IsWithinLimit (Some (rule_file name.now))
         (option_map (λ bytes. bytes.items) given))
         (rule_file name.now ∷ [])
-        (Rose (D.state disk.old).faults (D.state disk.new).faults)) }
+        (Increased (D.state disk.old).faults (D.state disk.new).faults)) }
     ensures files { (D.state disk.new).files ≡ (D.state disk.old).files }
     ensures later { (D.state disk.old).faults ≤ (D.state disk.new).faults }
 {
@@ -146,13 +146,13 @@ fn read_named<'a, D: Disk>(
         (read_optional (option_map rule_file (option_map (λ name. name.now) name.entry)) files)
         (IsFirstThere
         (and_then (option_map rule_file (option_map (λ name. name.now) name.entry)) []) files
-        × Rose (D.state disk.old).faults (D.state disk.new).faults)) }
+        × Increased (D.state disk.old).faults (D.state disk.new).faults)) }
     ensures untold { IfNone (D.state disk.old).files
         (ReturnsUntold result
         (λ given. IsWithinLimit (option_map rule_file (option_map (λ name. name.now) name.entry))
         (option_map (λ bytes. bytes.items) given))
         (and_then (option_map rule_file (option_map (λ name. name.now) name.entry)) [])
-        (Rose (D.state disk.old).faults (D.state disk.new).faults)) }
+        (Increased (D.state disk.old).faults (D.state disk.new).faults)) }
     ensures files { (D.state disk.new).files ≡ (D.state disk.old).files }
     ensures later { (D.state disk.old).faults ≤ (D.state disk.new).faults }
 {
@@ -175,14 +175,14 @@ pub fn read_files<'a, D: Disk>(
         (option_map (λ name. name.now) map_file.entry)) files)
         (IsFirstThere (in_order (rules_and_map (map (λ name. name.now) names.now)
         (option_map (λ name. name.now) map_file.entry))) files
-        × Rose (D.state disk.old).faults (D.state disk.new).faults)) }
+        × Increased (D.state disk.old).faults (D.state disk.new).faults)) }
     ensures untold { IfNone (D.state disk.old).files
         (ReturnsUntold result
         (λ given. AreContents (rules_and_map (map (λ name. name.now) names.now)
         (option_map (λ name. name.now) map_file.entry)) (given_contents given))
         (in_order (rules_and_map (map (λ name. name.now) names.now)
         (option_map (λ name. name.now) map_file.entry)))
-        (Rose (D.state disk.old).faults (D.state disk.new).faults)) }
+        (Increased (D.state disk.old).faults (D.state disk.new).faults)) }
     ensures one_each { IfOk result (λ given. length given.rules.items ≡ length names.now) }
     ensures files { (D.state disk.new).files ≡ (D.state disk.old).files }
     ensures later { (D.state disk.old).faults ≤ (D.state disk.new).faults }
@@ -219,10 +219,10 @@ fn read_played<'a, D: Disk>(
         (λ files. ReturnsOrStops result (λ bytes. bytes.items)
         (content_of (played_file played.entry) (files (played_file played.entry).name))
         (IsSome (files (played_file played.entry).name)
-        × Rose (D.state disk.old).faults (D.state disk.new).faults)) }
+        × Increased (D.state disk.old).faults (D.state disk.new).faults)) }
     ensures untold { IfNone (D.state disk.old).files
         (ReturnsUntold result (λ bytes. length bytes.items ≤ (played_file played.entry).limit)
-        (played_file played.entry ∷ []) (Rose (D.state disk.old).faults (D.state disk.new).faults)) }
+        (played_file played.entry ∷ []) (Increased (D.state disk.old).faults (D.state disk.new).faults)) }
     ensures short { IfOk result (λ bytes. length bytes.items ≤ (played_file played.entry).limit) }
     ensures files { (D.state disk.new).files ≡ (D.state disk.old).files }
     ensures later { (D.state disk.old).faults ≤ (D.state disk.new).faults }
@@ -247,14 +247,14 @@ pub fn read_played_files<'a, D: Disk>(
         (option_map (λ name. name.now) map_file.entry)) files)
         (IsFirstThere (in_order (played_files played.entry (map (λ name. name.now) names.now)
         (option_map (λ name. name.now) map_file.entry))) files
-        × Rose (D.state disk.old).faults (D.state disk.new).faults)) }
+        × Increased (D.state disk.old).faults (D.state disk.new).faults)) }
     ensures untold { IfNone (D.state disk.old).files
         (ReturnsUntold result
         (λ given. AreContents (played_files played.entry (map (λ name. name.now) names.now)
         (option_map (λ name. name.now) map_file.entry)) (played_contents played.entry given))
         (in_order (played_files played.entry (map (λ name. name.now) names.now)
         (option_map (λ name. name.now) map_file.entry)))
-        (Rose (D.state disk.old).faults (D.state disk.new).faults)) }
+        (Increased (D.state disk.old).faults (D.state disk.new).faults)) }
     ensures one_each { IfOk result (λ given. length given.0.rules.items ≡ length names.now) }
     ensures short { IfOk result (λ given. length given.1.items ≤ (played_file played.entry).limit) }
     ensures files { (D.state disk.new).files ≡ (D.state disk.old).files }

@@ -2,7 +2,7 @@
 use Rattle.std.proofs.Common.{◌≡◌, ℕ, ◌≤◌, List, [], ◌++◌, length, sym, ap, ap₂, subst}
 use Rattle.std.proofs.Common.{◌∙◌, arith}
 use Rattle.std.specs.Prelude.{Option, Result, Ok, Err, IsErrOf}
-use Rattle.base.specs.Cause.{Rose}
+use Rattle.base.specs.Cause.{Increased}
 use Rattle.base.specs.Written.{prefix_of, nothing_yet}
 use Rattle.game_io.specs.SinkState.{SinkState}
 use Rattle.frame_core.specs.Match.{agreed_world}
@@ -31,7 +31,7 @@ use Rattle.drill.proofs.RunsEventsLemmas.{peers_are}
 as_unit : {T : Type 0} (fault : RunFault) → IsErrOf {T = T} (Err fault) Write → IsErrOf {T = Unit {0}} (Err fault) Write
 as_unit fault is = let same : fault ≡ Write = cc in ap Err same
 
-rose_first : (a b c : ℕ) → a ≤ b → Rose b c → Rose a c
+rose_first : (a b c : ℕ) → a ≤ b → Increased b c → Increased a c
 rose_first a b c first rose = omega (arith, first, rose)
 
 -- The match that was opened is whole.
@@ -140,7 +140,7 @@ pub events_cut :
     {W : Type 0} (m : Match W) (events : List Event) (old new : SinkState) (run run' : RunState W) (text text' : List ℕ)
     (fault : RunFault) → run ≡ opened m → text ≡ [] →
     RunsEvents {E = RunFault} (match_from m.after m.hash m.summary run) 0 events run old.written text run' new.written text' (Err fault) →
-    old.faults ≤ new.faults → (IsErrOf {T = Unit {0}} (Err fault) Write → Rose old.faults new.faults) → Reports m events old new (Err fault)
+    old.faults ≤ new.faults → (IsErrOf {T = Unit {0}} (Err fault) Write → Increased old.faults new.faults) → Reports m events old new (Err fault)
 events_cut m events old new run run' text text' fault run_is text_is runs later failed =
     let all = opened_runs m events run run' old.written new.written text text' (Err fault) run_is text_is runs in
     record {
@@ -166,7 +166,7 @@ pub closing_cut :
     RunsEvents {E = RunFault} (match_from m.after m.hash m.summary run) 0 events run old.written text run' mid.written text' (Ok tt) →
     server ≡ run'.server → peers ≡ run'.peers →
     CutsLines mid.written text' new.written (closing m.hash m.summary server peers) →
-    old.faults ≤ mid.faults → mid.faults ≤ new.faults → (IsErrOf {T = Unit {0}} (Err fault) Write → Rose mid.faults new.faults) →
+    old.faults ≤ mid.faults → mid.faults ≤ new.faults → (IsErrOf {T = Unit {0}} (Err fault) Write → Increased mid.faults new.faults) →
     Reports m events old new (Err fault)
 closing_cut m events old mid new run run' text text' server peers fault run_is text_is clients_are lag_is runs server_eq peers_eq cuts first later failed =
     let all = opened_runs m events run run' old.written mid.written text text' (Ok tt) run_is text_is runs in

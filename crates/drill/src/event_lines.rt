@@ -1,7 +1,7 @@
 //! What becomes of the lines of a drill's events.
 ghost use Rattle.std.specs.Prelude.{◌≡◌, ◌≤◌, [], string_bytes, OnOk, OnErr};
 ghost use Rattle.std.specs.Prelude.{IsErrOf};
-ghost use Rattle.base.specs.Cause.{Rose};
+ghost use Rattle.base.specs.Cause.{Increased};
 ghost use Rattle.base.specs.Written.{Wrote, WrotePrefix};
 ghost use Rattle.drill.specs.Text.{outcome_line};
 ghost use Rattle.drill.specs.RunsEvents.{PrintsLines, CutsLines};
@@ -17,7 +17,7 @@ const PIECE: usize = 65_536;
 /// What becomes of the lines of events, in a run with a sink of this type.
 pub(crate) trait EventLines<K: Sink> {
     ghost use Rattle.std.specs.Prelude.{◌≡◌, ◌≤◌, List, ℕ, OnOk, OnErr, IsErrOf};
-    ghost use Rattle.base.specs.Cause.{Rose};
+    ghost use Rattle.base.specs.Cause.{Increased};
     ghost use Rattle.drill.specs.Text.{outcome_line};
     ghost use Rattle.drill.specs.RunsEvents.{PrintsLines, CutsLines};
 
@@ -32,7 +32,7 @@ pub(crate) trait EventLines<K: Sink> {
             (K.state out.new).written (outcome_line number outcome.now)) }
         ensures later { (K.state out.old).faults ≤ (K.state out.new).faults }
         ensures failed { IsErrOf result RunFault.Write →
-            Rose (K.state out.old).faults (K.state out.new).faults };
+            Increased (K.state out.old).faults (K.state out.new).faults };
 }
 
 /// The lines are printed, in pieces.
@@ -99,7 +99,7 @@ fn flush_if_full<K: Sink>(text: &mut String, out: &mut K) -> Result<(), RunFault
     ensures prefix { OnErr result
         (WrotePrefix (K.state out.old).written (K.state out.new).written (string_bytes text.old)) }
     ensures later { (K.state out.old).faults ≤ (K.state out.new).faults }
-    ensures failed { OnErr result (Rose (K.state out.old).faults (K.state out.new).faults) }
+    ensures failed { OnErr result (Increased (K.state out.old).faults (K.state out.new).faults) }
 {
     if text.len() < PIECE {
         return Ok(());
@@ -115,7 +115,7 @@ pub(crate) fn flush<K: Sink>(text: &mut String, out: &mut K) -> Result<(), RunFa
     ensures prefix { OnErr result
         (WrotePrefix (K.state out.old).written (K.state out.new).written (string_bytes text.old)) }
     ensures later { (K.state out.old).faults ≤ (K.state out.new).faults }
-    ensures failed { OnErr result (Rose (K.state out.old).faults (K.state out.new).faults) }
+    ensures failed { OnErr result (Increased (K.state out.old).faults (K.state out.new).faults) }
 {
     match out.put(text.as_bytes()) {
         Ok(()) => {

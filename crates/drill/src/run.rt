@@ -2,7 +2,7 @@
 ghost use Rattle.std.specs.Prelude.{◌≡◌, ◌<◌, ◌≤◌, ◌++◌, [], ◌∷◌, true, string_bytes, length, OnOk};
 ghost use Rattle.std.specs.Prelude.{OnErr, IsErrOf, IfOk};
 ghost use Rattle.std.specs.List.{list_all};
-ghost use Rattle.base.specs.Cause.{Rose};
+ghost use Rattle.base.specs.Cause.{Increased};
 ghost use Rattle.drill_words.specs.Event.{event_fits};
 ghost use Rattle.drill_words.specs.EventView.{event_of};
 ghost use Rattle.drill.specs.Report.{closing};
@@ -92,7 +92,7 @@ fn run_events<W: Sim, K: Sink, L: EventLines<K>>(
         run.new (K.state out.new).written (L.kept lines.new) result }
     ensures later { (K.state out.old).faults ≤ (K.state out.new).faults }
     ensures failed { IsErrOf result RunFault.Write →
-        Rose (K.state out.old).faults (K.state out.new).faults }
+        Increased (K.state out.old).faults (K.state out.new).faults }
 {
     for number in 0..events.len() {
         let event = events.get(number);
@@ -120,7 +120,7 @@ fn take_event<W: Sim, K: Sink, L: EventLines<K>>(
         run.new (K.state out.new).written (L.kept lines.new) result }
     ensures later { (K.state out.old).faults ≤ (K.state out.new).faults }
     ensures failed { IsErrOf result RunFault.Write →
-        Rose (K.state out.old).faults (K.state out.new).faults }
+        Increased (K.state out.old).faults (K.state out.new).faults }
 {
     let Ok(outcome) = run.run_event(event) else {
         return Err(RunFault::NoMemory);
@@ -142,7 +142,7 @@ fn finish<W: Sim, K: Sink>(
         (K.state out.new).written (closing W.hash_of W.summary_of left.now.server left.now.peers)) }
     ensures later { (K.state out.old).faults ≤ (K.state out.new).faults }
     ensures failed { IsErrOf result RunFault.Write →
-        Rose (K.state out.old).faults (K.state out.new).faults }
+        Increased (K.state out.old).faults (K.state out.new).faults }
 {
     let Ok(()) = add_closing(text, left) else {
         return Err(RunFault::NoMemory);

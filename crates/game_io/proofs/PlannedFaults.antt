@@ -4,7 +4,7 @@ use Rattle.std.proofs.Common.{◌≡◌, ℕ, ◌+◌, ◌-◌, ◌^◌, ◌<◌
 use Rattle.std.proofs.lemmas.List.Sums.{sum_by-cons}
 use Rattle.std.proofs.lemmas.Bool.{eqb-false}
 use Rattle.std.proofs.lemmas.Bool.Decides.{nat_tests}
-use Rattle.base.specs.Cause.{Rose}
+use Rattle.base.specs.Cause.{Increased}
 use Rattle.game_io.specs.Plan.{is_past, remains_at}
 use Rattle.game_io.specs.declared.failing_call.FailingCall.{FailingCall}
 use Rattle.game_io.specs.declared.failing_call.Remains.{Remains}
@@ -32,7 +32,7 @@ at_most : (less more others : ℕ) → less ≤ more → min (less + others) (2 
 at_most less more others h = omega arith
 
 -- A part that grew by one raises the sum.
-raised : (less more others : ℕ) → less + 1 ≤ more → Rose (min (less + others) (2 ^ 64 - 1)) (min (more + others) (2 ^ 64 - 1))
+raised : (less more others : ℕ) → less + 1 ≤ more → Increased (min (less + others) (2 ^ 64 - 1)) (min (more + others) (2 ^ 64 - 1))
 raised less more others h = omega arith
 
 -- With more calls no fewer of the planned ones are past.
@@ -77,7 +77,7 @@ faults_called calls now failing unplanned small e =
 pub faults_failed :
     (calls now : ℕ) (failing : List FailingCall) (unplanned : ℕ) (remains : Option Remains) → OnSome remains (calls < 2 ^ 32) →
     remains ≡ remains_at calls failing → now ≡ min (calls + 1) (2 ^ 64 - 1) →
-    OnSome remains (Rose (min (count_by (is_past calls) failing + unplanned) (2 ^ 64 - 1)) (min (count_by (is_past now) failing + unplanned) (2 ^ 64 - 1)))
+    OnSome remains (Increased (min (count_by (is_past calls) failing + unplanned) (2 ^ 64 - 1)) (min (count_by (is_past now) failing + unplanned) (2 ^ 64 - 1)))
 faults_failed calls now failing unplanned None small is e = tt
 faults_failed calls now failing unplanned (Some remains) small is e =
     raised (count_by (is_past calls) failing) (count_by (is_past now) failing) unplanned

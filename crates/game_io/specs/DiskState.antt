@@ -3,7 +3,7 @@ use Rattle.std.specs.Prelude.{◌≡◌, ℕ, ◌≤◌, nat_lt, if◌then◌els
 use Rattle.std.specs.Prelude.{Some, Result, Ok, Err, IfOk, IfSome, IfNone, IsSome, ◌⊎◌}
 use Rattle.std.specs.Option.{option_map}
 use Rattle.std.specs.Global.{Vec}
-use Rattle.base.specs.Cause.{Rose}
+use Rattle.base.specs.Cause.{Increased}
 use Rattle.game_io.specs.Files.{Files, with_file}
 use Rattle.game_io.specs.declared.disk_error.DiskError.{DiskError}
 use Rattle.game_io.specs.declared.disk_error.DiskError.TheVariants.{Missing, Failed, TooLong}
@@ -51,10 +51,10 @@ pub record ReadsFile
     : Type 0 where
   pub same : new.files ≡ old.files
   pub told : IfSome old.files (λ files. IsAnswer result (files name) limit)
-  pub untold : IfNone old.files (OnRefused result (Rose old.faults new.faults))
+  pub untold : IfNone old.files (OnRefused result (Increased old.faults new.faults))
   pub short : IfOk result (λ bytes. length bytes.items ≤ limit)
   pub later : old.faults ≤ new.faults
-  pub failed : OnFailed result (Rose old.faults new.faults)
+  pub failed : OnFailed result (Increased old.faults new.faults)
 
 -- After a failed write the name holds what it held, nothing, or a prefix of the bytes.
 abbrev pub LeftPartly : Option Files → Option Files → List ℕ → List ℕ → Type 0
@@ -80,4 +80,4 @@ pub record WritesFile {T : Type 0}
     (old new : DiskState) (name bytes : List ℕ) (result : Result T DiskError) : Type 0 where
   pub files : LeavesFiles result old.files new.files name bytes
   pub later : old.faults ≤ new.faults
-  pub failed : OnFailed result (Rose old.faults new.faults)
+  pub failed : OnFailed result (Increased old.faults new.faults)

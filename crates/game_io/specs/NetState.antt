@@ -2,7 +2,7 @@
 use Rattle.std.specs.Prelude.{◌≡◌, ℕ, ◌+◌, ◌-◌, ◌^◌, ◌≤◌, min, List, [], ◌∷◌, ◌++◌, drop, slice_get}
 use Rattle.std.specs.Prelude.{slice_set, Option, None, Some, Result, IfOk, OnOk, OnErr, IfSome}
 use Rattle.std.specs.Option.{option_map}
-use Rattle.base.specs.Cause.{Rose}
+use Rattle.base.specs.Cause.{Increased}
 use Rattle.game_io.specs.SourceState.{SourceState}
 use Rattle.game_io.specs.SinkState.{SinkState}
 
@@ -49,7 +49,7 @@ pub record Listens {T E : Type 0} (old new : NetState) (result : Result T E) : T
   pub coming : new.coming ≡ old.coming
   pub given : new.given ≡ old.given
   pub later : old.faults ≤ new.faults
-  pub failed : OnErr result (Rose old.faults new.faults)
+  pub failed : OnErr result (Increased old.faults new.faults)
 
 -- A link that is given now, by what the net told of those to come: no half has failed yet, and
 -- nothing was written.
@@ -71,7 +71,7 @@ pub record GivesLink {I O E : Type 0}
   pub still_coming : OnErr result (new.coming ≡ old.coming)
   pub none_given : OnErr result (new.given ≡ old.given)
   pub later : old.faults ≤ new.faults
-  pub failed : OnErr result (Rose old.faults new.faults)
+  pub failed : OnErr result (Increased old.faults new.faults)
 
 -- A call takes back the link of this number, whose halves are in these states.
 pub record TakesBack

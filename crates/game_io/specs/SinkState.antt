@@ -1,6 +1,6 @@
 -- A sink as contracts see it, and what a call that writes to it did.
 use Rattle.std.specs.Prelude.{ℕ, ◌≤◌, List, Option, Result, OnOk, OnErr}
-use Rattle.base.specs.Cause.{Rose}
+use Rattle.base.specs.Cause.{Increased}
 use Rattle.base.specs.Written.{Wrote, WrotePrefix}
 
 -- The bytes that were written, where the sink tells them, and how often it has failed, up to the
@@ -18,4 +18,4 @@ pub record WritesBytes {T E : Type 0}
   pub wrote : OnOk result (Wrote old.written new.written bytes)
   pub prefix : OnErr result (WrotePrefix old.written new.written bytes)
   pub later : old.faults ≤ new.faults
-  pub failed : is_write_fault → Rose old.faults new.faults
+  pub failed : is_write_fault → Increased old.faults new.faults

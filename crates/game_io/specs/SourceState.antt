@@ -2,7 +2,7 @@
 use Rattle.std.specs.Prelude.{◌≡◌, ℕ, ◌<◌, ◌≤◌, ◌↔◌, List, [], length, take, drop, Option, Result}
 use Rattle.std.specs.Prelude.{IfOk, OnErr, IfSome}
 use Rattle.std.specs.Option.{option_map}
-use Rattle.base.specs.Cause.{Rose}
+use Rattle.base.specs.Cause.{Increased}
 
 -- The bytes that are left, where the source tells them, and how often it has failed, up to the
 -- greatest 64-bit number.
@@ -21,7 +21,7 @@ pub record TakesBytes {E : Type 0}
       (λ count. 0 < length into → IfSome old.left (λ bytes. (count ≡ 0) ↔ (bytes ≡ [])))
   pub unmoved : OnErr result (new.left ≡ old.left)
   pub later : old.faults ≤ new.faults
-  pub failed : OnErr result (Rose old.faults new.faults)
+  pub failed : OnErr result (Increased old.faults new.faults)
 
 -- `room` and `into` are the place before and after the call. After the bytes that were moved there
 -- it is as it was, and after a failed call all of it is.

@@ -1,6 +1,6 @@
 ghost use Rattle.std.specs.Prelude.{◌≡◌, ◌⊎◌, ◌++◌, ◌≤◌, ℕ, List, [], Some, IfSome, IfNone, IsErr};
 ghost use Rattle.std.specs.Prelude.{OnOk, OnErr, is_ok, if◌then◌else◌};
-ghost use Rattle.base.specs.Cause.{Rose};
+ghost use Rattle.base.specs.Cause.{Increased};
 ghost use Rattle.base.specs.Written.{WrotePrefix};
 ghost use Rattle.game_io.specs.SinkState.{WritesBytes};
 ghost use Rattle.game_io.specs.Plan.{faults_of, next_remains, fresh, missed};
@@ -49,7 +49,7 @@ impl MemSink {
             (self.new ≡ record { bytes = self.old.bytes; plan = missed self.old.plan }) }
         ensures prefix { WrotePrefix (Some self.old.bytes) (Some self.new.bytes) bytes.now }
         ensures later { faults_of self.old.plan ≤ faults_of self.new.plan }
-        ensures rose { OnErr result (Rose (faults_of self.old.plan) (faults_of self.new.plan)) }
+        ensures rose { OnErr result (Increased (faults_of self.old.plan) (faults_of self.new.plan)) }
     {
         match self.bytes.extend_from_slice(bytes) {
             Ok(()) => Ok(()),

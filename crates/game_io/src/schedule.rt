@@ -1,5 +1,5 @@
 ghost use Rattle.std.specs.Prelude.{◌≡◌, ℕ, ◌+◌, ◌^◌, ◌<◌, ◌≤◌, List, [], OnSome, IfNone};
-ghost use Rattle.base.specs.Cause.{Rose};
+ghost use Rattle.base.specs.Cause.{Increased};
 ghost use Rattle.game_io.specs.Plan.{Plan, remains_at, next_remains, fresh, faults_of, called};
 ghost use Rattle.game_io.specs.Plan.{missed};
 
@@ -56,7 +56,7 @@ impl Schedule {
         ensures value { result ≡ next_remains self.old }
         ensures after { self.new ≡ called self.old }
         ensures later { faults_of self.old ≤ faults_of self.new }
-        ensures rose { OnSome result (Rose (faults_of self.old) (faults_of self.new)) }
+        ensures rose { OnSome result (Increased (faults_of self.old) (faults_of self.new)) }
         ensures steady { IfNone result (faults_of self.new ≡ faults_of self.old) }
     {
         let remains = remains_at(self.calls, &self.failing);
@@ -67,7 +67,7 @@ impl Schedule {
     /// Counts a fault that was in no plan.
     pub(crate) fn miss(&mut self)
         ensures after { self.new ≡ missed self.old }
-        ensures rose { Rose (faults_of self.old) (faults_of self.new) }
+        ensures rose { Increased (faults_of self.old) (faults_of self.new) }
     {
         self.unplanned.raise();
     }

@@ -1,5 +1,5 @@
 ghost use Rattle.std.specs.Prelude.{◌≡◌, ◌<◌, ◌++◌, ◌∷◌, [], length, None, ◌≤◌, IfOk, OnOk, OnErr};
-ghost use Rattle.base.specs.Cause.{Rose};
+ghost use Rattle.base.specs.Cause.{Increased};
 ghost use Rattle.game_io.specs.declared.net.TheConstants.{MAX_LINKS};
 ghost use Rattle.game_io.specs.NetState.{IsNewLink};
 
@@ -88,7 +88,7 @@ impl<'a, R: Sockets<Listener = TcpListener, Stream = TcpStream>> TcpNet<'a, R> {
         ensures given { OnOk result (self.new.given.items ≡ self.old.given.items ++ None ∷ []) }
         ensures none_given { OnErr result (self.new.given.items ≡ self.old.given.items) }
         ensures later { self.old.faults ≤ self.new.faults }
-        ensures failed { OnErr result (Rose self.old.faults self.new.faults) }
+        ensures failed { OnErr result (Increased self.old.faults self.new.faults) }
     {
         match stream.and_then(halves) {
             Ok(link) => {

@@ -8,7 +8,7 @@ use Rattle.world_units.specs.declared.cell.CPos.{CPos}
 use Rattle.world_units.specs.Cells.{same_cell}
 use Rattle.world_units.specs.Directions.{step_of}
 use Rattle.game_model.specs.declared.map.Map.{Map}
-use Rattle.game_model.specs.Walks.{Land, fare_of}
+use Rattle.game_model.specs.Walks.{Land, step_cost_of}
 
 -- The eight directions.
 abbrev pub directions : List ℕ
@@ -24,14 +24,14 @@ lesser (Some cost) (Some other) = Some (min cost other)
 abbrev pub least_of : List (Option ℕ) → Option ℕ
 least_of costs = fold lesser None costs
 
--- The cost of a step together with that of the rest of the way. A fare of 0 allows no step.
-abbrev pub by_fare : (fare : ℕ) → (rest : Option ℕ) → Option ℕ
-by_fare zero rest = None
-by_fare (suc less) rest = option_map (λ left. suc less + left) rest
+-- The cost of a step together with that of the rest of the way. A step cost of 0 allows no step.
+abbrev pub by_step_cost : (step_cost : ℕ) → (rest : Option ℕ) → Option ℕ
+by_step_cost zero rest = None
+by_step_cost (suc less) rest = option_map (λ left. suc less + left) rest
 
 -- The same of the step from p into the neighbour in direction d, where there is one.
 abbrev pub by_step : Land → (CPos → Option ℕ) → CPos → ℕ → Option CPos → Option ℕ
-by_step land rest p d (Some q) = by_fare (fare_of land.toll p d q) (rest q)
+by_step land rest p d (Some q) = by_step_cost (step_cost_of land.entry_cost p d q) (rest q)
 by_step land rest p d None = None
 
 -- The least cost of a way from p that begins with direction d, where the cost of the rest is known

@@ -12,7 +12,7 @@ use Rattle.game_model.specs.Terrain.{cost_on}
 
 -- What each cell costs that is entered, 0 where it can't be entered, and the cell to go to.
 pub record Land : Type 0 where
-  pub toll : CPos → ℕ
+  pub entry_cost : CPos → ℕ
   pub goal : CPos
 
 abbrev pub cost_at : Costs → Option Terrain → ℕ
@@ -25,8 +25,8 @@ holds None = true
 
 -- What it costs to enter a cell on the way to a goal. A cell off the map can't be entered, nor one
 -- with a building that isn't the goal.
-unfoldable pub toll_of : Grid Terrain → Grid Bool → Costs → CPos → CPos → ℕ
-toll_of terrain built costs goal p =
+unfoldable pub entry_cost_of : Grid Terrain → Grid Bool → Costs → CPos → CPos → ℕ
+entry_cost_of terrain built costs goal p =
     if is_on terrain.width terrain.height p && (same_cell p goal || not (holds (at_cell built p)))
     then cost_at costs (at_cell terrain p)
     else 0
@@ -34,36 +34,36 @@ toll_of terrain built costs goal p =
 -- A map with its buildings, for a kind with these costs and a goal.
 abbrev pub land_of : Map → Grid Bool → Costs → CPos → Land
 land_of map built costs goal =
-    record { toll = toll_of map.terrain built costs goal; goal = goal }
+    record { entry_cost = entry_cost_of map.terrain built costs goal; goal = goal }
 
 -- The cell can be entered.
 abbrev pub is_free : (CPos → ℕ) → Option CPos → Bool
-is_free toll (Some p) = nat_lt 0 (toll p)
-is_free toll None = not true
+is_free entry_cost (Some p) = nat_lt 0 (entry_cost p)
+is_free entry_cost None = not true
 
 -- What the step from a cell in direction d costs that enters q, 0 where it isn't allowed. A step
 -- across a corner (odd directions) needs both cells beside it to be free.
-unfoldable pub fare_of : (CPos → ℕ) → CPos → ℕ → CPos → ℕ
-fare_of toll p d q =
-    if d % 2 == 0 then 5 * toll q
+unfoldable pub step_cost_of : (CPos → ℕ) → CPos → ℕ → CPos → ℕ
+step_cost_of entry_cost p d q =
+    if d % 2 == 0 then 5 * entry_cost q
     else (
-    if is_free toll (step_of p ((d + 1) % 8)) && is_free toll (step_of p ((d + 7) % 8))
-    then 7 * toll q
+    if is_free entry_cost (step_of p ((d + 1) % 8)) && is_free entry_cost (step_of p ((d + 7) % 8))
+    then 7 * entry_cost q
     else 0
     )
 
 -- An allowed step from a cell in direction d, which enters q and costs k.
-pub record IsStep (toll : CPos → ℕ) (p : CPos) (d : ℕ) (q : CPos) (k : ℕ) : Type 0 where
+pub record IsStep (entry_cost : CPos → ℕ) (p : CPos) (d : ℕ) (q : CPos) (k : ℕ) : Type 0 where
   pub direction : d < 8
   pub enters : step_of p d ≡ Some q
-  pub cost : fare_of toll p d q ≡ k
+  pub cost : step_cost_of entry_cost p d q ≡ k
   pub allowed : 0 < k
 
 -- A walk from a cell over these cells to the goal, whose steps cost n together.
 abbrev pub IsWalk : Land → CPos → List CPos → ℕ → Type 0
 IsWalk land p [] n = (p ≡ land.goal) × (n ≡ 0)
 IsWalk land p (q ∷ cells) n =
-    (d : ℕ) × (k : ℕ) × (m : ℕ) × IsStep land.toll p d q k × (n ≡ k + m) × IsWalk land q cells m
+    (d : ℕ) × (k : ℕ) × (m : ℕ) × IsStep land.entry_cost p d q k × (n ≡ k + m) × IsWalk land q cells m
 
 -- The distance of a cell: the cost of a walk, and no walk costs less.
 pub record IsDistance (land : Land) (p : CPos) (n : ℕ) : Type 0 where
@@ -79,7 +79,7 @@ pub record LeadsOn (land : Land) (p : CPos) (d : ℕ) : Type 0 where
   pub entered : CPos
   pub cost : ℕ
   pub left : ℕ
-  pub step : IsStep land.toll p d entered cost
+  pub step : IsStep land.entry_cost p d entered cost
   pub here : IsDistance land p (cost + left)
   pub there : IsDistance land entered left
 

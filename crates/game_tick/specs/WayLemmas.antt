@@ -15,12 +15,12 @@ use Rattle.rule_traits.specs.declared.kind.Kind.{Kind}
 use Rattle.game_model.specs.declared.actor.Actor.{Actor}
 use Rattle.game_model.specs.declared.map.Map.{Map}
 use Rattle.game_model.specs.declared.terrain.Terrain.{Terrain}
-use Rattle.game_model.specs.BestDirection.{best_dir_of, by_fare, by_step, directions, distance_of}
+use Rattle.game_model.specs.BestDirection.{best_dir_of, by_step_cost, by_step, directions, distance_of}
 use Rattle.game_model.specs.BestDirection.{is_cost, leads_on}
 use Rattle.game_model.specs.Grid.{Grid, IsOn, is_on, at_cell}
 use Rattle.game_model.specs.Setup.{Setup}
 use Rattle.game_model.specs.ValidMap.{IsMapFor}
-use Rattle.game_model.specs.Walks.{Land, cost_at, fare_of, holds, is_free, land_of, toll_of}
+use Rattle.game_model.specs.Walks.{Land, cost_at, step_cost_of, holds, is_free, land_of, entry_cost_of}
 use Rattle.game_model.specs.World.{is_occupied}
 use Rattle.game_model.specs.Kinds.{costs_in}
 use Rattle.game_tick.specs.ChangesLemmas.{All-found, found_in}
@@ -30,33 +30,33 @@ pub record IsWay (map : Map) (p : CPos) (d : ℕ) : Type 0 where
   pub direction : d < DIRECTIONS
   pub enters : (q : CPos) → step_of p d ≡ Some q → IsOn map.width map.height q
 
-fare_needs_toll :
-    (even free : Bool) (toll : ℕ) →
-    0 < (if even then 5 * toll else (if free then 7 * toll else 0)) → 0 < toll
-fare_needs_toll true free toll more = omega arith
-fare_needs_toll false true toll more = omega arith
-fare_needs_toll false false toll more = absurd (omega arith)
+step_cost_needs_entry_cost :
+    (even free : Bool) (entry_cost : ℕ) →
+    0 < (if even then 5 * entry_cost else (if free then 7 * entry_cost else 0)) → 0 < entry_cost
+step_cost_needs_entry_cost true free entry_cost more = omega arith
+step_cost_needs_entry_cost false true entry_cost more = omega arith
+step_cost_needs_entry_cost false false entry_cost more = absurd (omega arith)
 
-toll_of_fare : (toll : CPos → ℕ) (p : CPos) (d : ℕ) (q : CPos) → 0 < fare_of toll p d q → 0 < toll q
-unfolding fare_of
-toll_of_fare toll p d q more =
-    fare_needs_toll (d % 2 == 0)
-    (is_free toll (step_of p ((d + 1) % 8)) && is_free toll (step_of p ((d + 7) % 8))) (toll q) more
+entry_cost_of_step_cost : (entry_cost : CPos → ℕ) (p : CPos) (d : ℕ) (q : CPos) → 0 < step_cost_of entry_cost p d q → 0 < entry_cost q
+unfolding step_cost_of
+entry_cost_of_step_cost entry_cost p d q more =
+    step_cost_needs_entry_cost (d % 2 == 0)
+    (is_free entry_cost (step_of p ((d + 1) % 8)) && is_free entry_cost (step_of p ((d + 7) % 8))) (entry_cost q) more
 
-cost_needs_fare :
-    (fare : ℕ) (rest here : Option ℕ) → is_cost (by_fare fare rest) here ≡ true → 0 < fare
-cost_needs_fare zero rest here is = absurd cc
-cost_needs_fare (suc less) rest here is = omega arith
+cost_needs_step_cost :
+    (step_cost : ℕ) (rest here : Option ℕ) → is_cost (by_step_cost step_cost rest) here ≡ true → 0 < step_cost
+cost_needs_step_cost zero rest here is = absurd cc
+cost_needs_step_cost (suc less) rest here is = omega arith
 
-cost_needs_toll :
+cost_needs_entry_cost :
     (land : Land) (rest : CPos → Option ℕ) (p : CPos) (d : ℕ) (to : Option CPos) (here : Option ℕ)
     (q : CPos) → to ≡ Some q →
-    is_cost (by_step land rest p d to) here ≡ true → 0 < land.toll q
-cost_needs_toll land rest p d (Some r) here q same is =
+    is_cost (by_step land rest p d to) here ≡ true → 0 < land.entry_cost q
+cost_needs_entry_cost land rest p d (Some r) here q same is =
     let at : r ≡ q = grind arith in
-    subst (λ s. 0 < land.toll s) at
-    (toll_of_fare land.toll p d r (cost_needs_fare (fare_of land.toll p d r) (rest r) here is))
-cost_needs_toll land rest p d None here q same is = absurd cc
+    subst (λ s. 0 < land.entry_cost s) at
+    (entry_cost_of_step_cost land.entry_cost p d r (cost_needs_step_cost (step_cost_of land.entry_cost p d r) (rest r) here is))
+cost_needs_entry_cost land rest p d None here q same is = absurd cc
 
 directions_below : All (λ d. d < DIRECTIONS) directions
 directions_below =
@@ -81,36 +81,36 @@ find_passes test xs y found =
 best_by :
     (here : Bool) (map : Map) (land : Land) (p : CPos) (d : ℕ) →
     (if here then None else find (leads_on map land p) directions) ≡ Some d →
-    (d < DIRECTIONS) × ((q : CPos) → step_of p d ≡ Some q → 0 < land.toll q)
+    (d < DIRECTIONS) × ((q : CPos) → step_of p d ≡ Some q → 0 < land.entry_cost q)
 best_by true map land p d found = absurd cc
 best_by false map land p d found =
     let passes : leads_on map land p d ≡ true =
     find_passes (leads_on map land p) directions d found in (
       All-found (λ e. e < DIRECTIONS) (leads_on map land p) directions d directions_below found,
       λ q to.
-          cost_needs_toll land (distance_of map land) p d (step_of p d) (distance_of map land p) q
+          cost_needs_entry_cost land (distance_of map land) p d (step_of p d) (distance_of map land p) q
           to
           passes,
     )
 
 best_enters :
     (map : Map) (land : Land) (p : CPos) (d : ℕ) → best_dir_of map land p ≡ Some d →
-    (d < DIRECTIONS) × ((q : CPos) → step_of p d ≡ Some q → 0 < land.toll q)
+    (d < DIRECTIONS) × ((q : CPos) → step_of p d ≡ Some q → 0 < land.entry_cost q)
 unfolding best_dir_of
 best_enters map land p d found = best_by (same_cell p land.goal) map land p d found
 
-toll_needs_map :
+entry_cost_needs_map :
     (here able : Bool) (cost : ℕ) → 0 < (if here && able then cost else 0) → here ≡ true
-toll_needs_map true able cost more = refl
-toll_needs_map false able cost more = absurd (omega arith)
+entry_cost_needs_map true able cost more = refl
+entry_cost_needs_map false able cost more = absurd (omega arith)
 
-pub toll_on_map :
+pub entry_cost_on_map :
     (terrain : Grid Terrain) (built : Grid Bool) (kind : Kind) (goal p : CPos) →
-    0 < toll_of terrain built (costs_in kind.mobile) goal p →
+    0 < entry_cost_of terrain built (costs_in kind.mobile) goal p →
     is_on terrain.width terrain.height p ≡ true
-unfolding toll_of
-toll_on_map terrain built kind goal p more =
-    toll_needs_map (is_on terrain.width terrain.height p)
+unfolding entry_cost_of
+entry_cost_on_map terrain built kind goal p more =
+    entry_cost_needs_map (is_on terrain.width terrain.height p)
     (same_cell p goal || not (holds (at_cell built p)))
     (cost_at (costs_in kind.mobile) (at_cell terrain p)) more
 
@@ -133,7 +133,7 @@ best_is_way setup built kind p goal d map found =
           λ q to.
           let on =
           on_from_test setup.map.terrain.width setup.map.terrain.height q
-          (toll_on_map setup.map.terrain built kind goal q (enters q to)) in
+          (entry_cost_on_map setup.map.terrain built kind goal q (enters q to)) in
           record {
             column = omega (arith, on.column, map.terrain.width);
             row = omega (arith, on.row, map.terrain.height);

@@ -78,7 +78,7 @@ skipped land f s l search whole clear p below less =
           absurd (clear.none (label_of f.labels p) held.place p high below held.at refl)
     ]
 
-module _ (toll : CPos → ℕ) (goal : CPos) (f : Distances) (s : Shelves) (l : ℕ) (g : Grid ℕ) (t : Shelves) (search : IsSearch (record { toll = toll; goal = goal }) f s) (whole : s.lost ≡ false) (next : IsNext f s l) (low : Lowers toll l f.labels s g t) (done : (i : ℕ) (q : CPos) → IsAt s (l % 71) i q → label_of f.labels q ≡ l → IsExpanded toll g l q) (unfinished : f.level < NONE) where
+module _ (entry_cost : CPos → ℕ) (goal : CPos) (f : Distances) (s : Shelves) (l : ℕ) (g : Grid ℕ) (t : Shelves) (search : IsSearch (record { entry_cost = entry_cost; goal = goal }) f s) (whole : s.lost ≡ false) (next : IsNext f s l) (low : Lowers entry_cost l f.labels s g t) (done : (i : ℕ) (q : CPos) → IsAt s (l % 71) i q → label_of f.labels q ≡ l → IsExpanded entry_cost g l q) (unfinished : f.level < NONE) where
   few : length f.labels.cells < 65536
   few = omega (arith, search.full.size, mul-lt f.labels.width f.labels.height 256 256 search.full.wide search.full.high)
 
@@ -96,15 +96,15 @@ module _ (toll : CPos → ℕ) (goal : CPos) (f : Distances) (s : Shelves) (l : 
   pass-low = omega (arith, some-open, bound, next.near)
 
   new-land : Land
-  new-land = record { toll = toll; goal = goal }
+  new-land = record { entry_cost = entry_cost; goal = goal }
 
   walks :
-      (p : CPos) → label_of g p < NONE → (cells : List CPos) × IsWalk (record { toll = toll; goal = goal }) p cells (label_of g p)
+      (p : CPos) → label_of g p < NONE → (cells : List CPos) × IsWalk (record { entry_cost = entry_cost; goal = goal }) p cells (label_of g p)
   walks p less =
       elim (low.each p) [
         | inl same ↦
             let old = search.right.walks p (rw same at less) in
-            (old.0, subst (λ (n : ℕ). IsWalk (record { toll = toll; goal = goal }) p old.0 n) (sym same) old.1)
+            (old.0, subst (λ (n : ℕ). IsWalk (record { entry_cost = entry_cost; goal = goal }) p old.0 n) (sym same) old.1)
         | inr made ↦
             let old = search.right.walks made.entered (omega (arith, made.from, l-small)) in (
               made.entered ∷ old.0,
@@ -113,11 +113,11 @@ module _ (toll : CPos → ℕ) (goal : CPos) (f : Distances) (s : Shelves) (l : 
       ]
 
   closed :
-      (p q : CPos) (d k : ℕ) → IsOn g.width g.height p → IsStep toll p d q k → label_of g q < l + 1 →
+      (p q : CPos) (d k : ℕ) → IsOn g.width g.height p → IsStep entry_cost p d q k → label_of g q < l + 1 →
       label_of g p ≤ label_of g q + k
   closed p q d k on step below =
-      let was = level-was toll l f.labels s g t low q (omega arith) in
-      let fell = falls toll l f.labels s g t low p in
+      let was = level-was entry_cost l f.labels s g t low q (omega arith) in
+      let fell = falls entry_cost l f.labels s g t low p in
       let wide : g.width ≡ f.labels.width = low.size.width in
       let high : g.height ≡ f.labels.height = low.size.height in
       let here : IsOn f.labels.width f.labels.height p = record { column = rw wide at on.column; row = rw high at on.row } in
@@ -129,14 +129,14 @@ module _ (toll : CPos → ℕ) (goal : CPos) (f : Distances) (s : Shelves) (l : 
             omega (arith, most, was, same)
         | inr other ↦
             let less : label_of f.labels q < l = omega (arith, was) in
-            let before = skipped (record { toll = toll; goal = goal }) f s l search whole next.clear q less (omega (arith, l-small)) in
+            let before = skipped (record { entry_cost = entry_cost; goal = goal }) f s l search whole next.clear q less (omega (arith, l-small)) in
             let most = search.right.closed p q d k here step before in
             omega (arith, most, fell, was)
       ]
 
-  right : IsRight (record { toll = toll; goal = goal }) (record { labels = g; level = l + 1 })
+  right : IsRight (record { entry_cost = entry_cost; goal = goal }) (record { labels = g; level = l + 1 })
   right = record {
-    goal = level-stays toll l f.labels s g t low goal (omega (arith, search.right.goal)) ∙ search.right.goal;
+    goal = level-stays entry_cost l f.labels s g t low goal (omega (arith, search.right.goal)) ∙ search.right.goal;
     walks = walks;
     closed = closed;
     near = λ p less.
@@ -174,10 +174,10 @@ module _ (toll : CPos → ℕ) (goal : CPos) (f : Distances) (s : Shelves) (l : 
         ];
   }
 
-  pub passed : IsSearch (record { toll = toll; goal = goal }) (record { labels = g; level = l + 1 }) (emptied t (l % 71))
+  pub passed : IsSearch (record { entry_cost = entry_cost; goal = goal }) (record { labels = g; level = l + 1 }) (emptied t (l % 71))
   passed = record {
     goal = record { column = rw low.size.width search.goal.column; row = rw low.size.height search.goal.row };
-    full = full-stays toll l f.labels s g t low search.full;
+    full = full-stays entry_cost l f.labels s g t low search.full;
     room = low.room ∙ search.room ∙ sym low.cells;
     fair = record {
       inside = λ q allowed.

@@ -36,7 +36,7 @@ all-open : (g : Grid ℕ) → open_count 0 g ≤ length g.cells
 unfolding open_count
 all-open g = count_by-le-length _ g.cells
 
-module _ (land : Land) (f : Distances) (s : Shelves) (w h : ℕ) (full : IsFull f.labels) (fair : IsFair land.toll w h) (size : HasSize w h f.labels) (whole : IsWhole s) (empty : (b : ℕ) → len_of s b ≡ 0) (kept : s.lost ≡ false) (room : s.room ≡ w * h) (on : IsOn w h land.goal) where
+module _ (land : Land) (f : Distances) (s : Shelves) (w h : ℕ) (full : IsFull f.labels) (fair : IsFair land.entry_cost w h) (size : HasSize w h f.labels) (whole : IsWhole s) (empty : (b : ℕ) → len_of s b ≡ 0) (kept : s.lost ≡ false) (room : s.room ≡ w * h) (on : IsOn w h land.goal) where
   here : IsOn f.labels.width f.labels.height land.goal
   here = record { column = rw size.width on.column; row = rw size.height on.row }
 

@@ -10,7 +10,7 @@ use Rattle.game_model.specs.Walks.{Land, IsWalk, IsDistance, HasNoWalk, LeadsOn,
 use Rattle.grid_routes.specs.Labels.{Distances, label_of}
 use Rattle.grid_routes.specs.Held.{Shelves}
 use Rattle.grid_routes.specs.Steps.{IsSearch, IsLead, IsLeastLead}
-use Rattle.grid_routes.proofs.StepCosts.{step-on}
+use Rattle.grid_routes.proofs.StepCostLemmas.{step-on}
 
 module _ (land : Land) (f : Distances) (s : Shelves) (search : IsSearch land f s) where
   -- No walk costs less than the label or the level.
@@ -22,7 +22,7 @@ module _ (land : Land) (f : Distances) (s : Shelves) (search : IsSearch land f s
   at-least (q ∷ cells) p m on walk =
       let step = walk.3 in
       let sum = walk.4 in
-      let there = step-on land.toll f.labels.width f.labels.height search.fair p q walk.0 walk.1 step in
+      let there = step-on land.entry_cost f.labels.width f.labels.height search.fair p q walk.0 walk.1 step in
       elim (at-least cells q walk.2 there walk.5) [
         | inl least ↦ elim (cases_lt (label_of f.labels q) f.level) [
           | inl low ↦
@@ -44,7 +44,7 @@ module _ (land : Land) (f : Distances) (s : Shelves) (search : IsSearch land f s
       let goal = ap (λ c. label_of f.labels c) walk.0 ∙ search.right.goal in omega (arith, goal)
   labelled (q ∷ cells) p m end on walk =
       let step = walk.3 in
-      let there = step-on land.toll f.labels.width f.labels.height search.fair p q walk.0 walk.1 step in
+      let there = step-on land.entry_cost f.labels.width f.labels.height search.fair p q walk.0 walk.1 step in
       let less = labelled cells q walk.2 end there walk.5 in
       let most = search.right.closed p q walk.0 walk.1 on step (omega (arith, less)) in
       let small = search.right.small q less in
@@ -75,9 +75,9 @@ module _ (land : Land) (f : Distances) (s : Shelves) (search : IsSearch land f s
     here : IsDistance land p (label_of f.labels p)
     here = distance p on final less
 
-    leads-on : (d : ℕ) → IsLead land.toll f.labels p (label_of f.labels p) d → LeadsOn land p d
+    leads-on : (d : ℕ) → IsLead land.entry_cost f.labels p (label_of f.labels p) d → LeadsOn land p d
     leads-on d lead =
-        let there = step-on land.toll f.labels.width f.labels.height search.fair p lead.entered d lead.cost lead.step in
+        let there = step-on land.entry_cost f.labels.width f.labels.height search.fair p lead.entered d lead.cost lead.step in
         let allowed = lead.step.allowed in
         record {
           entered = lead.entered;
@@ -88,9 +88,9 @@ module _ (land : Land) (f : Distances) (s : Shelves) (search : IsSearch land f s
           there = distance lead.entered there (omega (arith, lead.label)) (omega (arith, lead.label));
         }
 
-    lead-of : (d : ℕ) → LeadsOn land p d → IsLead land.toll f.labels p (label_of f.labels p) d
+    lead-of : (d : ℕ) → LeadsOn land p d → IsLead land.entry_cost f.labels p (label_of f.labels p) d
     lead-of d leads =
-        let there = step-on land.toll f.labels.width f.labels.height search.fair p leads.entered d leads.cost leads.step in
+        let there = step-on land.entry_cost f.labels.width f.labels.height search.fair p leads.entered d leads.cost leads.step in
         let mine = here.walk in
         let a = here.least leads.here.walk.0 (leads.cost + leads.left) leads.here.walk.1 in
         let b = leads.here.least mine.0 (label_of f.labels p) mine.1 in
@@ -104,7 +104,7 @@ module _ (land : Land) (f : Distances) (s : Shelves) (search : IsSearch land f s
         }
 
     -- The least direction to a label that is less by the step's cost is the best direction.
-    pub best-is : (d : ℕ) → IsLeastLead land.toll f.labels p (label_of f.labels p) d → IsBest land p d
+    pub best-is : (d : ℕ) → IsLeastLead land.entry_cost f.labels p (label_of f.labels p) d → IsBest land p d
     best-is d least = record {
       leads = leads-on d least.leads;
       least = λ e leads. least.least e (lead-of e leads);
@@ -113,18 +113,18 @@ module _ (land : Land) (f : Distances) (s : Shelves) (search : IsSearch land f s
     -- Where no direction leads on the cell is the goal.
     no-lead :
         (cells : List CPos) → IsWalk land p cells (label_of f.labels p) →
-        ((d : ℕ) → IsLead land.toll f.labels p (label_of f.labels p) d → ⊥) → p ≡ land.goal
+        ((d : ℕ) → IsLead land.entry_cost f.labels p (label_of f.labels p) d → ⊥) → p ≡ land.goal
     no-lead [] walk none = walk.0
     no-lead (q ∷ cells) walk none =
         let step = walk.3 in
-        let there = step-on land.toll f.labels.width f.labels.height search.fair p q walk.0 walk.1 step in
+        let there = step-on land.entry_cost f.labels.width f.labels.height search.fair p q walk.0 walk.1 step in
         let allowed = step.allowed in
         let sum = walk.4 in
         let least : label_of f.labels q ≤ walk.2 = elim (at-least cells q walk.2 there walk.5) [ inl least ↦ least | inr least ↦ absurd (omega (arith, sum)) ] in
         let most = search.right.closed p q walk.0 walk.1 on step (omega (arith, sum, least)) in
         absurd (none walk.0 (record { entered = q; cost = walk.1; step = step; label = omega (arith, sum, least, most) }))
 
-    pub no-lead-goal : ((d : ℕ) → IsLead land.toll f.labels p (label_of f.labels p) d → ⊥) → p ≡ land.goal
+    pub no-lead-goal : ((d : ℕ) → IsLead land.entry_cost f.labels p (label_of f.labels p) d → ⊥) → p ≡ land.goal
     no-lead-goal none = let some = search.right.walks p less in no-lead some.0 some.1 none
 
   -- Where there is no label in the end there is no walk.
@@ -141,13 +141,13 @@ pub best-direction :
     (land : Land) (f : Distances) (s : Shelves) → IsSearch land f s → (p : CPos) (n : ℕ) →
     IsOn f.labels.width f.labels.height p → label_of f.labels p ≤ f.level → n < NONE → n ≡ label_of f.labels p →
     (answer : Option ℕ) →
-    MatchOption answer ((d : ℕ) → IsLead land.toll f.labels p n d → ⊥) (λ d. IsLeastLead land.toll f.labels p n d) →
+    MatchOption answer ((d : ℕ) → IsLead land.entry_cost f.labels p n d → ⊥) (λ d. IsLeastLead land.entry_cost f.labels p n d) →
     IsBestDirection land p answer
 best-direction land f s search p n on final less is (Some d) least =
-    best-is land f s search p on final (omega arith) d (subst (λ (m : ℕ). IsLeastLead land.toll f.labels p m d) is least)
+    best-is land f s search p on final (omega arith) d (subst (λ (m : ℕ). IsLeastLead land.entry_cost f.labels p m d) is least)
 best-direction land f s search p n on final less is None none =
     inl (no-lead-goal land f s search p on final (omega arith)
-    (subst (λ (m : ℕ). (d : ℕ) → IsLead land.toll f.labels p m d → ⊥) is none))
+    (subst (λ (m : ℕ). (d : ℕ) → IsLead land.entry_cost f.labels p m d → ⊥) is none))
 
 pub no-direction :
     (land : Land) (f : Distances) (s : Shelves) → IsSearch land f s → (p : CPos) (n : ℕ) →
@@ -164,7 +164,7 @@ next-on land f s search p q d best there =
     let e : Some q ≡ Some leads.entered = there ∙ leads.step.enters in
     let one : leads.entered ≡ q = cc in
     subst (λ (x : CPos). IsOn f.labels.width f.labels.height x) one
-    (step-on land.toll f.labels.width f.labels.height search.fair p leads.entered d leads.cost leads.step)
+    (step-on land.entry_cost f.labels.width f.labels.height search.fair p leads.entered d leads.cost leads.step)
 
 -- and its label is final, as that of the cell before it.
 pub next-final :

@@ -14,11 +14,11 @@ use Rattle.rule_traits.specs.declared.trait_fields.Costs.{Costs}
 use Rattle.game_model.specs.Grid.{Grid, HasSize}
 use Rattle.grid_routes.specs.Least.{AreLeast}
 use Rattle.grid_routes.specs.Steps.{IsFair}
-use Rattle.grid_routes.specs.Tolls.{IsCheap}
-use Rattle.grid_routes.proofs.StepCosts.{fair-map}
+use Rattle.grid_routes.specs.EntryCosts.{IsCheap}
+use Rattle.grid_routes.proofs.StepCostLemmas.{fair-map}
 use Rattle.grid_routes.proofs.Shortest.{distance-most, rest-least}
-use Rattle.game_model.specs.Walks.{land_of, Land, IsStep, IsWalk, IsDistance, HasNoWalk, LeadsOn, IsBest, IsBestDirection, fare_of}
-use Rattle.game_model.specs.BestDirection.{directions, lesser, by_fare, by_step, by_direction, least_within, enough_steps, distance_of, is_cost, leads_on, best_dir_of}
+use Rattle.game_model.specs.Walks.{land_of, Land, IsStep, IsWalk, IsDistance, HasNoWalk, LeadsOn, IsBest, IsBestDirection, step_cost_of}
+use Rattle.game_model.specs.BestDirection.{directions, lesser, by_step_cost, by_step, by_direction, least_within, enough_steps, distance_of, is_cost, leads_on, best_dir_of}
 
 true-or-false : (b : Bool) → (b ≡ true) ⊎ (b ≡ false)
 true-or-false true = inl refl
@@ -138,27 +138,27 @@ record Begins (land : Land) (rest : CPos → Option ℕ) (p : CPos) (d c : ℕ) 
   entered : CPos
   left : ℕ
   enters : step_of p d ≡ Some entered
-  allowed : 0 < fare_of land.toll p d entered
+  allowed : 0 < step_cost_of land.entry_cost p d entered
   there : rest entered ≡ Some left
-  sum : c ≡ fare_of land.toll p d entered + left
+  sum : c ≡ step_cost_of land.entry_cost p d entered + left
 
-fare-is : (fare : ℕ) (rest : Option ℕ) (left : ℕ) → 0 < fare → rest ≡ Some left → by_fare fare rest ≡ Some (fare + left)
-fare-is zero rest left allowed is = absurd (omega arith)
-fare-is (suc less) rest left allowed is = ap (option_map (λ n. suc less + n)) is
+step_cost-is : (step_cost : ℕ) (rest : Option ℕ) (left : ℕ) → 0 < step_cost → rest ≡ Some left → by_step_cost step_cost rest ≡ Some (step_cost + left)
+step_cost-is zero rest left allowed is = absurd (omega arith)
+step_cost-is (suc less) rest left allowed is = ap (option_map (λ n. suc less + n)) is
 
-fare-back : (fare : ℕ) (rest : Option ℕ) (c : ℕ) → by_fare fare rest ≡ Some c → (left : ℕ) × (0 < fare) × (rest ≡ Some left) × (c ≡ fare + left)
-fare-back zero rest c is = absurd (cc)
-fare-back (suc less) None c is = absurd (cc)
-fare-back (suc less) (Some left) c is =
+step_cost-back : (step_cost : ℕ) (rest : Option ℕ) (c : ℕ) → by_step_cost step_cost rest ≡ Some c → (left : ℕ) × (0 < step_cost) × (rest ≡ Some left) × (c ≡ step_cost + left)
+step_cost-back zero rest c is = absurd (cc)
+step_cost-back (suc less) None c is = absurd (cc)
+step_cost-back (suc less) (Some left) c is =
     let sum : suc less + left ≡ c = (cc) in
     (left, omega arith, refl, sym sum)
 
 direction-is :
-    (land : Land) (rest : CPos → Option ℕ) (p : CPos) (d : ℕ) (q : CPos) (k left : ℕ) → IsStep land.toll p d q k →
+    (land : Land) (rest : CPos → Option ℕ) (p : CPos) (d : ℕ) (q : CPos) (k left : ℕ) → IsStep land.entry_cost p d q k →
     rest q ≡ Some left → by_direction land rest p d ≡ Some (k + left)
 direction-is land rest p d q k left step there =
     ap (by_step land rest p d) step.enters
-    ∙ fare-is (fare_of land.toll p d q) (rest q) left (omega (arith, step.cost, step.allowed)) there
+    ∙ step_cost-is (step_cost_of land.entry_cost p d q) (rest q) left (omega (arith, step.cost, step.allowed)) there
     ∙ ap (λ n. Some (n + left)) step.cost
 
 step-back :
@@ -166,7 +166,7 @@ step-back :
     by_step land rest p d o ≡ Some c → o ≡ step_of p d → Begins land rest p d c
 step-back land rest p d None c is there = absurd (cc)
 step-back land rest p d (Some q) c is there =
-    let parts = fare-back (fare_of land.toll p d q) (rest q) c is in
+    let parts = step_cost-back (step_cost_of land.entry_cost p d q) (rest q) c is in
     record { entered = q; left = parts.0; enters = sym there; allowed = parts.1; there = parts.2; sum = parts.3 }
 
 direction-back :
@@ -174,7 +174,7 @@ direction-back :
     Begins land rest p d c
 direction-back land rest p d c is = step-back land rest p d (step_of p d) c is refl
 
-begun-step : (land : Land) (rest : CPos → Option ℕ) (p : CPos) (d c : ℕ) → d < 8 → (b : Begins land rest p d c) → IsStep land.toll p d b.entered (fare_of land.toll p d b.entered)
+begun-step : (land : Land) (rest : CPos → Option ℕ) (p : CPos) (d c : ℕ) → d < 8 → (b : Begins land rest p d c) → IsStep land.entry_cost p d b.entered (step_cost_of land.entry_cost p d b.entered)
 begun-step land rest p d c low b = record { direction = low; enters = b.enters; cost = refl; allowed = b.allowed }
 
 -- A cost within some steps is that of a walk.
@@ -203,7 +203,7 @@ within-walk land (suc n) p k found =
                 let b = direction-back land (least_within land n) p one.0 k one.2 in
                 let rest = within-walk land n b.entered b.left b.there in
                 let step = begun-step land (least_within land n) p one.0 k (among-low one.0 one.1) b in
-                (b.entered ∷ rest.0, (one.0, fare_of land.toll p one.0 b.entered, b.left, step, b.sum, rest.1))
+                (b.entered ∷ rest.0, (one.0, step_cost_of land.entry_cost p one.0 b.entered, b.left, step, b.sum, rest.1))
           ]
     ]
 
@@ -344,7 +344,7 @@ one-best land p None None first second = refl
 one-best land p (Some d) None first second = absurd (none-best land p d first second)
 one-best land p None (Some e) first second = absurd (none-best land p e second first)
 
-module _ (map : Map) (land : Land) (fair : IsFair land.toll map.width map.height) where
+module _ (map : Map) (land : Land) (fair : IsFair land.entry_cost map.width map.height) where
   distance-walk :
       (p : CPos) (n : ℕ) → distance_of map land p ≡ Some n → (cells : List CPos) × IsWalk land p cells n
   unfolding distance_of
@@ -396,7 +396,7 @@ module _ (map : Map) (land : Land) (fair : IsFair land.toll map.width map.height
       let b = direction-back land (distance_of map land) p d both.0 both.1 in
       record {
         entered = b.entered;
-        cost = fare_of land.toll p d b.entered;
+        cost = step_cost_of land.entry_cost p d b.entered;
         left = b.left;
         step = begun-step land (distance_of map land) p d both.0 low b;
         here = subst (λ (m : ℕ). IsDistance land p m) b.sum (distance-least p both.0 both.2);

@@ -9,13 +9,13 @@ use Rattle.rule_traits.specs.declared.trait_fields.Costs.{Costs}
 use Rattle.game_model.specs.declared.terrain.Terrain.{Terrain}
 use Rattle.game_model.specs.declared.terrain.Terrain.TheVariants.{Clear, Road, Rough, Water, Rock}
 use Rattle.game_model.specs.Grid.{Grid, HasSize, IsOn, is_on, at_cell, place_of, with_cell}
-use Rattle.game_model.specs.Walks.{cost_at, fare_of, holds, is_free, toll_of}
+use Rattle.game_model.specs.Walks.{cost_at, step_cost_of, holds, is_free, entry_cost_of}
 use Rattle.grid_routes.specs.declared.surface.TheConstants.{ROCK}
-use Rattle.grid_routes.specs.declared.fares.Fares.{Fares}
+use Rattle.grid_routes.specs.declared.step_costs.StepCosts.{StepCosts}
 use Rattle.grid_routes.specs.Values.{value_in}
-use Rattle.grid_routes.specs.Fares.{AreFares, IsFareFrom}
+use Rattle.grid_routes.specs.StepCosts.{AreStepCosts, IsStepCostFrom}
 use Rattle.grid_routes.specs.Footing.{ArePut, IsFooting, IsRenewed, charges_of, number_at, number_or_rock}
-use Rattle.grid_routes.specs.Tolls.{Ground, AreTolls, toll_in}
+use Rattle.grid_routes.specs.EntryCosts.{Ground, AreEntryCosts, entry_cost_in}
 use Rattle.grid_routes.specs.Around.{number_in}
 use Rattle.grid_routes.specs.Beside.{IsBeside, IsPlaced}
 use Rattle.grid_routes.specs.declared.beside.Placed.{Placed}
@@ -149,38 +149,38 @@ off-map : (g : Grid ℕ) (p : CPos) → is_on g.width g.height p ≡ false → v
 unfolding value_in
 off-map g p outside = rw outside refl
 
--- The charge of a cell's number is its toll.
-pub toll-read :
-    (ground : Ground) (surface : Grid ℕ) (charges : List ℕ) (p : CPos) → AreTolls ground surface charges →
-    get_or charges (value_in ROCK surface p) 0 ≡ toll_in ground p
-unfolding toll_of number_at
-toll-read ground surface charges p tolls =
-    rw tolls.charged
+-- The charge of a cell's number is its entry cost.
+pub entry_cost-read :
+    (ground : Ground) (surface : Grid ℕ) (charges : List ℕ) (p : CPos) → AreEntryCosts ground surface charges →
+    get_or charges (value_in ROCK surface p) 0 ≡ entry_cost_in ground p
+unfolding entry_cost_of number_at
+entry_cost-read ground surface charges p entry_costs =
+    rw entry_costs.charged
     (elim (on-or-off (is_on ground.terrain.width ground.terrain.height p)) [
       | inl on ↦
           let here : IsOn ground.terrain.width ground.terrain.height p = is_on-on _ _ p on in
-          let there : IsOn surface.width surface.height p = record { column = rw tolls.size.width here.column; row = rw tolls.size.height here.row } in
-          let number = tolls.footing.each p there in
+          let there : IsOn surface.width surface.height p = record { column = rw entry_costs.size.width here.column; row = rw entry_costs.size.height here.row } in
+          let number = entry_costs.footing.each p there in
           rw (number, on)
           (charged-if ground.costs (same_cell p ground.goal || not (holds (at_cell ground.built p))) (at_cell ground.terrain p))
       | inr outside ↦
-          let away : is_on surface.width surface.height p ≡ false = rw (tolls.size.width, tolls.size.height) outside in
+          let away : is_on surface.width surface.height p ≡ false = rw (entry_costs.size.width, entry_costs.size.height) outside in
           rw (off-map surface p away, outside) refl
     ])
 
 -- Whether the cell with a number can be entered.
 free-read :
-    (ground : Ground) (surface : Grid ℕ) (charges : List ℕ) (o : Option CPos) → AreTolls ground surface charges →
-    nat_lt 0 (get_or charges (number_in surface o) 0) ≡ is_free (toll_in ground) o
-free-read ground surface charges (Some p) tolls = ap (λ n. nat_lt 0 n) (toll-read ground surface charges p tolls)
-free-read ground surface charges None tolls = rw tolls.charged refl
+    (ground : Ground) (surface : Grid ℕ) (charges : List ℕ) (o : Option CPos) → AreEntryCosts ground surface charges →
+    nat_lt 0 (get_or charges (number_in surface o) 0) ≡ is_free (entry_cost_in ground) o
+free-read ground surface charges (Some p) entry_costs = ap (λ n. nat_lt 0 n) (entry_cost-read ground surface charges p entry_costs)
+free-read ground surface charges None entry_costs = rw entry_costs.charged refl
 
 pub open-read :
     (ground : Ground) (surface : Grid ℕ) (charges : List ℕ) (o : Option CPos) (n : ℕ) (b : Bool) →
-    AreTolls ground surface charges → b ≡ nat_lt 0 (get_or charges n 0) → n ≡ number_in surface o →
-    b ≡ is_free (toll_in ground) o
-open-read ground surface charges o n b tolls is at =
-    is ∙ ap (λ k. nat_lt 0 (get_or charges k 0)) at ∙ free-read ground surface charges o tolls
+    AreEntryCosts ground surface charges → b ≡ nat_lt 0 (get_or charges n 0) → n ≡ number_in surface o →
+    b ≡ is_free (entry_cost_in ground) o
+open-read ground surface charges o n b entry_costs is at =
+    is ∙ ap (λ k. nat_lt 0 (get_or charges k 0)) at ∙ free-read ground surface charges o entry_costs
 
 pub number-within :
     (w h : ℕ) (g : Grid ℕ) (k : Placed) → IsFull g → HasSize w h g → IsPlaced w h k → k.at < length g.cells
@@ -231,79 +231,79 @@ between-low : (b : Bool) (t : ℕ) → t ≤ 10 → cond b (7 * t) 0 ≤ 70
 between-low true t low = omega arith
 between-low false t low = omega arith
 
--- The fares from all neighbours, by which of those that share a side are free.
-module _ (toll : CPos → ℕ) (q : CPos) (wide : q.x < 256) (high : q.y < 256) (t : ℕ) (north east south west : Bool)
-    (north_is : north ≡ is_free toll (step_of q 0)) (east_is : east ≡ is_free toll (step_of q 2))
-    (south_is : south ≡ is_free toll (step_of q 4)) (west_is : west ≡ is_free toll (step_of q 6))
-    (t_is : t ≡ toll q) (low : t ≤ 10) where
-  between : (left right : Bool) (fare : ℕ) → fare ≡ cond (left && right) (7 * t) 0 → cond (left && right) (7 * toll q) 0 ≡ fare
-  between left right fare is = ap (λ n. cond (left && right) (7 * n) 0) (sym t_is) ∙ sym is
+-- The step costs from all neighbours, by which of those that share a side are free.
+module _ (entry_cost : CPos → ℕ) (q : CPos) (wide : q.x < 256) (high : q.y < 256) (t : ℕ) (north east south west : Bool)
+    (north_is : north ≡ is_free entry_cost (step_of q 0)) (east_is : east ≡ is_free entry_cost (step_of q 2))
+    (south_is : south ≡ is_free entry_cost (step_of q 4)) (west_is : west ≡ is_free entry_cost (step_of q 6))
+    (t_is : t ≡ entry_cost q) (low : t ≤ 10) where
+  between : (left right : Bool) (step_cost : ℕ) → step_cost ≡ cond (left && right) (7 * t) 0 → cond (left && right) (7 * entry_cost q) 0 ≡ step_cost
+  between left right step_cost is = ap (λ n. cond (left && right) (7 * n) 0) (sym t_is) ∙ sym is
 
-  cheap-between : (left right : Bool) (fare : ℕ) → fare ≡ cond (left && right) (7 * t) 0 → fare ≤ 70
-  cheap-between left right fare is = rw is (between-low (left && right) t low)
+  cheap-between : (left right : Bool) (step_cost : ℕ) → step_cost ≡ cond (left && right) (7 * t) 0 → step_cost ≤ 70
+  cheap-between left right step_cost is = rw is (between-low (left && right) t low)
 
-  from-north_east : (fare : ℕ) → fare ≡ cond (north && east) (7 * t) 0 → IsFareFrom toll q 1 fare
-  unfolding fare_of
-  from-north_east fare is = record {
+  from-north_east : (step_cost : ℕ) → step_cost ≡ cond (north && east) (7 * t) 0 → IsStepCostFrom entry_cost q 1 step_cost
+  unfolding step_cost_of
+  from-north_east step_cost is = record {
     cost = λ p there.
         let b = beside-north_east q p wide high there in
-        let left : is_free toll (step_of p 6) ≡ north = ap (λ o. is_free toll o) b.0 ∙ sym north_is in
-        let right : is_free toll (step_of p 4) ≡ east = ap (λ o. is_free toll o) b.1 ∙ sym east_is in
-        ap₂ (λ l r. cond (l && r) (7 * toll q) 0) left right ∙ between north east fare is;
-    cheap = cheap-between north east fare is;
+        let left : is_free entry_cost (step_of p 6) ≡ north = ap (λ o. is_free entry_cost o) b.0 ∙ sym north_is in
+        let right : is_free entry_cost (step_of p 4) ≡ east = ap (λ o. is_free entry_cost o) b.1 ∙ sym east_is in
+        ap₂ (λ l r. cond (l && r) (7 * entry_cost q) 0) left right ∙ between north east step_cost is;
+    cheap = cheap-between north east step_cost is;
   }
 
-  from-south_east : (fare : ℕ) → fare ≡ cond (east && south) (7 * t) 0 → IsFareFrom toll q 3 fare
-  unfolding fare_of
-  from-south_east fare is = record {
+  from-south_east : (step_cost : ℕ) → step_cost ≡ cond (east && south) (7 * t) 0 → IsStepCostFrom entry_cost q 3 step_cost
+  unfolding step_cost_of
+  from-south_east step_cost is = record {
     cost = λ p there.
         let b = beside-south_east q p wide high there in
-        let left : is_free toll (step_of p 0) ≡ east = ap (λ o. is_free toll o) b.1 ∙ sym east_is in
-        let right : is_free toll (step_of p 6) ≡ south = ap (λ o. is_free toll o) b.0 ∙ sym south_is in
-        ap₂ (λ l r. cond (l && r) (7 * toll q) 0) left right ∙ between east south fare is;
-    cheap = cheap-between east south fare is;
+        let left : is_free entry_cost (step_of p 0) ≡ east = ap (λ o. is_free entry_cost o) b.1 ∙ sym east_is in
+        let right : is_free entry_cost (step_of p 6) ≡ south = ap (λ o. is_free entry_cost o) b.0 ∙ sym south_is in
+        ap₂ (λ l r. cond (l && r) (7 * entry_cost q) 0) left right ∙ between east south step_cost is;
+    cheap = cheap-between east south step_cost is;
   }
 
-  from-south_west : (fare : ℕ) → fare ≡ cond (south && west) (7 * t) 0 → IsFareFrom toll q 5 fare
-  unfolding fare_of
-  from-south_west fare is = record {
+  from-south_west : (step_cost : ℕ) → step_cost ≡ cond (south && west) (7 * t) 0 → IsStepCostFrom entry_cost q 5 step_cost
+  unfolding step_cost_of
+  from-south_west step_cost is = record {
     cost = λ p there.
         let b = beside-south_west q p wide high there in
-        let left : is_free toll (step_of p 2) ≡ south = ap (λ o. is_free toll o) b.0 ∙ sym south_is in
-        let right : is_free toll (step_of p 0) ≡ west = ap (λ o. is_free toll o) b.1 ∙ sym west_is in
-        ap₂ (λ l r. cond (l && r) (7 * toll q) 0) left right ∙ between south west fare is;
-    cheap = cheap-between south west fare is;
+        let left : is_free entry_cost (step_of p 2) ≡ south = ap (λ o. is_free entry_cost o) b.0 ∙ sym south_is in
+        let right : is_free entry_cost (step_of p 0) ≡ west = ap (λ o. is_free entry_cost o) b.1 ∙ sym west_is in
+        ap₂ (λ l r. cond (l && r) (7 * entry_cost q) 0) left right ∙ between south west step_cost is;
+    cheap = cheap-between south west step_cost is;
   }
 
-  from-north_west : (fare : ℕ) → fare ≡ cond (west && north) (7 * t) 0 → IsFareFrom toll q 7 fare
-  unfolding fare_of
-  from-north_west fare is = record {
+  from-north_west : (step_cost : ℕ) → step_cost ≡ cond (west && north) (7 * t) 0 → IsStepCostFrom entry_cost q 7 step_cost
+  unfolding step_cost_of
+  from-north_west step_cost is = record {
     cost = λ p there.
         let b = beside-north_west q p wide high there in
-        let left : is_free toll (step_of p 4) ≡ west = ap (λ o. is_free toll o) b.1 ∙ sym west_is in
-        let right : is_free toll (step_of p 2) ≡ north = ap (λ o. is_free toll o) b.0 ∙ sym north_is in
-        ap₂ (λ l r. cond (l && r) (7 * toll q) 0) left right ∙ between west north fare is;
-    cheap = cheap-between west north fare is;
+        let left : is_free entry_cost (step_of p 4) ≡ west = ap (λ o. is_free entry_cost o) b.1 ∙ sym west_is in
+        let right : is_free entry_cost (step_of p 2) ≡ north = ap (λ o. is_free entry_cost o) b.0 ∙ sym north_is in
+        ap₂ (λ l r. cond (l && r) (7 * entry_cost q) 0) left right ∙ between west north step_cost is;
+    cheap = cheap-between west north step_cost is;
   }
 
-  straight : (d fare : ℕ) → fare ≡ 5 * t → (d % 2 == 0) ≡ true → d ≡ opposite_of (opposite_of d) → IsFareFrom toll q (opposite_of d) fare
-  unfolding fare_of
-  straight d fare is even back = record {
+  straight : (d step_cost : ℕ) → step_cost ≡ 5 * t → (d % 2 == 0) ≡ true → d ≡ opposite_of (opposite_of d) → IsStepCostFrom entry_cost q (opposite_of d) step_cost
+  unfolding step_cost_of
+  straight d step_cost is even back = record {
     cost = λ p there. rw (sym back, even) (omega (arith, is, t_is));
     cheap = omega (arith, is, low);
   }
 
-  pub all-fares :
-      (fares : Fares) → fares.straight ≡ 5 * t → fares.north_east ≡ cond (north && east) (7 * t) 0 →
-      fares.south_east ≡ cond (east && south) (7 * t) 0 → fares.south_west ≡ cond (south && west) (7 * t) 0 →
-      fares.north_west ≡ cond (west && north) (7 * t) 0 → AreFares toll q fares
-  all-fares fares side north_east south_east south_west north_west = record {
-    north = straight 4 fares.straight side refl refl;
-    north_east = from-north_east fares.north_east north_east;
-    east = straight 6 fares.straight side refl refl;
-    south_east = from-south_east fares.south_east south_east;
-    south = straight 0 fares.straight side refl refl;
-    south_west = from-south_west fares.south_west south_west;
-    west = straight 2 fares.straight side refl refl;
-    north_west = from-north_west fares.north_west north_west;
+  pub all-step_costs :
+      (step_costs : StepCosts) → step_costs.straight ≡ 5 * t → step_costs.north_east ≡ cond (north && east) (7 * t) 0 →
+      step_costs.south_east ≡ cond (east && south) (7 * t) 0 → step_costs.south_west ≡ cond (south && west) (7 * t) 0 →
+      step_costs.north_west ≡ cond (west && north) (7 * t) 0 → AreStepCosts entry_cost q step_costs
+  all-step_costs step_costs side north_east south_east south_west north_west = record {
+    north = straight 4 step_costs.straight side refl refl;
+    north_east = from-north_east step_costs.north_east north_east;
+    east = straight 6 step_costs.straight side refl refl;
+    south_east = from-south_east step_costs.south_east south_east;
+    south = straight 0 step_costs.straight side refl refl;
+    south_west = from-south_west step_costs.south_west south_west;
+    west = straight 2 step_costs.straight side refl refl;
+    north_west = from-north_west step_costs.north_west north_west;
   }

@@ -5,20 +5,20 @@ use Rattle.world_units.specs.declared.cell.CPos.{CPos}
 use Rattle.world_units.specs.Directions.{opposite_of, step_of}
 use Rattle.game_model.specs.Grid.{Grid, IsOn}
 use Rattle.game_model.specs.Walks.{IsStep}
-use Rattle.grid_routes.specs.Tolls.{Ground, toll_in}
+use Rattle.grid_routes.specs.EntryCosts.{Ground, entry_cost_in}
 use Rattle.grid_routes.specs.Labels.{Distances, IsFull, label_of}
 use Rattle.grid_routes.specs.Held.{Shelves, IsAt, IsWhole}
 use Rattle.grid_routes.specs.Steps.{Lowers, IsExpanded, IsOffered}
 use Rattle.grid_routes.proofs.Directions.{step-back, opposite-back, opposite-low}
 use Rattle.grid_routes.proofs.Lowering.{lowers-refl, lowers-trans, falls, level-stays, expanded-stays}
 use Rattle.grid_routes.proofs.Shelves.{only-one}
-use Rattle.grid_routes.proofs.StepCosts.{fare-zero}
+use Rattle.grid_routes.proofs.StepCostLemmas.{step_cost-zero}
 
 -- The sizes stay.
 pub full-stays :
-    (toll : CPos → ℕ) (level : ℕ) (old : Grid ℕ) (before : Shelves) (new : Grid ℕ) (after : Shelves) →
-    Lowers toll level old before new after → IsFull old → IsFull new
-full-stays toll level old before new after low full =
+    (entry_cost : CPos → ℕ) (level : ℕ) (old : Grid ℕ) (before : Shelves) (new : Grid ℕ) (after : Shelves) →
+    Lowers entry_cost level old before new after → IsFull old → IsFull new
+full-stays entry_cost level old before new after low full =
     let wide : new.width ≡ old.width = low.size.width in
     let high : new.height ≡ old.height = low.size.height in
     record {
@@ -28,54 +28,54 @@ full-stays toll level old before new after low full =
     }
 
 -- The neighbours in directions below d were offered their walk over q.
-pub record Offered (toll : CPos → ℕ) (field : Distances) (shelves : Shelves) (field' : Distances) (shelves' : Shelves) (q : CPos) (level d : ℕ) : Type 0 where
+pub record Offered (entry_cost : CPos → ℕ) (field : Distances) (shelves : Shelves) (field' : Distances) (shelves' : Shelves) (q : CPos) (level d : ℕ) : Type 0 where
   pub same_level : field'.level ≡ field.level
-  pub lowers : Lowers toll level field.labels shelves field'.labels shelves'
+  pub lowers : Lowers entry_cost level field.labels shelves field'.labels shelves'
   pub done :
       (e : ℕ) (p : CPos) (k : ℕ) → e < d → step_of q e ≡ Some p → IsOn field.labels.width field.labels.height p →
-      IsStep toll p (opposite_of e) q k → label_of field'.labels p ≤ level + k
+      IsStep entry_cost p (opposite_of e) q k → label_of field'.labels p ≤ level + k
 
 pub offered-none :
-    (toll : CPos → ℕ) (field : Distances) (shelves : Shelves) (q : CPos) (level : ℕ) →
-    Offered toll field shelves field shelves q level 0
-offered-none toll field shelves q level = record {
+    (entry_cost : CPos → ℕ) (field : Distances) (shelves : Shelves) (q : CPos) (level : ℕ) →
+    Offered entry_cost field shelves field shelves q level 0
+offered-none entry_cost field shelves q level = record {
   same_level = refl;
-  lowers = lowers-refl toll level field.labels shelves;
+  lowers = lowers-refl entry_cost level field.labels shelves;
   done = λ e p k below there on step. absurd (omega arith);
 }
 
 pub offered-step :
-    (toll : CPos → ℕ) (field : Distances) (shelves : Shelves) (field' : Distances) (shelves' : Shelves)
+    (entry_cost : CPos → ℕ) (field : Distances) (shelves : Shelves) (field' : Distances) (shelves' : Shelves)
     (q : CPos) (level d : ℕ) (field'' : Distances) (shelves'' : Shelves) →
-    Offered toll field shelves field' shelves' q level d →
-    IsOffered toll q d level field' shelves' field'' shelves'' →
-    Offered toll field shelves field'' shelves'' q level (d + 1)
-offered-step toll field shelves field' shelves' q level d field'' shelves'' so_far one =
+    Offered entry_cost field shelves field' shelves' q level d →
+    IsOffered entry_cost q d level field' shelves' field'' shelves'' →
+    Offered entry_cost field shelves field'' shelves'' q level (d + 1)
+offered-step entry_cost field shelves field' shelves' q level d field'' shelves'' so_far one =
     let wide : field'.labels.width ≡ field.labels.width = so_far.lowers.size.width in
     let high : field'.labels.height ≡ field.labels.height = so_far.lowers.size.height in
     record {
       same_level = one.same ∙ so_far.same_level;
-      lowers = lowers-trans toll level field.labels shelves field'.labels shelves' field''.labels shelves'' so_far.lowers one.lowers;
+      lowers = lowers-trans entry_cost level field.labels shelves field'.labels shelves' field''.labels shelves'' so_far.lowers one.lowers;
       done = λ e p k below there on step.
           elim (cases_eq e d) [
             | inl same ↦
                 one.done p k (ap (λ j. step_of q j) (sym same) ∙ there)
                 (record { column = rw wide on.column; row = rw high on.row })
-                (subst (λ (j : ℕ). IsStep toll p (opposite_of j) q k) same step)
+                (subst (λ (j : ℕ). IsStep entry_cost p (opposite_of j) q k) same step)
             | inr other ↦
                 let before = so_far.done e p k (omega arith) there on step in
-                let fell = falls toll level field'.labels shelves' field''.labels shelves'' one.lowers p in
+                let fell = falls entry_cost level field'.labels shelves' field''.labels shelves'' one.lowers p in
                 omega (arith, before, fell)
           ];
     }
 
 -- All neighbours were offered their walk.
 pub offered-all :
-    (toll : CPos → ℕ) (field : Distances) (shelves : Shelves) (field' : Distances) (shelves' : Shelves)
+    (entry_cost : CPos → ℕ) (field : Distances) (shelves : Shelves) (field' : Distances) (shelves' : Shelves)
     (q : CPos) (level : ℕ) → IsFull field.labels →
-    Offered toll field shelves field' shelves' q level 8 →
-    IsExpanded toll field'.labels level q
-offered-all toll field shelves field' shelves' q level full so_far = λ p e k on step.
+    Offered entry_cost field shelves field' shelves' q level 8 →
+    IsExpanded entry_cost field'.labels level q
+offered-all entry_cost field shelves field' shelves' q level full so_far = λ p e k on step.
     let wide : field'.labels.width ≡ field.labels.width = so_far.lowers.size.width in
     let high : field'.labels.height ≡ field.labels.height = so_far.lowers.size.height in
     let column : p.x < field.labels.width = rw wide at on.column in
@@ -85,98 +85,98 @@ offered-all toll field shelves field' shelves' q level full so_far = λ p e k on
     so_far.done (opposite_of e) p k (opposite-low e)
     (step-back p q e small short step.direction step.enters)
     (record { column = column; row = row })
-    (subst (λ (j : ℕ). IsStep toll p j q k) (sym (opposite-back e step.direction)) step)
+    (subst (λ (j : ℕ). IsStep entry_cost p j q k) (sym (opposite-back e step.direction)) step)
 
 -- The offers to the eight neighbours, one after the other.
 pub offered-eight :
-    (toll : CPos → ℕ) (q : CPos) (level : ℕ)
+    (entry_cost : CPos → ℕ) (q : CPos) (level : ℕ)
     (f0 f1 f2 f3 f4 f5 f6 f7 f8 : Distances) (s0 s1 s2 s3 s4 s5 s6 s7 s8 : Shelves) →
-    IsOffered toll q 0 level f0 s0 f1 s1 → IsOffered toll q 1 level f1 s1 f2 s2 →
-    IsOffered toll q 2 level f2 s2 f3 s3 → IsOffered toll q 3 level f3 s3 f4 s4 →
-    IsOffered toll q 4 level f4 s4 f5 s5 → IsOffered toll q 5 level f5 s5 f6 s6 →
-    IsOffered toll q 6 level f6 s6 f7 s7 → IsOffered toll q 7 level f7 s7 f8 s8 →
-    Offered toll f0 s0 f8 s8 q level 8
-offered-eight toll q level f0 f1 f2 f3 f4 f5 f6 f7 f8 s0 s1 s2 s3 s4 s5 s6 s7 s8 a b c d e f g h =
-    let none : Offered toll f0 s0 f0 s0 q level 0 = offered-none toll f0 s0 q level in
-    let one : Offered toll f0 s0 f1 s1 q level 1 = offered-step toll f0 s0 f0 s0 q level 0 f1 s1 none a in
-    let two : Offered toll f0 s0 f2 s2 q level 2 = offered-step toll f0 s0 f1 s1 q level 1 f2 s2 one b in
-    let three : Offered toll f0 s0 f3 s3 q level 3 = offered-step toll f0 s0 f2 s2 q level 2 f3 s3 two c in
-    let four : Offered toll f0 s0 f4 s4 q level 4 = offered-step toll f0 s0 f3 s3 q level 3 f4 s4 three d in
-    let five : Offered toll f0 s0 f5 s5 q level 5 = offered-step toll f0 s0 f4 s4 q level 4 f5 s5 four e in
-    let six : Offered toll f0 s0 f6 s6 q level 6 = offered-step toll f0 s0 f5 s5 q level 5 f6 s6 five f in
-    let seven : Offered toll f0 s0 f7 s7 q level 7 = offered-step toll f0 s0 f6 s6 q level 6 f7 s7 six g in
-    offered-step toll f0 s0 f7 s7 q level 7 f8 s8 seven h
+    IsOffered entry_cost q 0 level f0 s0 f1 s1 → IsOffered entry_cost q 1 level f1 s1 f2 s2 →
+    IsOffered entry_cost q 2 level f2 s2 f3 s3 → IsOffered entry_cost q 3 level f3 s3 f4 s4 →
+    IsOffered entry_cost q 4 level f4 s4 f5 s5 → IsOffered entry_cost q 5 level f5 s5 f6 s6 →
+    IsOffered entry_cost q 6 level f6 s6 f7 s7 → IsOffered entry_cost q 7 level f7 s7 f8 s8 →
+    Offered entry_cost f0 s0 f8 s8 q level 8
+offered-eight entry_cost q level f0 f1 f2 f3 f4 f5 f6 f7 f8 s0 s1 s2 s3 s4 s5 s6 s7 s8 a b c d e f g h =
+    let none : Offered entry_cost f0 s0 f0 s0 q level 0 = offered-none entry_cost f0 s0 q level in
+    let one : Offered entry_cost f0 s0 f1 s1 q level 1 = offered-step entry_cost f0 s0 f0 s0 q level 0 f1 s1 none a in
+    let two : Offered entry_cost f0 s0 f2 s2 q level 2 = offered-step entry_cost f0 s0 f1 s1 q level 1 f2 s2 one b in
+    let three : Offered entry_cost f0 s0 f3 s3 q level 3 = offered-step entry_cost f0 s0 f2 s2 q level 2 f3 s3 two c in
+    let four : Offered entry_cost f0 s0 f4 s4 q level 4 = offered-step entry_cost f0 s0 f3 s3 q level 3 f4 s4 three d in
+    let five : Offered entry_cost f0 s0 f5 s5 q level 5 = offered-step entry_cost f0 s0 f4 s4 q level 4 f5 s5 four e in
+    let six : Offered entry_cost f0 s0 f6 s6 q level 6 = offered-step entry_cost f0 s0 f5 s5 q level 5 f6 s6 five f in
+    let seven : Offered entry_cost f0 s0 f7 s7 q level 7 = offered-step entry_cost f0 s0 f6 s6 q level 6 f7 s7 six g in
+    offered-step entry_cost f0 s0 f7 s7 q level 7 f8 s8 seven h
 
 -- A cell that can't be entered has nothing to offer.
 pub expanded-free :
-    (toll : CPos → ℕ) (labels : Grid ℕ) (level : ℕ) (q : CPos) → toll q ≡ 0 →
-    IsExpanded toll labels level q
-expanded-free toll labels level q free = λ p d k on step.
-    absurd (omega (arith, fare-zero toll p d q free, step.cost, step.allowed))
+    (entry_cost : CPos → ℕ) (labels : Grid ℕ) (level : ℕ) (q : CPos) → entry_cost q ≡ 0 →
+    IsExpanded entry_cost labels level q
+expanded-free entry_cost labels level q free = λ p d k on step.
+    absurd (omega (arith, step_cost-zero entry_cost p d q free, step.cost, step.allowed))
 
 -- The cells in the first places of the level's bucket are expanded.
-pub record Ringed (tolls : Ground) (field : Distances) (shelves : Shelves) (tolls' : Ground) (field' : Distances) (shelves' : Shelves) (level i : ℕ) : Type 0 where
-  pub same_tolls : tolls' ≡ tolls
+pub record Ringed (entry_costs : Ground) (field : Distances) (shelves : Shelves) (entry_costs' : Ground) (field' : Distances) (shelves' : Shelves) (level i : ℕ) : Type 0 where
+  pub same_entry_costs : entry_costs' ≡ entry_costs
   pub same_level : field'.level ≡ field.level
-  pub lowers : Lowers (toll_in tolls) level field.labels shelves field'.labels shelves'
+  pub lowers : Lowers (entry_cost_in entry_costs) level field.labels shelves field'.labels shelves'
   pub done :
       (j : ℕ) (q : CPos) → j < i → IsAt shelves (level % 71) j q → label_of field.labels q ≡ level →
-      IsExpanded (toll_in tolls) field'.labels level q
+      IsExpanded (entry_cost_in entry_costs) field'.labels level q
 
 pub ringed-none :
-    (tolls : Ground) (field : Distances) (shelves : Shelves) (level : ℕ) →
-    Ringed tolls field shelves tolls field shelves level 0
-ringed-none tolls field shelves level = record {
-  same_tolls = refl;
+    (entry_costs : Ground) (field : Distances) (shelves : Shelves) (level : ℕ) →
+    Ringed entry_costs field shelves entry_costs field shelves level 0
+ringed-none entry_costs field shelves level = record {
+  same_entry_costs = refl;
   same_level = refl;
-  lowers = lowers-refl (toll_in tolls) level field.labels shelves;
+  lowers = lowers-refl (entry_cost_in entry_costs) level field.labels shelves;
   done = λ j q below at label. absurd (omega arith);
 }
 
-module _ (tolls : Ground) (field : Distances) (shelves : Shelves) (tolls' : Ground) (field' : Distances) (shelves' : Shelves) (level i : ℕ) (c : CPos) (so_far : Ringed tolls field shelves tolls' field' shelves' level i) (whole : IsWhole shelves') (at : IsAt shelves' (level % 71) i c) where
+module _ (entry_costs : Ground) (field : Distances) (shelves : Shelves) (entry_costs' : Ground) (field' : Distances) (shelves' : Shelves) (level i : ℕ) (c : CPos) (so_far : Ringed entry_costs field shelves entry_costs' field' shelves' level i) (whole : IsWhole shelves') (at : IsAt shelves' (level % 71) i c) where
   there : (q : CPos) → IsAt shelves (level % 71) i q → q ≡ c
   there q here =
       let low : level % 71 < 71 = omega arith in
       only-one shelves' (level % 71) i q c whole low (so_far.lowers.kept (level % 71) i q here) at
 
-  pub ringed-skip : (label_of field'.labels c ≡ level → ⊥) → Ringed tolls field shelves tolls' field' shelves' level (i + 1)
+  pub ringed-skip : (label_of field'.labels c ≡ level → ⊥) → Ringed entry_costs field shelves entry_costs' field' shelves' level (i + 1)
   ringed-skip other = record {
-    same_tolls = so_far.same_tolls;
+    same_entry_costs = so_far.same_entry_costs;
     same_level = so_far.same_level;
     lowers = so_far.lowers;
     done = λ j q below here label.
         elim (cases_eq j i) [
           | inl same ↦
               let one = there q (subst (λ (n : ℕ). IsAt shelves (level % 71) n q) same here) in
-              let stays = level-stays (toll_in tolls) level field.labels shelves field'.labels shelves' so_far.lowers q (omega (arith, label)) in
+              let stays = level-stays (entry_cost_in entry_costs) level field.labels shelves field'.labels shelves' so_far.lowers q (omega (arith, label)) in
               absurd (other (ap (λ x. label_of field'.labels x) (sym one) ∙ stays ∙ label))
           | inr less ↦ so_far.done j q (omega arith) here label
         ];
   }
 
   pub ringed-step :
-      (tolls'' : Ground) (field'' : Distances) (shelves'' : Shelves) →
-      tolls'' ≡ tolls' → field''.level ≡ field'.level →
-      Lowers (toll_in tolls') level field'.labels shelves' field''.labels shelves'' →
-      IsExpanded (toll_in tolls') field''.labels level c →
-      Ringed tolls field shelves tolls'' field'' shelves'' level (i + 1)
-  ringed-step tolls'' field'' shelves'' tolls_stay level_stays low done =
-      let toll : toll_in tolls' ≡ toll_in tolls = ap toll_in so_far.same_tolls in
-      let lower : Lowers (toll_in tolls) level field'.labels shelves' field''.labels shelves'' =
-      subst (λ (t : CPos → ℕ). Lowers t level field'.labels shelves' field''.labels shelves'') toll low in
-      let here_done : IsExpanded (toll_in tolls) field''.labels level c =
-      subst (λ (t : CPos → ℕ). IsExpanded t field''.labels level c) toll done in
+      (entry_costs'' : Ground) (field'' : Distances) (shelves'' : Shelves) →
+      entry_costs'' ≡ entry_costs' → field''.level ≡ field'.level →
+      Lowers (entry_cost_in entry_costs') level field'.labels shelves' field''.labels shelves'' →
+      IsExpanded (entry_cost_in entry_costs') field''.labels level c →
+      Ringed entry_costs field shelves entry_costs'' field'' shelves'' level (i + 1)
+  ringed-step entry_costs'' field'' shelves'' entry_costs_stay level_stays low done =
+      let entry_cost : entry_cost_in entry_costs' ≡ entry_cost_in entry_costs = ap entry_cost_in so_far.same_entry_costs in
+      let lower : Lowers (entry_cost_in entry_costs) level field'.labels shelves' field''.labels shelves'' =
+      subst (λ (t : CPos → ℕ). Lowers t level field'.labels shelves' field''.labels shelves'') entry_cost low in
+      let here_done : IsExpanded (entry_cost_in entry_costs) field''.labels level c =
+      subst (λ (t : CPos → ℕ). IsExpanded t field''.labels level c) entry_cost done in
       record {
-        same_tolls = tolls_stay ∙ so_far.same_tolls;
+        same_entry_costs = entry_costs_stay ∙ so_far.same_entry_costs;
         same_level = level_stays ∙ so_far.same_level;
-        lowers = lowers-trans (toll_in tolls) level field.labels shelves field'.labels shelves' field''.labels shelves'' so_far.lowers lower;
+        lowers = lowers-trans (entry_cost_in entry_costs) level field.labels shelves field'.labels shelves' field''.labels shelves'' so_far.lowers lower;
         done = λ j q below here label.
             elim (cases_eq j i) [
               | inl same ↦
                   let one = there q (subst (λ (n : ℕ). IsAt shelves (level % 71) n q) same here) in
-                  subst (λ (x : CPos). IsExpanded (toll_in tolls) field''.labels level x) (sym one) here_done
+                  subst (λ (x : CPos). IsExpanded (entry_cost_in entry_costs) field''.labels level x) (sym one) here_done
               | inr less ↦
-                  expanded-stays (toll_in tolls) level field'.labels shelves' field''.labels shelves'' lower q
+                  expanded-stays (entry_cost_in entry_costs) level field'.labels shelves' field''.labels shelves'' lower q
                   (so_far.done j q (omega arith) here label)
             ];
       }

@@ -10,7 +10,7 @@ use Rattle.world_units.specs.declared.cell.CPos.{CPos}
 use Rattle.rule_traits.specs.declared.trait_fields.Costs.{Costs}
 use Rattle.game_model.specs.declared.terrain.Terrain.{Terrain}
 use Rattle.game_model.specs.Grid.{Grid, HasSize, IsOn}
-use Rattle.grid_routes.specs.Tolls.{Ground, ground_of, land_over, toll_in}
+use Rattle.grid_routes.specs.EntryCosts.{Ground, ground_of, land_over, entry_cost_in}
 use Rattle.grid_routes.specs.Labels.{Distances}
 use Rattle.grid_routes.specs.declared.ask.Ask.{Ask}
 use Rattle.grid_routes.specs.declared.fields.Kept.{Kept}
@@ -90,26 +90,26 @@ widened-place w h place old new (inr (more, room, is)) within =
 -- A search that is on its way for this, by its ground alone.
 pub for-own : (search : Search) (ask : Ask) → IsFor search ask → IsOwn search ask
 for-own search ask is =
-    subst (λ (g : Ground). IsSearch (record { toll = toll_in g; goal = ask.goal }) search.field search.buckets) is.tolls
+    subst (λ (g : Ground). IsSearch (record { entry_cost = entry_cost_in g; goal = ask.goal }) search.field search.buckets) is.entry_costs
     is.going
 
--- Once its tolls are turned to this, it is on its way.
+-- Once its entry costs are turned to this, it is on its way.
 pub own-for :
     (search : Search) (ask : Ask) → IsOwn search ask →
-    search.tolls ≡ record search.tolls { costs = ask.costs; goal = ask.goal } → IsFor search ask
+    search.entry_costs ≡ record search.entry_costs { costs = ask.costs; goal = ask.goal } → IsFor search ask
 own-for search ask own turned = record {
-  tolls = turned;
-  going = subst (λ (g : Ground). IsSearch (record { toll = toll_in g; goal = ask.goal }) search.field search.buckets)
+  entry_costs = turned;
+  going = subst (λ (g : Ground). IsSearch (record { entry_cost = entry_cost_in g; goal = ask.goal }) search.field search.buckets)
       (sym turned) own;
 }
 
 -- The search's field, as one that is kept.
 pub own-going :
     (search : Search) (o : Option Ask) → IfSome o (IsOwn search) →
-    IfSome o (λ ask. IsGoing (land_over search.tolls.terrain search.tolls.built ask.costs ask.goal) search.field)
+    IfSome o (λ ask. IsGoing (land_over search.entry_costs.terrain search.entry_costs.built ask.costs ask.goal) search.field)
 own-going search None own = tt
 own-going search (Some ask) own =
-    may-go-on (land_over search.tolls.terrain search.tolls.built ask.costs ask.goal) search.field search.buckets own
+    may-go-on (land_over search.entry_costs.terrain search.entry_costs.built ask.costs ask.goal) search.field search.buckets own
 
 -- A field that is found for a goal and costs may be taken up.
 pub found-going :
@@ -147,9 +147,9 @@ turned g o costs goal is = is ∙ ap (λ (x : Ground). record x { costs = costs;
 
 -- The size of the map is that of the terrain.
 pub own-size :
-    (w h : ℕ) (f : Fields) → AreFields w h f → AreFields f.search.tolls.terrain.width f.search.tolls.terrain.height f
+    (w h : ℕ) (f : Fields) → AreFields w h f → AreFields f.search.entry_costs.terrain.width f.search.entry_costs.terrain.height f
 own-size w h f fields =
-    subst (λ (n : ℕ). AreFields n f.search.tolls.terrain.height f) (sym fields.terrain.width)
+    subst (λ (n : ℕ). AreFields n f.search.entry_costs.terrain.height f) (sym fields.terrain.width)
     (subst (λ (n : ℕ). AreFields w n f) (sym fields.terrain.height) fields)
 
 pub size-back : (a b w h : ℕ) (f : Fields) → a ≡ w → b ≡ h → AreFields a b f → AreFields w h f
@@ -159,13 +159,13 @@ size-back a b w h f wide high fields =
 pub asked-for : (P : Ask → Type 0) (o : Option Ask) (ask : Ask) → o ≡ Some ask → IfSome o P → P ask
 asked-for P o ask is some = subst (λ (x : Option Ask). IfSome x P) is some
 
--- After the tolls were turned.
+-- After the entry costs were turned.
 pub turned-fields :
     (w h : ℕ) (f : Fields) (t : Ground) (costs : Costs) (goal : CPos) → AreFields w h f →
-    t ≡ record f.search.tolls { costs = costs; goal = goal } →
-    AreFields w h (record f { search = record f.search { tolls = t } })
+    t ≡ record f.search.entry_costs { costs = costs; goal = goal } →
+    AreFields w h (record f { search = record f.search { entry_costs = t } })
 turned-fields w h f t costs goal fields is =
-    subst (λ (g : Ground). AreFields w h (record f { search = record f.search { tolls = g } })) (sym is)
+    subst (λ (g : Ground). AreFields w h (record f { search = record f.search { entry_costs = g } })) (sym is)
     (record {
       terrain = fields.terrain;
       size = fields.size;
@@ -178,23 +178,23 @@ turned-fields w h f t costs goal fields is =
 -- After the search went on.
 pub settled-fields :
     (w h : ℕ) (f : Fields) (s : Search) (ask : Ask) → AreFields w h f → f.ask ≡ Some ask → IsFor f.search ask →
-    s.tolls ≡ f.search.tolls → IsSearch (record { toll = toll_in s.tolls; goal = ask.goal }) s.field s.buckets →
+    s.entry_costs ≡ f.search.entry_costs → IsSearch (record { entry_cost = entry_cost_in s.entry_costs; goal = ask.goal }) s.field s.buckets →
     HasSize f.search.field.labels.width f.search.field.labels.height s.field.labels →
     IsFor s ask × AreFields w h (record f { search = s })
-settled-fields w h f s ask fields asked before tolls search size =
+settled-fields w h f s ask fields asked before entry_costs search size =
     let is_for : IsFor s ask = record {
-      tolls = turned s.tolls f.search.tolls ask.costs ask.goal (tolls ∙ before.tolls);
+      entry_costs = turned s.entry_costs f.search.entry_costs ask.costs ask.goal (entry_costs ∙ before.entry_costs);
       going = search;
     } in
     let wide : s.field.labels.width ≡ w = size.width ∙ fields.size.width in
     let high : s.field.labels.height ≡ h = size.height ∙ fields.size.height in (
       is_for,
       record {
-        terrain = subst (λ (g : Ground). HasSize w h g.terrain) (sym tolls) fields.terrain;
+        terrain = subst (λ (g : Ground). HasSize w h g.terrain) (sym entry_costs) fields.terrain;
         size = record { width = wide; height = high };
         room = search.room ∙ search.full.size ∙ ap (λ n. n * s.field.labels.height) wide ∙ ap (λ n. w * n) high;
         search = subst (λ (o : Option Ask). IfSome o (IsOwn s)) (sym asked) (for-own s ask is_for);
-        kept = subst (λ (g : Ground). All (IsKept w h g.terrain g.built) f.kept.items) (sym tolls) fields.kept;
+        kept = subst (λ (g : Ground). All (IsKept w h g.terrain g.built) f.kept.items) (sym entry_costs) fields.kept;
         place = fields.place;
       },
     )
@@ -204,13 +204,13 @@ pub read-going :
     (w h : ℕ) (terrain : Grid Terrain) (built : Grid Bool) (kept : List Kept) (place : ℕ) (k : Kept) (ask : Ask)
     (p : CPos) (t : Ground) → All (IsKept w h terrain built) kept → slice_get kept place ≡ Some k →
     IsFinal ask p k → t ≡ ground_of terrain built ask.costs ask.goal → IsOn w h p →
-    IsGoing (record { toll = toll_in t; goal = ask.goal }) k.field × IsOn k.field.labels.width k.field.labels.height p
+    IsGoing (record { entry_cost = entry_cost_in t; goal = ask.goal }) k.field × IsOn k.field.labels.width k.field.labels.height p
 read-going w h terrain built kept place k ask p t all at final is on =
     let here : get_or kept place k ≡ k = get_or_from_slice_get kept place k k at in
     let one : IsKept w h terrain built k =
     subst (λ (x : Kept). IsKept w h terrain built x) here (all place k (slice_get_within kept place k at)) in
     let going : IsGoing (land_over terrain built ask.costs ask.goal) k.field =
     asked-for (λ a. IsGoing (land_over terrain built a.costs a.goal) k.field) k.ask ask final.asked one.going in (
-      subst (λ (g : Ground). IsGoing (record { toll = toll_in g; goal = ask.goal }) k.field) (sym is) going,
+      subst (λ (g : Ground). IsGoing (record { entry_cost = entry_cost_in g; goal = ask.goal }) k.field) (sym is) going,
       record { column = rw one.size.width on.column; row = rw one.size.height on.row },
     )

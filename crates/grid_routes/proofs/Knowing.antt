@@ -8,7 +8,7 @@ use Rattle.world_units.specs.Directions.{step_of}
 use Rattle.game_model.specs.declared.terrain.Terrain.{Terrain}
 use Rattle.game_model.specs.Grid.{Grid}
 use Rattle.game_model.specs.Walks.{Land, IsBest, IsBestDirection}
-use Rattle.grid_routes.specs.Tolls.{Ground, land_over, toll_in}
+use Rattle.grid_routes.specs.EntryCosts.{Ground, land_over, entry_cost_in}
 use Rattle.grid_routes.specs.Steps.{IsSearch}
 use Rattle.grid_routes.specs.Kept.{IsFor, IsSettled}
 use Rattle.grid_routes.specs.KnownWalks.{AreBest, IsAdded, IsBestStep, IsBestWalk, IsKnown, IsPut}
@@ -95,18 +95,18 @@ known_best terrain built walks ask cell (Some d) best known =
 -- The search for a goal and costs is over their land.
 pub asked-land :
     (P : Land → Type 0) (search : Search) (ask : Ask) → IsFor search ask →
-    P (record { toll = toll_in search.tolls; goal = ask.goal }) →
-    P (land_over search.tolls.terrain search.tolls.built ask.costs ask.goal)
+    P (record { entry_cost = entry_cost_in search.entry_costs; goal = ask.goal }) →
+    P (land_over search.entry_costs.terrain search.entry_costs.built ask.costs ask.goal)
 asked-land P search ask is p =
-    subst (λ (g : Ground). P (record { toll = toll_in g; goal = ask.goal })) is.tolls p
+    subst (λ (g : Ground). P (record { entry_cost = entry_cost_in g; goal = ask.goal })) is.entry_costs p
 
 pub next-settled :
     (search : Search) (ask : Ask) (p : CPos) (d : ℕ) (next : Option CPos) → IsFor search ask → IsSettled search p →
-    IsBest (land_over search.tolls.terrain search.tolls.built ask.costs ask.goal) p d → next ≡ step_of p d →
+    IsBest (land_over search.entry_costs.terrain search.entry_costs.built ask.costs ask.goal) p d → next ≡ step_of p d →
     IfSome next (IsSettled search)
 next-settled search ask p d None is settled best there = tt
 next-settled search ask p d (Some q) is settled best there =
-    let land = land_over search.tolls.terrain search.tolls.built ask.costs ask.goal in
+    let land = land_over search.entry_costs.terrain search.entry_costs.built ask.costs ask.goal in
     let going : IsSearch land search.field search.buckets =
     asked-land (λ land. IsSearch land search.field search.buckets) search ask is is.going in
     record {

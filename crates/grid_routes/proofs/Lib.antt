@@ -7,7 +7,7 @@ pub mod Directions
 pub mod Distances
 pub mod Entering
 pub mod Expanding
-pub mod StepCosts
+pub mod StepCostLemmas
 pub mod Filling
 pub mod Keeping
 pub mod Knowing

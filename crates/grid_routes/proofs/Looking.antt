@@ -8,7 +8,7 @@ use Rattle.game_model.specs.BestDirection.{best_dir_of}
 use Rattle.game_model.specs.Grid.{Grid}
 use Rattle.game_model.specs.Walks.{IsBestDirection, land_of}
 use Rattle.grid_routes.specs.Routing.{LooksAt, Routing}
-use Rattle.grid_routes.specs.Tolls.{IsCheap, land_over}
+use Rattle.grid_routes.specs.EntryCosts.{IsCheap, land_over}
 use Rattle.grid_routes.proofs.Distances.{best-value}
 
 pub seen-best :

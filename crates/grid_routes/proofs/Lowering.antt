@@ -10,10 +10,10 @@ use Rattle.world_units.specs.Directions.{opposite_of, step_of}
 use Rattle.game_model.specs.Grid.{Grid, IsOn, place_of, with_cell}
 use Rattle.grid_routes.specs.declared.field.TheConstants.{NONE}
 use Rattle.grid_routes.specs.Values.{value_in}
-use Rattle.game_model.specs.Walks.{IsStep, fare_of}
+use Rattle.game_model.specs.Walks.{IsStep, step_cost_of}
 use Rattle.grid_routes.specs.Labels.{Distances, IsFull, label_of, open_count}
 use Rattle.grid_routes.specs.Held.{Shelves, HasRows, IsWhole, tried}
-use Rattle.grid_routes.specs.Fares.{IsFareFrom}
+use Rattle.grid_routes.specs.StepCosts.{IsStepCostFrom}
 use Rattle.grid_routes.specs.Steps.{IsMade, IsOffered, IsRelaxed, Lowers, IsExpanded}
 use Rattle.grid_routes.proofs.Cells.{placed, set-here, set-other, is_on-true}
 use Rattle.grid_routes.proofs.Shelves.{Puts, tried-kept, tried-puts, tried-stays}
@@ -30,8 +30,8 @@ one-or-not p q =
       | inr x ↦ inr (λ (same : p ≡ q). x (ap (λ c. c.x) same))
     ]
 
-pub lowers-refl : (toll : CPos → ℕ) (level : ℕ) (g : Grid ℕ) (s : Shelves) → Lowers toll level g s g s
-lowers-refl toll level g s = record {
+pub lowers-refl : (entry_cost : CPos → ℕ) (level : ℕ) (g : Grid ℕ) (s : Shelves) → Lowers entry_cost level g s g s
+lowers-refl entry_cost level g s = record {
   size = record { width = refl; height = refl };
   cells = refl;
   each = λ p. inl refl;
@@ -43,26 +43,26 @@ lowers-refl toll level g s = record {
 }
 
 -- What falls does not rise, and a label at the level stays.
-pub falls : (toll : CPos → ℕ) (level : ℕ) (old : Grid ℕ) (before : Shelves) (new : Grid ℕ) (after : Shelves) →
-    Lowers toll level old before new after → (p : CPos) → label_of new p ≤ label_of old p
-falls toll level old before new after low p =
+pub falls : (entry_cost : CPos → ℕ) (level : ℕ) (old : Grid ℕ) (before : Shelves) (new : Grid ℕ) (after : Shelves) →
+    Lowers entry_cost level old before new after → (p : CPos) → label_of new p ≤ label_of old p
+falls entry_cost level old before new after low p =
     elim (low.each p) [ inl same ↦ omega arith | inr made ↦ omega (arith, made.label, made.lower) ]
 
-pub level-stays : (toll : CPos → ℕ) (level : ℕ) (old : Grid ℕ) (before : Shelves) (new : Grid ℕ) (after : Shelves) →
-    Lowers toll level old before new after → (p : CPos) → label_of old p ≤ level → label_of new p ≡ label_of old p
-level-stays toll level old before new after low p at =
+pub level-stays : (entry_cost : CPos → ℕ) (level : ℕ) (old : Grid ℕ) (before : Shelves) (new : Grid ℕ) (after : Shelves) →
+    Lowers entry_cost level old before new after → (p : CPos) → label_of old p ≤ level → label_of new p ≡ label_of old p
+level-stays entry_cost level old before new after low p at =
     elim (low.each p) [ inl same ↦ same | inr made ↦ absurd (omega (arith, made.lower)) ]
 
 -- A label at most the level was there before.
-pub level-was : (toll : CPos → ℕ) (level : ℕ) (old : Grid ℕ) (before : Shelves) (new : Grid ℕ) (after : Shelves) →
-    Lowers toll level old before new after → (p : CPos) → label_of new p ≤ level → label_of new p ≡ label_of old p
-level-was toll level old before new after low p at =
+pub level-was : (entry_cost : CPos → ℕ) (level : ℕ) (old : Grid ℕ) (before : Shelves) (new : Grid ℕ) (after : Shelves) →
+    Lowers entry_cost level old before new after → (p : CPos) → label_of new p ≤ level → label_of new p ≡ label_of old p
+level-was entry_cost level old before new after low p at =
     elim (low.each p) [ inl same ↦ same | inr made ↦ absurd (omega (arith, made.label, made.step.allowed)) ]
 
 pub lowers-trans :
-    (toll : CPos → ℕ) (level : ℕ) (a : Grid ℕ) (s : Shelves) (b : Grid ℕ) (t : Shelves) (c : Grid ℕ) (u : Shelves) →
-    Lowers toll level a s b t → Lowers toll level b t c u → Lowers toll level a s c u
-lowers-trans toll level a s b t c u first second =
+    (entry_cost : CPos → ℕ) (level : ℕ) (a : Grid ℕ) (s : Shelves) (b : Grid ℕ) (t : Shelves) (c : Grid ℕ) (u : Shelves) →
+    Lowers entry_cost level a s b t → Lowers entry_cost level b t c u → Lowers entry_cost level a s c u
+lowers-trans entry_cost level a s b t c u first second =
     let wide : b.width ≡ a.width = first.size.width in
     let high : b.height ≡ a.height = first.size.height in
     record {
@@ -94,9 +94,9 @@ lowers-trans toll level a s b t c u first second =
           on = record { column = rw wide at made.on.column; row = rw high at made.on.row };
           step = made.step;
           cheap = made.cheap;
-          from = sym (level-was toll level a s b t first made.entered (omega (arith, made.from))) ∙ made.from;
+          from = sym (level-was entry_cost level a s b t first made.entered (omega (arith, made.from))) ∙ made.from;
           label = made.label;
-          lower = let most = falls toll level a s b t first p in omega (arith, made.lower, most);
+          lower = let most = falls entry_cost level a s b t first p in omega (arith, made.lower, most);
           held = made.held;
         })
       ];
@@ -109,13 +109,13 @@ lowers-trans toll level a s b t c u first second =
 
 -- A cell that was expanded stays so.
 pub expanded-stays :
-    (toll : CPos → ℕ) (level : ℕ) (old : Grid ℕ) (before : Shelves) (new : Grid ℕ) (after : Shelves) →
-    Lowers toll level old before new after → (q : CPos) → IsExpanded toll old level q → IsExpanded toll new level q
-expanded-stays toll level old before new after low q done = λ p d k on step.
+    (entry_cost : CPos → ℕ) (level : ℕ) (old : Grid ℕ) (before : Shelves) (new : Grid ℕ) (after : Shelves) →
+    Lowers entry_cost level old before new after → (q : CPos) → IsExpanded entry_cost old level q → IsExpanded entry_cost new level q
+expanded-stays entry_cost level old before new after low q done = λ p d k on step.
     let wide : new.width ≡ old.width = low.size.width in
     let high : new.height ≡ old.height = low.size.height in
     let here : IsOn old.width old.height p = record { column = rw wide at on.column; row = rw high at on.row } in
-    let most = falls toll level old before new after low p in
+    let most = falls entry_cost level old before new after low p in
     let least = done p d k here step in
     omega (arith, most, least)
 
@@ -146,18 +146,18 @@ count-with g p bound v full on new old =
 
 -- A cell that is offered a lower label.
 pub relaxed :
-    (toll : CPos → ℕ) (level : ℕ) (g : Grid ℕ) (s t : Shelves) (p q : CPos) (d k : ℕ) →
-    IsFull g → Puts s t ((level + k) % 71) p → IsOn g.width g.height p → IsStep toll p d q k → k ≤ 70 →
+    (entry_cost : CPos → ℕ) (level : ℕ) (g : Grid ℕ) (s t : Shelves) (p q : CPos) (d k : ℕ) →
+    IsFull g → Puts s t ((level + k) % 71) p → IsOn g.width g.height p → IsStep entry_cost p d q k → k ≤ 70 →
     label_of g q ≡ level → level + k < label_of g p →
-    Lowers toll level g s (with_cell g p (level + k)) t
-relaxed toll level g s t p q d k full puts on step cheap from less =
+    Lowers entry_cost level g s (with_cell g p (level + k)) t
+relaxed entry_cost level g s t p q d k full puts on step cheap from less =
     let allowed = step.allowed in
     record {
       size = record { width = refl; height = refl };
       cells = length-set g.cells (place_of g.width p) (level + k);
       each = λ c. elim (one-or-not c p) [
         | inl same ↦
-            subst (λ (x : CPos). (label_of (with_cell g p (level + k)) x ≡ label_of g x) ⊎ IsMade toll level g (with_cell g p (level + k)) t x)
+            subst (λ (x : CPos). (label_of (with_cell g p (level + k)) x ≡ label_of g x) ⊎ IsMade entry_cost level g (with_cell g p (level + k)) t x)
             (sym same)
             (inr (record {
               entered = q;
@@ -196,10 +196,10 @@ relaxed-all f s t p label full puts on less =
             absurd (omega (arith, low, less, same_label))
         | inr other ↦ set-other NONE f.labels p label c on.column other
       ];
-      lowers = λ toll n d k q step cheap from is.
+      lowers = λ entry_cost n d k q step cheap from is.
           let there : Puts s t ((n + k) % 71) p = subst (λ (m : ℕ). Puts s t (m % 71) p) is puts in
-          subst (λ (m : ℕ). Lowers toll n f.labels s (with_cell f.labels p m) t) (sym is)
-          (relaxed toll n f.labels s t p q d k full there on step cheap from (omega (arith, is, less)));
+          subst (λ (m : ℕ). Lowers entry_cost n f.labels s (with_cell f.labels p m) t) (sym is)
+          (relaxed entry_cost n f.labels s t p q d k full there on step cheap from (omega (arith, is, less)));
     }
 
 -- A label that is written again.
@@ -210,9 +210,9 @@ label-again g p on =
 
 -- A cell that keeps its label.
 pub left-so :
-    (toll : CPos → ℕ) (level : ℕ) (g : Grid ℕ) (s : Shelves) (b : ℕ) (p : CPos) →
-    IsWhole s → b < 71 → HasRows s b 1 → Lowers toll level g s g (tried s b p false)
-left-so toll level g s b p whole low rows = record {
+    (entry_cost : CPos → ℕ) (level : ℕ) (g : Grid ℕ) (s : Shelves) (b : ℕ) (p : CPos) →
+    IsWhole s → b < 71 → HasRows s b 1 → Lowers entry_cost level g s g (tried s b p false)
+left-so entry_cost level g s b p whole low rows = record {
   size = record { width = refl; height = refl };
   cells = refl;
   each = λ c. inl refl;
@@ -231,13 +231,13 @@ relaxed-not f s p label whole rows most = record {
   least = most;
   same = refl;
   stays = λ c low. refl;
-  lowers = λ toll n d k q step cheap from is. left-so toll n f.labels s (label % 71) p whole (omega arith) rows;
+  lowers = λ entry_cost n d k q step cheap from is. left-so entry_cost n f.labels s (label % 71) p whole (omega arith) rows;
 }
 
 -- What is known of a cell that was tried, by whether its label is lower.
 pub record Tried (f : Distances) (s : Shelves) (g : Distances) (t : Shelves) (p : CPos) (allowed : Bool) (label : ℕ) : Type 0 where
   pub relaxed : allowed ≡ true → IsRelaxed f s g t p label
-  pub closed : allowed ≡ false → (toll : CPos → ℕ) (level : ℕ) → Lowers toll level f.labels s g.labels t
+  pub closed : allowed ≡ false → (entry_cost : CPos → ℕ) (level : ℕ) → Lowers entry_cost level f.labels s g.labels t
 
 pub tried-relaxed :
     (f : Distances) (s : Shelves) (p : CPos) (allowed low : Bool) (label : ℕ) → IsFull f.labels → IsWhole s →
@@ -260,57 +260,57 @@ tried-relaxed f s p false false label full whole rows on is =
     rw (label-again f.labels p on)
     (record {
       relaxed = λ h. absurd (false≢true h);
-      closed = λ h toll level. left-so toll level f.labels s (label % 71) p whole (omega arith) rows;
+      closed = λ h entry_cost level. left-so entry_cost level f.labels s (label % 71) p whole (omega arith) rows;
     })
 
 -- A neighbour that is offered the walk over a cell.
 pub offered :
-    (toll : CPos → ℕ) (q p : CPos) (d fare level : ℕ) (f : Distances) (s : Shelves) (g : Distances) (t : Shelves) →
-    IsFareFrom toll q d fare → 0 < fare → step_of q d ≡ Some p → label_of f.labels q ≡ level → opposite_of d < 8 →
+    (entry_cost : CPos → ℕ) (q p : CPos) (d step_cost level : ℕ) (f : Distances) (s : Shelves) (g : Distances) (t : Shelves) →
+    IsStepCostFrom entry_cost q d step_cost → 0 < step_cost → step_of q d ≡ Some p → label_of f.labels q ≡ level → opposite_of d < 8 →
     step_of p (opposite_of d) ≡ Some q →
-    IsRelaxed f s g t p (level + fare) → IsOffered toll q d level f s g t
-offered toll q p d fare level f s g t is some there from low back relaxed_to =
-    let step : IsStep toll p (opposite_of d) q fare =
+    IsRelaxed f s g t p (level + step_cost) → IsOffered entry_cost q d level f s g t
+offered entry_cost q p d step_cost level f s g t is some there from low back relaxed_to =
+    let step : IsStep entry_cost p (opposite_of d) q step_cost =
     record { direction = low; enters = back; cost = is.cost p there; allowed = some } in
     record {
       same = relaxed_to.same;
-      lowers = relaxed_to.lowers toll level (opposite_of d) fare q step is.cheap from refl;
+      lowers = relaxed_to.lowers entry_cost level (opposite_of d) step_cost q step is.cheap from refl;
       done = λ r k to on steps.
           let one : r ≡ p = cc in
-          let cost : fare_of toll r (opposite_of d) q ≡ fare = is.cost r to in
+          let cost : step_cost_of entry_cost r (opposite_of d) q ≡ step_cost = is.cost r to in
           let same_label : label_of g.labels r ≡ label_of g.labels p = ap (λ x. label_of g.labels x) one in
           omega (arith, cost, steps.cost, same_label, relaxed_to.least);
     }
 
 -- A neighbour to which no step is allowed: none leads there.
 pub offered-closed :
-    (toll : CPos → ℕ) (q p : CPos) (d level : ℕ) (f : Distances) (s : Shelves) (g : Distances) (t : Shelves) →
-    IsFareFrom toll q d 0 → step_of q d ≡ Some p → g.level ≡ f.level → Lowers toll level f.labels s g.labels t →
-    IsOffered toll q d level f s g t
-offered-closed toll q p d level f s g t is there same lowers = record {
+    (entry_cost : CPos → ℕ) (q p : CPos) (d level : ℕ) (f : Distances) (s : Shelves) (g : Distances) (t : Shelves) →
+    IsStepCostFrom entry_cost q d 0 → step_of q d ≡ Some p → g.level ≡ f.level → Lowers entry_cost level f.labels s g.labels t →
+    IsOffered entry_cost q d level f s g t
+offered-closed entry_cost q p d level f s g t is there same lowers = record {
   same = same;
   lowers = lowers;
   done = λ r k to on steps.
-      let cost : fare_of toll r (opposite_of d) q ≡ 0 = is.cost r to in
+      let cost : step_cost_of entry_cost r (opposite_of d) q ≡ 0 = is.cost r to in
       absurd (omega (arith, cost, steps.cost, steps.allowed));
 }
 
 -- A neighbour that was tried was offered the walk, and what was at the level stays.
-module _ (f : Distances) (s : Shelves) (g : Distances) (t : Shelves) (q p : CPos) (fare level : ℕ) where
+module _ (f : Distances) (s : Shelves) (g : Distances) (t : Shelves) (q p : CPos) (step_cost level : ℕ) where
   pub offered-tried :
-      (toll : CPos → ℕ) (d : ℕ) (allowed : Bool) →
-      (allowed ≡ true → IsRelaxed f s g t p (level + fare)) →
+      (entry_cost : CPos → ℕ) (d : ℕ) (allowed : Bool) →
+      (allowed ≡ true → IsRelaxed f s g t p (level + step_cost)) →
       (allowed ≡ false → (any : CPos → ℕ) (n : ℕ) → Lowers any n f.labels s g.labels t) → g.level ≡ f.level →
-      IsFareFrom toll q d (cond allowed fare 0) → 0 < fare → step_of q d ≡ Some p → label_of f.labels q ≡ level →
-      opposite_of d < 8 → step_of p (opposite_of d) ≡ Some q → IsOffered toll q d level f s g t
-  offered-tried toll d true to closed same is some there from low back =
-      offered toll q p d fare level f s g t is some there from low back (to refl)
-  offered-tried toll d false to closed same is some there from low back =
-      offered-closed toll q p d level f s g t is there same (closed refl toll level)
+      IsStepCostFrom entry_cost q d (cond allowed step_cost 0) → 0 < step_cost → step_of q d ≡ Some p → label_of f.labels q ≡ level →
+      opposite_of d < 8 → step_of p (opposite_of d) ≡ Some q → IsOffered entry_cost q d level f s g t
+  offered-tried entry_cost d true to closed same is some there from low back =
+      offered entry_cost q p d step_cost level f s g t is some there from low back (to refl)
+  offered-tried entry_cost d false to closed same is some there from low back =
+      offered-closed entry_cost q p d level f s g t is there same (closed refl entry_cost level)
 
   pub stays-tried :
       (allowed : Bool) →
-      (allowed ≡ true → IsRelaxed f s g t p (level + fare)) →
+      (allowed ≡ true → IsRelaxed f s g t p (level + step_cost)) →
       (allowed ≡ false → (any : CPos → ℕ) (n : ℕ) → Lowers any n f.labels s g.labels t) →
       label_of f.labels q ≡ level → label_of g.labels q ≡ level
   stays-tried true to closed from = (to refl).stays q (omega (arith, from)) ∙ from

@@ -9,7 +9,7 @@ use Rattle.game_model.specs.Grid.{IsOn, place_of}
 use Rattle.game_model.specs.Walks.{Land, IsWalk, IsDistance}
 use Rattle.grid_routes.specs.Steps.{IsFair}
 use Rattle.grid_routes.proofs.Cells.{apart, placed}
-use Rattle.grid_routes.proofs.StepCosts.{step-on}
+use Rattle.grid_routes.proofs.StepCostLemmas.{step-on}
 
 -- A cell of the map with a distance below n.
 record IsNearer (land : Land) (w h n : ℕ) (c : CPos) : Type 0 where
@@ -45,7 +45,7 @@ bool-or false = inr refl
 equal-or-not : (a b : ℕ) → (eqb a b ≡ true) ⊎ (eqb a b ≡ false)
 equal-or-not a b = bool-or (eqb a b)
 
-module _ (land : Land) (w h : ℕ) (fair : IsFair land.toll w h) where
+module _ (land : Land) (w h : ℕ) (fair : IsFair land.entry_cost w h) where
   nearer :
       (cells : List CPos) (p : CPos) (n most : ℕ) → n ≤ most → IsDistance land p n → IsWalk land p cells n →
       AllByRecursion (IsNearer land w h most) cells
@@ -54,7 +54,7 @@ module _ (land : Land) (w h : ℕ) (fair : IsFair land.toll w h) where
       let rest = rest-least land p q cells n is walk in
       let allowed = walk.3.allowed in
       let sum : n ≡ walk.1 + walk.2 = walk.4 in (
-        record { on = step-on land.toll w h fair p q walk.0 walk.1 walk.3; left = walk.2; is = rest; less = omega arith },
+        record { on = step-on land.entry_cost w h fair p q walk.0 walk.1 walk.3; left = walk.2; is = rest; less = omega arith },
         nearer cells q walk.2 most (omega arith) rest walk.5,
       )
 
@@ -83,7 +83,7 @@ module _ (land : Land) (w h : ℕ) (fair : IsFair land.toll w h) where
   distinct [] p n is walk = tt
   distinct (q ∷ cells) p n is walk =
       let rest = rest-least land p q cells n is walk in
-      let on = step-on land.toll w h fair p q walk.0 walk.1 walk.3 in (
+      let on = step-on land.entry_cost w h fair p q walk.0 walk.1 walk.3 in (
         none-again q walk.2 on rest cells (nearer cells q walk.2 walk.2 (omega arith) rest walk.5),
         distinct cells q walk.2 rest walk.5,
       )

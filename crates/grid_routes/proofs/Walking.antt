@@ -10,7 +10,7 @@ use Rattle.grid_routes.specs.Held.{Shelves}
 use Rattle.grid_routes.specs.Steps.{IsSearch, IsLead, IsLeastLead, IsOnward}
 use Rattle.grid_routes.proofs.Best.{best-is, distance, no-lead-goal}
 use Rattle.grid_routes.proofs.Shortest.{walk-fits}
-use Rattle.grid_routes.proofs.StepCosts.{step-on}
+use Rattle.grid_routes.proofs.StepCostLemmas.{step-on}
 
 no-cost : (land : Land) (cells : List CPos) (p : CPos) (n : ℕ) → n ≡ 0 → IsWalk land p cells n → p ≡ land.goal
 no-cost land [] p n none walk = walk.0
@@ -32,16 +32,16 @@ away land f s search p cost is some = λ (there : p ≡ land.goal).
 pub onward :
     (land : Land) (f : Distances) (s : Shelves) → IsSearch land f s → (p q : CPos) (d n : ℕ) →
     IsOn f.labels.width f.labels.height p → label_of f.labels p ≤ f.level → label_of f.labels p < NONE →
-    n ≡ label_of f.labels p → IsLeastLead land.toll f.labels p n d → Some q ≡ step_of p d → IsOnward land f.labels p q
+    n ≡ label_of f.labels p → IsLeastLead land.entry_cost f.labels p n d → Some q ≡ step_of p d → IsOnward land f.labels p q
 onward land f s search p q d n on final less is least there =
-    let least_here = subst (λ (m : ℕ). IsLeastLead land.toll f.labels p m d) is least in
+    let least_here = subst (λ (m : ℕ). IsLeastLead land.entry_cost f.labels p m d) is least in
     let lead = least_here.leads in
     let e : Some q ≡ Some lead.entered = there ∙ lead.step.enters in
     let one : lead.entered ≡ q = cc in
     record {
       direction = d;
       cost = lead.cost;
-      step = subst (λ (x : CPos). IsStep land.toll p d x lead.cost) one lead.step;
+      step = subst (λ (x : CPos). IsStep land.entry_cost p d x lead.cost) one lead.step;
       best = best-is land f s search p on final less d least_here;
       label = ap (λ x. label_of f.labels x + lead.cost) (sym one) ∙ lead.label;
     }
@@ -49,9 +49,9 @@ onward land f s search p q d n on final less is least there =
 pub leads-somewhere :
     (land : Land) (f : Distances) (s : Shelves) → IsSearch land f s → (p : CPos) (n : ℕ) →
     IsOn f.labels.width f.labels.height p → label_of f.labels p ≤ f.level → label_of f.labels p < NONE →
-    0 < label_of f.labels p → n ≡ label_of f.labels p → ((d : ℕ) → IsLead land.toll f.labels p n d → ⊥) → ⊥
+    0 < label_of f.labels p → n ≡ label_of f.labels p → ((d : ℕ) → IsLead land.entry_cost f.labels p n d → ⊥) → ⊥
 leads-somewhere land f s search p n on final less away is none =
-    let none_here = subst (λ (m : ℕ). (d : ℕ) → IsLead land.toll f.labels p m d → ⊥) is none in
+    let none_here = subst (λ (m : ℕ). (d : ℕ) → IsLead land.entry_cost f.labels p m d → ⊥) is none in
     let there = no-lead-goal land f s search p on final less none_here in
     let zero_there = ap (λ c. label_of f.labels c) there ∙ search.right.goal in
     omega (arith, zero_there)
@@ -89,7 +89,7 @@ route-step land f s search from at q cells cells' so_far onward more = record {
   spent = so_far.spent + onward.cost;
   all = more ∙ ap (λ xs. xs ++ q ∷ []) so_far.all;
   sum = omega (arith, so_far.sum, onward.label);
-  on = step-on land.toll f.labels.width f.labels.height search.fair at q onward.direction onward.cost onward.step;
+  on = step-on land.entry_cost f.labels.width f.labels.height search.fair at q onward.direction onward.cost onward.step;
   walks = λ others m n is walk.
       rw (append_assoc so_far.passed (q ∷ []) others)
       (so_far.walks (q ∷ others) (onward.cost + m) n (omega (arith, is))

@@ -4,7 +4,7 @@ use Rattle.std.specs.Prelude.{slice_index_or, Some, None, ◌⊎◌, [], ◌∷�
 use Rattle.world_units.specs.declared.cell.CPos.{CPos}
 use Rattle.game_model.specs.declared.terrain.Terrain.{Terrain}
 use Rattle.game_model.specs.Grid.{Grid, HasSize, IsOn}
-use Rattle.grid_routes.specs.Tolls.{land_over, toll_in}
+use Rattle.grid_routes.specs.EntryCosts.{land_over, entry_cost_in}
 use Rattle.grid_routes.specs.Labels.{Distances, begun, label_of}
 use Rattle.grid_routes.specs.declared.ask.Ask.{Ask}
 use Rattle.grid_routes.specs.declared.fields.Kept.{Kept}
@@ -31,15 +31,15 @@ IsWidened w h old new = (new ≡ old) ⊎ ((more : Kept) × IsRoom w h more × (
 
 -- The search is on its way for this.
 pub record IsFor (search : Search) (ask : Ask) : Type 0 where
-  pub tolls : search.tolls ≡ record search.tolls { costs = ask.costs; goal = ask.goal }
+  pub entry_costs : search.entry_costs ≡ record search.entry_costs { costs = ask.costs; goal = ask.goal }
   pub going :
-      IsSearch (record { toll = toll_in search.tolls; goal = ask.goal }) search.field search.buckets
+      IsSearch (record { entry_cost = entry_cost_in search.entry_costs; goal = ask.goal }) search.field search.buckets
 
 -- The search's field and buckets are those of a search for this over its ground, which may go on
--- once its tolls are turned to this.
+-- once its entry costs are turned to this.
 abbrev pub IsOwn : Search → Ask → Type 0
 IsOwn search ask =
-    IsSearch (land_over search.tolls.terrain search.tolls.built ask.costs ask.goal) search.field
+    IsSearch (land_over search.entry_costs.terrain search.entry_costs.built ask.costs ask.goal) search.field
     search.buckets
 
 -- A search to this goal has just begun with the field.
@@ -58,18 +58,18 @@ pub record IsSettled (search : Search) (p : CPos) : Type 0 where
 
 -- All fields have the size of the map and are over the ground of the search.
 pub record AreFields (w h : ℕ) (fields : Fields) : Type 0 where
-  pub terrain : HasSize w h fields.search.tolls.terrain
+  pub terrain : HasSize w h fields.search.entry_costs.terrain
   pub size : HasSize w h fields.search.field.labels
   pub room : fields.search.buckets.room ≡ w * h
   pub search : IfSome fields.ask (IsOwn fields.search)
-  pub kept : All (IsKept w h fields.search.tolls.terrain fields.search.tolls.built)
+  pub kept : All (IsKept w h fields.search.entry_costs.terrain fields.search.entry_costs.built)
       fields.kept.items
   pub place : fields.place < length fields.kept.items
 
 -- The ground stays.
 pub record IsSameGround (old new : Fields) : Type 0 where
-  pub terrain : new.search.tolls.terrain ≡ old.search.tolls.terrain
-  pub built : new.search.tolls.built ≡ old.search.tolls.built
+  pub terrain : new.search.entry_costs.terrain ≡ old.search.entry_costs.terrain
+  pub built : new.search.entry_costs.built ≡ old.search.entry_costs.built
 
 -- The first so many fields belong to nothing now, and all stay what they are.
 pub record AreForgotten (old new : List Kept) (count : ℕ) : Type 0 where

@@ -4,7 +4,7 @@ use Rattle.world_units.specs.declared.cell.CPos.{CPos}
 use Rattle.game_model.specs.declared.terrain.Terrain.{Terrain}
 use Rattle.game_model.specs.Grid.{Grid}
 use Rattle.game_model.specs.Walks.{Land, IsBest}
-use Rattle.grid_routes.specs.Tolls.{land_over}
+use Rattle.grid_routes.specs.EntryCosts.{land_over}
 use Rattle.grid_routes.specs.declared.ask.Ask.{Ask}
 use Rattle.grid_routes.specs.declared.known_walk.KnownStep.{KnownStep}
 use Rattle.grid_routes.specs.declared.known_walk.KnownWalk.{KnownWalk}

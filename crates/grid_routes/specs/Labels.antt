@@ -44,7 +44,7 @@ pub record IsRight (land : Land) (field : Distances) : Type 0 where
   -- Each step into a cell below the level was offered.
   pub closed :
       (p q : CPos) (d k : ℕ) → IsOn field.labels.width field.labels.height p →
-      IsStep land.toll p d q k →
+      IsStep land.entry_cost p d q k →
       label_of field.labels q < field.level →
       label_of field.labels p ≤ label_of field.labels q + k
   -- Labels are at most a step above the level, and far below `NONE`.

@@ -1,9 +1,9 @@
 pub mod Values
-pub mod Tolls
+pub mod EntryCosts
 pub mod Footing
 pub mod Around
 pub mod Beside
-pub mod Fares
+pub mod StepCosts
 pub mod Kept
 pub mod KnownWalks
 pub mod Findings

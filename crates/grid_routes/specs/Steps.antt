@@ -9,17 +9,17 @@ use Rattle.grid_routes.specs.declared.field.TheConstants.{NONE}
 use Rattle.grid_routes.specs.declared.route.Route.{Route}
 use Rattle.game_model.specs.Walks.{Land, HasNoWalk, IsBest, IsRouteOver, IsStep}
 use Rattle.grid_routes.specs.Labels.{Distances, IsFull, IsRight, label_of, open_count}
-use Rattle.grid_routes.specs.Tolls.{Ground}
+use Rattle.grid_routes.specs.EntryCosts.{Ground}
 use Rattle.grid_routes.specs.Held.{Shelves, IsAt, IsHeld, len_of}
 
 -- A cell got a lower label by a step into a cell of this level, and went into its bucket.
-pub record IsMade (toll : CPos → ℕ) (level : ℕ) (old new : Grid ℕ) (after : Shelves)
+pub record IsMade (entry_cost : CPos → ℕ) (level : ℕ) (old new : Grid ℕ) (after : Shelves)
     (p : CPos) : Type 0 where
   pub entered : CPos
   pub direction : ℕ
   pub cost : ℕ
   pub on : IsOn old.width old.height p
-  pub step : IsStep toll p direction entered cost
+  pub step : IsStep entry_cost p direction entered cost
   pub cheap : cost ≤ 70
   pub from : label_of old entered ≡ level
   pub label : label_of new p ≡ level + cost
@@ -28,11 +28,11 @@ pub record IsMade (toll : CPos → ℕ) (level : ℕ) (old new : Grid ℕ) (afte
 
 -- From one state of labels and buckets to another, labels only fell, by steps into cells of this
 -- level, whose own bucket stays as it is.
-pub record Lowers (toll : CPos → ℕ) (level : ℕ) (old : Grid ℕ) (before : Shelves) (new : Grid ℕ)
+pub record Lowers (entry_cost : CPos → ℕ) (level : ℕ) (old : Grid ℕ) (before : Shelves) (new : Grid ℕ)
     (after : Shelves) : Type 0 where
   pub size : HasSize old.width old.height new
   pub cells : length new.cells ≡ length old.cells
-  pub each : (p : CPos) → (label_of new p ≡ label_of old p) ⊎ IsMade toll level old new after p
+  pub each : (p : CPos) → (label_of new p ≡ label_of old p) ⊎ IsMade entry_cost level old new after p
   pub count : open_count (level + 1) new ≡ open_count (level + 1) old
   pub kept : (b i : ℕ) (c : CPos) → IsAt before b i c → IsAt after b i c
   pub row : len_of after (level % 71) ≡ len_of before (level % 71)
@@ -49,24 +49,24 @@ pub record IsRelaxed (old : Distances) (before : Shelves) (new : Distances) (aft
       (c : CPos) → label_of old.labels c ≤ label →
       label_of new.labels c ≡ label_of old.labels c
   pub lowers :
-      (toll : CPos → ℕ) (n d k : ℕ) (q : CPos) → IsStep toll p d q k → k ≤ 70 →
+      (entry_cost : CPos → ℕ) (n d k : ℕ) (q : CPos) → IsStep entry_cost p d q k → k ≤ 70 →
       label_of old.labels q ≡ n → label ≡ n + k →
-      Lowers toll n old.labels before new.labels after
+      Lowers entry_cost n old.labels before new.labels after
 
 -- The neighbour of q in direction d was offered the walk that enters q.
-pub record IsOffered (toll : CPos → ℕ) (q : CPos) (d level : ℕ) (old : Distances)
+pub record IsOffered (entry_cost : CPos → ℕ) (q : CPos) (d level : ℕ) (old : Distances)
     (before : Shelves) (new : Distances) (after : Shelves) : Type 0 where
   pub same : new.level ≡ old.level
-  pub lowers : Lowers toll level old.labels before new.labels after
+  pub lowers : Lowers entry_cost level old.labels before new.labels after
   pub done :
       (p : CPos) (k : ℕ) → step_of q d ≡ Some p →
-      IsOn old.labels.width old.labels.height p → IsStep toll p (opposite_of d) q k →
+      IsOn old.labels.width old.labels.height p → IsStep entry_cost p (opposite_of d) q k →
       label_of new.labels p ≤ level + k
 
 -- Each cell from which a step enters q has at most the label by that step.
 abbrev pub IsExpanded : (CPos → ℕ) → Grid ℕ → ℕ → CPos → Type 0
-IsExpanded toll labels level q =
-    (p : CPos) (d k : ℕ) → IsOn labels.width labels.height p → IsStep toll p d q k →
+IsExpanded entry_cost labels level q =
+    (p : CPos) (d k : ℕ) → IsOn labels.width labels.height p → IsStep entry_cost p d q k →
     label_of labels p ≤ level + k
 
 -- Each cell with a label from the level on is in its bucket.
@@ -76,15 +76,15 @@ pub record AreQueued (field : Distances) (shelves : Shelves) : Type 0 where
       IsHeld shelves (label_of field.labels p % 71) p
 
 -- Only cells of the map can be entered, and no step costs more than 70.
-pub record IsFair (toll : CPos → ℕ) (width height : ℕ) : Type 0 where
-  pub inside : (q : CPos) → 0 < toll q → IsOn width height q
-  pub cheap : (p q : CPos) (d k : ℕ) → IsStep toll p d q k → k ≤ 70
+pub record IsFair (entry_cost : CPos → ℕ) (width height : ℕ) : Type 0 where
+  pub inside : (q : CPos) → 0 < entry_cost q → IsOn width height q
+  pub cheap : (p q : CPos) (d k : ℕ) → IsStep entry_cost p d q k → k ≤ 70
 
 -- A field that a search made and may take up again: its labels are right for the goal.
 pub record IsGoing (land : Land) (field : Distances) : Type 0 where
   pub goal : IsOn field.labels.width field.labels.height land.goal
   pub full : IsFull field.labels
-  pub fair : IsFair land.toll field.labels.width field.labels.height
+  pub fair : IsFair land.entry_cost field.labels.width field.labels.height
   pub right : IsRight land field
 
 -- A search on its way: its labels are right, its sizes agree, and its buckets have what they must
@@ -93,7 +93,7 @@ pub record IsSearch (land : Land) (field : Distances) (shelves : Shelves) : Type
   pub goal : IsOn field.labels.width field.labels.height land.goal
   pub full : IsFull field.labels
   pub room : shelves.room ≡ length field.labels.cells
-  pub fair : IsFair land.toll field.labels.width field.labels.height
+  pub fair : IsFair land.entry_cost field.labels.width field.labels.height
   pub right : IsRight land field
   pub queued : shelves.lost ≡ false → AreQueued field shelves
 
@@ -133,17 +133,17 @@ pub record IsFilled (field : Distances) (shelves : Shelves) (y x : ℕ) : Type 0
       label_of field.labels p < NONE → IsHeld shelves (label_of field.labels p % 71) p
 
 -- The step in direction d enters a cell whose label is the distance less the step's cost.
-pub record IsLead (toll : CPos → ℕ) (labels : Grid ℕ) (p : CPos) (distance d : ℕ) : Type 0 where
+pub record IsLead (entry_cost : CPos → ℕ) (labels : Grid ℕ) (p : CPos) (distance d : ℕ) : Type 0 where
   pub entered : CPos
   pub cost : ℕ
-  pub step : IsStep toll p d entered cost
+  pub step : IsStep entry_cost p d entered cost
   pub label : label_of labels entered + cost ≡ distance
 
 -- The least such direction.
-pub record IsLeastLead (toll : CPos → ℕ) (labels : Grid ℕ) (p : CPos) (distance d : ℕ) : Type 0
+pub record IsLeastLead (entry_cost : CPos → ℕ) (labels : Grid ℕ) (p : CPos) (distance d : ℕ) : Type 0
   where
-    pub leads : IsLead toll labels p distance d
-    pub least : (e : ℕ) → IsLead toll labels p distance e → d ≤ e
+    pub leads : IsLead entry_cost labels p distance d
+    pub least : (e : ℕ) → IsLead entry_cost labels p distance e → d ≤ e
 
 -- All that a search keeps has the size of the map.
 pub record FitsTogether (width height : ℕ) (ground : Ground) (field : Distances)
@@ -156,7 +156,7 @@ pub record FitsTogether (width height : ℕ) (ground : Ground) (field : Distance
 pub record IsOnward (land : Land) (labels : Grid ℕ) (p q : CPos) : Type 0 where
   pub direction : ℕ
   pub cost : ℕ
-  pub step : IsStep land.toll p direction q cost
+  pub step : IsStep land.entry_cost p direction q cost
   pub best : IsBest land p direction
   pub label : label_of labels q + cost ≡ label_of labels p
 

@@ -4,7 +4,7 @@ ghost use Rattle.std.specs.Prelude.{IsFalse, Contains, []};
 ghost use Rattle.game_model.specs.Grid.{IsOn, HasSize};
 ghost use Rattle.game_model.specs.Walks.{IsBestDirection};
 ghost use Rattle.grid_routes.specs.declared.fields.Kept.{Kept};
-ghost use Rattle.grid_routes.specs.Tolls.{IsCheap, land_over};
+ghost use Rattle.grid_routes.specs.EntryCosts.{IsCheap, land_over};
 ghost use Rattle.grid_routes.specs.Labels.{label_of};
 ghost use Rattle.grid_routes.specs.Asked.{asks_of, IsOrIn};
 ghost use Rattle.grid_routes.specs.Kept.{AreFields, AreForgotten, IsBegun, IsFinal, IsFor};
@@ -31,7 +31,7 @@ pub(crate) struct Kept {
 /// The search that was asked last, and the fields of earlier ones.
 #[derive(Drop)]
 pub(crate) struct Fields {
-    /// The search, over the ground to which all fields belong. Its tolls are those of the question
+    /// The search, over the ground to which all fields belong. Its entry costs are those of the question
     /// that was asked last.
     pub(crate) search: Search,
     /// What its field belongs to.
@@ -70,13 +70,13 @@ impl Fields {
     /// Searches until the distance of a cell is final, from where the last search for this goal and
     /// these costs stopped. Returns whether there was none that is kept.
     pub(crate) fn settle(&mut self, ask: &Ask, from: CPos) -> bool
-        requires fields { AreFields self.old.search.tolls.terrain.width
-            self.old.search.tolls.terrain.height self.old }
+        requires fields { AreFields self.old.search.entry_costs.terrain.width
+            self.old.search.entry_costs.terrain.height self.old }
         requires costs { IsCheap ask.now.costs }
-        requires goal { IsOn self.old.search.tolls.terrain.width
-            self.old.search.tolls.terrain.height ask.now.goal }
-        ensures fields { AreFields self.old.search.tolls.terrain.width
-            self.old.search.tolls.terrain.height self.new }
+        requires goal { IsOn self.old.search.entry_costs.terrain.width
+            self.old.search.entry_costs.terrain.height ask.now.goal }
+        ensures fields { AreFields self.old.search.entry_costs.terrain.width
+            self.old.search.entry_costs.terrain.height self.new }
         ensures ground { IsSameGround self.old self.new }
         ensures search { IsFor self.new.search ask.now }
         ensures settled { label_of self.new.search.field.labels from ≤ self.new.search.field.level }
@@ -111,25 +111,25 @@ impl Fields {
 
     /// The best direction of a cell by the field at a place, which is read where it lies.
     pub(crate) fn best_at(&mut self, place: usize, ask: &Ask, from: CPos) -> Option<u8>
-        requires fields { AreFields self.old.search.tolls.terrain.width
-            self.old.search.tolls.terrain.height self.old }
+        requires fields { AreFields self.old.search.entry_costs.terrain.width
+            self.old.search.entry_costs.terrain.height self.old }
         requires costs { IsCheap ask.now.costs }
-        requires from { IsOn self.old.search.tolls.terrain.width
-            self.old.search.tolls.terrain.height from }
+        requires from { IsOn self.old.search.entry_costs.terrain.width
+            self.old.search.entry_costs.terrain.height from }
         requires settled { IsSomeAnd (slice_get self.old.kept.items place) (IsFinal ask.now from) }
-        ensures fields { AreFields self.old.search.tolls.terrain.width
-            self.old.search.tolls.terrain.height self.new }
+        ensures fields { AreFields self.old.search.entry_costs.terrain.width
+            self.old.search.entry_costs.terrain.height self.new }
         ensures ground { IsSameGround self.old self.new }
         ensures asked { self.new.ask ≡ self.old.ask }
         ensures kept { self.new.kept.items ≡ self.old.kept.items }
-        ensures best { IsBestDirection (land_over self.old.search.tolls.terrain
-            self.old.search.tolls.built ask.now.costs ask.now.goal) from result }
+        ensures best { IsBestDirection (land_over self.old.search.entry_costs.terrain
+            self.old.search.entry_costs.built ask.now.costs ask.now.goal) from result }
     {
         let Some(kept) = self.kept.get(place) else {
             unreachable!()
         };
-        self.search.tolls.turn_to(&ask.costs, ask.goal);
-        best_on(&self.search.tolls, &kept.field, from, ask.goal)
+        self.search.entry_costs.turn_to(&ask.costs, ask.goal);
+        best_on(&self.search.entry_costs, &kept.field, from, ask.goal)
     }
 
     /// Forgets all fields, and takes in another ground.
@@ -138,11 +138,11 @@ impl Fields {
         requires terrain { HasSize map.now.width map.now.height map.now.terrain }
         requires blocks { HasSize map.now.width map.now.height blocks.now }
         ensures fields { AreFields map.now.width map.now.height self.new }
-        ensures terrain { self.new.search.tolls.terrain ≡ map.now.terrain }
-        ensures blocks { self.new.search.tolls.built ≡ blocks.now }
+        ensures terrain { self.new.search.entry_costs.terrain ≡ map.now.terrain }
+        ensures blocks { self.new.search.entry_costs.built ≡ blocks.now }
         ensures asks { asks_of self.new.ask self.new.kept.items ≡ [] }
     {
-        self.search.tolls.take_ground(map, blocks);
+        self.search.entry_costs.take_ground(map, blocks);
         self.ask = None;
         self.index.clear();
         forget_all(&mut self.kept);
@@ -150,13 +150,13 @@ impl Fields {
 
     /// Turns to a question: goes on with its field, or begins one.
     fn turn_to(&mut self, ask: &Ask) -> bool
-        requires fields { AreFields self.old.search.tolls.terrain.width
-            self.old.search.tolls.terrain.height self.old }
+        requires fields { AreFields self.old.search.entry_costs.terrain.width
+            self.old.search.entry_costs.terrain.height self.old }
         requires costs { IsCheap ask.now.costs }
-        requires goal { IsOn self.old.search.tolls.terrain.width
-            self.old.search.tolls.terrain.height ask.now.goal }
-        ensures fields { AreFields self.old.search.tolls.terrain.width
-            self.old.search.tolls.terrain.height self.new }
+        requires goal { IsOn self.old.search.entry_costs.terrain.width
+            self.old.search.entry_costs.terrain.height ask.now.goal }
+        ensures fields { AreFields self.old.search.entry_costs.terrain.width
+            self.old.search.entry_costs.terrain.height self.new }
         ensures ground { IsSameGround self.old self.new }
         ensures asked { self.new.ask ≡ Some ask.now }
         ensures search { IsFor self.new.search ask.now }
@@ -167,7 +167,7 @@ impl Fields {
         ensures anew { IsTrue result → IsBegun ask.now.goal self.new.search.field }
     {
         if is_asked(&self.ask, ask) {
-            self.search.tolls.turn_to(&ask.costs, ask.goal);
+            self.search.entry_costs.turn_to(&ask.costs, ask.goal);
             false
         } else {
             self.put_back();
@@ -180,10 +180,10 @@ impl Fields {
 
     /// Makes room for one more field where a place is the last one, or past it.
     fn make_room(&mut self, place: usize)
-        requires fields { AreFields self.old.search.tolls.terrain.width
-            self.old.search.tolls.terrain.height self.old }
-        ensures fields { AreFields self.old.search.tolls.terrain.width
-            self.old.search.tolls.terrain.height self.new }
+        requires fields { AreFields self.old.search.entry_costs.terrain.width
+            self.old.search.entry_costs.terrain.height self.old }
+        ensures fields { AreFields self.old.search.entry_costs.terrain.width
+            self.old.search.entry_costs.terrain.height self.new }
         ensures search { self.new.search ≡ self.old.search }
         ensures asks { All (Contains (asks_of self.old.ask self.old.kept.items))
             (asks_of self.new.ask self.new.kept.items) }
@@ -195,11 +195,11 @@ impl Fields {
 
     /// Puts the field of the search back to its place.
     fn put_back(&mut self)
-        requires fields { AreFields self.old.search.tolls.terrain.width
-            self.old.search.tolls.terrain.height self.old }
-        ensures fields { AreFields self.old.search.tolls.terrain.width
-            self.old.search.tolls.terrain.height self.new }
-        ensures tolls { self.new.search.tolls ≡ self.old.search.tolls }
+        requires fields { AreFields self.old.search.entry_costs.terrain.width
+            self.old.search.entry_costs.terrain.height self.old }
+        ensures fields { AreFields self.old.search.entry_costs.terrain.width
+            self.old.search.entry_costs.terrain.height self.new }
+        ensures entry_costs { self.new.search.entry_costs ≡ self.old.search.entry_costs }
         ensures asks { All (Contains (asks_of self.old.ask self.old.kept.items))
             (asks_of self.new.ask self.new.kept.items) }
     {
@@ -209,14 +209,14 @@ impl Fields {
 
     /// Goes on with the field at a place if it belongs to this, and begins it anew if not.
     fn take_up(&mut self, place: usize, ask: &Ask) -> bool
-        requires fields { AreFields self.old.search.tolls.terrain.width
-            self.old.search.tolls.terrain.height self.old }
+        requires fields { AreFields self.old.search.entry_costs.terrain.width
+            self.old.search.entry_costs.terrain.height self.old }
         requires place { place < length self.old.kept.items }
         requires costs { IsCheap ask.now.costs }
-        requires goal { IsOn self.old.search.tolls.terrain.width
-            self.old.search.tolls.terrain.height ask.now.goal }
-        ensures fields { AreFields self.old.search.tolls.terrain.width
-            self.old.search.tolls.terrain.height self.new }
+        requires goal { IsOn self.old.search.entry_costs.terrain.width
+            self.old.search.entry_costs.terrain.height ask.now.goal }
+        ensures fields { AreFields self.old.search.entry_costs.terrain.width
+            self.old.search.entry_costs.terrain.height self.new }
         ensures ground { IsSameGround self.old self.new }
         ensures asked { self.new.ask ≡ Some ask.now }
         ensures search { IsFor self.new.search ask.now }

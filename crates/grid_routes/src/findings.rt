@@ -2,7 +2,7 @@ ghost use Rattle.std.specs.Prelude.{◌≡◌, ◌⊎◌, ◌≤◌, if◌then�
 ghost use Rattle.std.specs.Prelude.{[], None, Some};
 ghost use Rattle.game_model.specs.Grid.{IsOn, HasSize};
 ghost use Rattle.game_model.specs.Walks.{IsBest, IsBestDirection};
-ghost use Rattle.grid_routes.specs.Tolls.{IsCheap, land_over};
+ghost use Rattle.grid_routes.specs.EntryCosts.{IsCheap, land_over};
 ghost use Rattle.grid_routes.specs.Kept.{IsFor, IsSameGround, IsSettled};
 ghost use Rattle.grid_routes.specs.KnownWalks.{AreBest, IsBestWalk};
 ghost use Rattle.grid_routes.specs.Findings.{AreFindings};
@@ -54,18 +54,18 @@ impl Findings {
     /// The best direction of a cell: what its kept field says where it is final, else that of a
     /// known step, else what a search finds.
     pub(crate) fn best_dir(&mut self, ask: &Ask, from: CPos) -> Option<u8>
-        requires found { AreFindings self.old.fields.search.tolls.terrain.width
-            self.old.fields.search.tolls.terrain.height self.old }
+        requires found { AreFindings self.old.fields.search.entry_costs.terrain.width
+            self.old.fields.search.entry_costs.terrain.height self.old }
         requires costs { IsCheap ask.now.costs }
-        requires goal { IsOn self.old.fields.search.tolls.terrain.width
-            self.old.fields.search.tolls.terrain.height ask.now.goal }
-        requires from { IsOn self.old.fields.search.tolls.terrain.width
-            self.old.fields.search.tolls.terrain.height from }
-        ensures found { AreFindings self.old.fields.search.tolls.terrain.width
-            self.old.fields.search.tolls.terrain.height self.new }
+        requires goal { IsOn self.old.fields.search.entry_costs.terrain.width
+            self.old.fields.search.entry_costs.terrain.height ask.now.goal }
+        requires from { IsOn self.old.fields.search.entry_costs.terrain.width
+            self.old.fields.search.entry_costs.terrain.height from }
+        ensures found { AreFindings self.old.fields.search.entry_costs.terrain.width
+            self.old.fields.search.entry_costs.terrain.height self.new }
         ensures ground { IsSameGround self.old.fields self.new.fields }
-        ensures best { IsBestDirection (land_over self.old.fields.search.tolls.terrain
-            self.old.fields.search.tolls.built ask.now.costs ask.now.goal) from result }
+        ensures best { IsBestDirection (land_over self.old.fields.search.entry_costs.terrain
+            self.old.fields.search.entry_costs.built ask.now.costs ask.now.goal) from result }
         ensures computed { CountsOn (asks_in self.old) ask.now self.old.computed self.new.computed }
         ensures asks { KeepsOnly ask.now (asks_in self.old) (asks_in self.new) }
         ensures again { self.old.fields.ask ≡ Some ask.now →
@@ -83,18 +83,18 @@ impl Findings {
     /// farther off.
     #[tactic(auto, using(crate::proofs::Asking::known_counts, crate::proofs::Asking::same_asks, crate::proofs::Asking::counts_after))]
     fn find_near(&mut self, ask: &Ask, from: CPos) -> Option<u8>
-        requires found { AreFindings self.old.fields.search.tolls.terrain.width
-            self.old.fields.search.tolls.terrain.height self.old }
+        requires found { AreFindings self.old.fields.search.entry_costs.terrain.width
+            self.old.fields.search.entry_costs.terrain.height self.old }
         requires costs { IsCheap ask.now.costs }
-        requires goal { IsOn self.old.fields.search.tolls.terrain.width
-            self.old.fields.search.tolls.terrain.height ask.now.goal }
-        requires from { IsOn self.old.fields.search.tolls.terrain.width
-            self.old.fields.search.tolls.terrain.height from }
-        ensures found { AreFindings self.old.fields.search.tolls.terrain.width
-            self.old.fields.search.tolls.terrain.height self.new }
+        requires goal { IsOn self.old.fields.search.entry_costs.terrain.width
+            self.old.fields.search.entry_costs.terrain.height ask.now.goal }
+        requires from { IsOn self.old.fields.search.entry_costs.terrain.width
+            self.old.fields.search.entry_costs.terrain.height from }
+        ensures found { AreFindings self.old.fields.search.entry_costs.terrain.width
+            self.old.fields.search.entry_costs.terrain.height self.new }
         ensures ground { IsSameGround self.old.fields self.new.fields }
-        ensures best { IsBestDirection (land_over self.old.fields.search.tolls.terrain
-            self.old.fields.search.tolls.built ask.now.costs ask.now.goal) from result }
+        ensures best { IsBestDirection (land_over self.old.fields.search.entry_costs.terrain
+            self.old.fields.search.entry_costs.built ask.now.costs ask.now.goal) from result }
         ensures computed { CountsOn (asks_in self.old) ask.now self.old.computed self.new.computed }
         ensures asks { KeepsOnly ask.now (asks_in self.old) (asks_in self.new) }
         ensures again { self.old.fields.ask ≡ Some ask.now →
@@ -112,18 +112,18 @@ impl Findings {
     /// step that is followed elsewhere, else what a search finds.
     #[tactic(auto, using(crate::proofs::Asking::known_counts, crate::proofs::Asking::same_asks, crate::proofs::Asking::counts_after))]
     fn find(&mut self, ask: &Ask, from: CPos) -> Option<u8>
-        requires found { AreFindings self.old.fields.search.tolls.terrain.width
-            self.old.fields.search.tolls.terrain.height self.old }
+        requires found { AreFindings self.old.fields.search.entry_costs.terrain.width
+            self.old.fields.search.entry_costs.terrain.height self.old }
         requires costs { IsCheap ask.now.costs }
-        requires goal { IsOn self.old.fields.search.tolls.terrain.width
-            self.old.fields.search.tolls.terrain.height ask.now.goal }
-        requires from { IsOn self.old.fields.search.tolls.terrain.width
-            self.old.fields.search.tolls.terrain.height from }
-        ensures found { AreFindings self.old.fields.search.tolls.terrain.width
-            self.old.fields.search.tolls.terrain.height self.new }
+        requires goal { IsOn self.old.fields.search.entry_costs.terrain.width
+            self.old.fields.search.entry_costs.terrain.height ask.now.goal }
+        requires from { IsOn self.old.fields.search.entry_costs.terrain.width
+            self.old.fields.search.entry_costs.terrain.height from }
+        ensures found { AreFindings self.old.fields.search.entry_costs.terrain.width
+            self.old.fields.search.entry_costs.terrain.height self.new }
         ensures ground { IsSameGround self.old.fields self.new.fields }
-        ensures best { IsBestDirection (land_over self.old.fields.search.tolls.terrain
-            self.old.fields.search.tolls.built ask.now.costs ask.now.goal) from result }
+        ensures best { IsBestDirection (land_over self.old.fields.search.entry_costs.terrain
+            self.old.fields.search.entry_costs.built ask.now.costs ask.now.goal) from result }
         ensures computed { CountsOn (asks_in self.old) ask.now self.old.computed self.new.computed }
         ensures asks { KeepsOnly ask.now (asks_in self.old) (asks_in self.new) }
         ensures again { self.old.fields.ask ≡ Some ask.now →
@@ -150,16 +150,16 @@ impl Findings {
         requires terrain { HasSize map.now.width map.now.height map.now.terrain }
         requires blocks { HasSize map.now.width map.now.height blocks.now }
         ensures found { AreFindings map.now.width map.now.height self.new }
-        ensures terrain { self.new.fields.search.tolls.terrain ≡ map.now.terrain }
-        ensures blocks { self.new.fields.search.tolls.built ≡ blocks.now }
+        ensures terrain { self.new.fields.search.entry_costs.terrain ≡ map.now.terrain }
+        ensures blocks { self.new.fields.search.entry_costs.built ≡ blocks.now }
         ensures computed { self.new.computed ≡ self.old.computed }
         ensures asks { All (Contains (asks_in self.old)) (asks_in self.new) }
-        ensures same { self.old.fields.search.tolls.terrain ≡ map.now.terrain →
-            self.old.fields.search.tolls.built ≡ blocks.now → self.new ≡ self.old }
-        ensures forgets { (self.old.fields.search.tolls.terrain ≡ map.now.terrain →
-            self.old.fields.search.tolls.built ≡ blocks.now → ⊥) → asks_in self.new ≡ [] }
+        ensures same { self.old.fields.search.entry_costs.terrain ≡ map.now.terrain →
+            self.old.fields.search.entry_costs.built ≡ blocks.now → self.new ≡ self.old }
+        ensures forgets { (self.old.fields.search.entry_costs.terrain ≡ map.now.terrain →
+            self.old.fields.search.entry_costs.built ≡ blocks.now → ⊥) → asks_in self.new ≡ [] }
     {
-        if !self.fields.search.tolls.is_over(map, blocks) {
+        if !self.fields.search.entry_costs.is_over(map, blocks) {
             self.forget(map, blocks);
         }
     }
@@ -171,8 +171,8 @@ impl Findings {
         requires terrain { HasSize map.now.width map.now.height map.now.terrain }
         requires blocks { HasSize map.now.width map.now.height blocks.now }
         ensures found { AreFindings map.now.width map.now.height self.new }
-        ensures terrain { self.new.fields.search.tolls.terrain ≡ map.now.terrain }
-        ensures blocks { self.new.fields.search.tolls.built ≡ blocks.now }
+        ensures terrain { self.new.fields.search.entry_costs.terrain ≡ map.now.terrain }
+        ensures blocks { self.new.fields.search.entry_costs.built ≡ blocks.now }
         ensures computed { self.new.computed ≡ self.old.computed }
         ensures asks { asks_in self.new ≡ [] }
     {
@@ -183,13 +183,13 @@ impl Findings {
     /// The direction of the known step from a cell, if there is one within reach.
     #[tactic(auto, using(crate::proofs::Knowing::known_best))]
     fn known(&mut self, ask: &Ask, from: CPos, reach: Reach) -> Option<u8>
-        requires { AreFindings self.old.fields.search.tolls.terrain.width
-            self.old.fields.search.tolls.terrain.height self.old }
-        ensures found { AreFindings self.old.fields.search.tolls.terrain.width
-            self.old.fields.search.tolls.terrain.height self.new }
+        requires { AreFindings self.old.fields.search.entry_costs.terrain.width
+            self.old.fields.search.entry_costs.terrain.height self.old }
+        ensures found { AreFindings self.old.fields.search.entry_costs.terrain.width
+            self.old.fields.search.entry_costs.terrain.height self.new }
         ensures fields { self.new.fields ≡ self.old.fields }
-        ensures best { IfSome result (IsBest (land_over self.old.fields.search.tolls.terrain
-            self.old.fields.search.tolls.built ask.now.costs ask.now.goal) from) }
+        ensures best { IfSome result (IsBest (land_over self.old.fields.search.entry_costs.terrain
+            self.old.fields.search.entry_costs.built ask.now.costs ask.now.goal) from) }
         ensures computed { self.new.computed ≡ self.old.computed }
         ensures kept { IfSome result (λ d. Contains (asks_in self.old) ask.now) }
         ensures asks { asks_in self.new ≡ asks_in self.old }
@@ -199,15 +199,15 @@ impl Findings {
 
     /// Searches until the distance of a cell is final, and counts a field that was begun for it.
     pub(crate) fn settle(&mut self, ask: &Ask, from: CPos)
-        requires found { AreFindings self.old.fields.search.tolls.terrain.width
-            self.old.fields.search.tolls.terrain.height self.old }
+        requires found { AreFindings self.old.fields.search.entry_costs.terrain.width
+            self.old.fields.search.entry_costs.terrain.height self.old }
         requires costs { IsCheap ask.now.costs }
-        requires goal { IsOn self.old.fields.search.tolls.terrain.width
-            self.old.fields.search.tolls.terrain.height ask.now.goal }
-        requires from { IsOn self.old.fields.search.tolls.terrain.width
-            self.old.fields.search.tolls.terrain.height from }
-        ensures found { AreFindings self.old.fields.search.tolls.terrain.width
-            self.old.fields.search.tolls.terrain.height self.new }
+        requires goal { IsOn self.old.fields.search.entry_costs.terrain.width
+            self.old.fields.search.entry_costs.terrain.height ask.now.goal }
+        requires from { IsOn self.old.fields.search.entry_costs.terrain.width
+            self.old.fields.search.entry_costs.terrain.height from }
+        ensures found { AreFindings self.old.fields.search.entry_costs.terrain.width
+            self.old.fields.search.entry_costs.terrain.height self.new }
         ensures ground { IsSameGround self.old.fields self.new.fields }
         ensures search { IsFor self.new.fields.search ask.now }
         ensures settled { IsSettled self.new.fields.search from }
@@ -223,15 +223,15 @@ impl Findings {
 
     /// The best direction of a cell whose label is final. Takes in the walk from it.
     fn best(&mut self, ask: &Ask, from: CPos) -> Option<u8>
-        requires found { AreFindings self.old.fields.search.tolls.terrain.width
-            self.old.fields.search.tolls.terrain.height self.old }
+        requires found { AreFindings self.old.fields.search.entry_costs.terrain.width
+            self.old.fields.search.entry_costs.terrain.height self.old }
         requires search { IsFor self.old.fields.search ask.now }
         requires settled { IsSettled self.old.fields.search from }
-        ensures found { AreFindings self.old.fields.search.tolls.terrain.width
-            self.old.fields.search.tolls.terrain.height self.new }
+        ensures found { AreFindings self.old.fields.search.entry_costs.terrain.width
+            self.old.fields.search.entry_costs.terrain.height self.new }
         ensures fields { self.new.fields ≡ self.old.fields }
-        ensures best { IsBestDirection (land_over self.old.fields.search.tolls.terrain
-            self.old.fields.search.tolls.built ask.now.costs ask.now.goal) from result }
+        ensures best { IsBestDirection (land_over self.old.fields.search.entry_costs.terrain
+            self.old.fields.search.entry_costs.built ask.now.costs ask.now.goal) from result }
         ensures computed { self.new.computed ≡ self.old.computed }
         ensures asks { KeepsOnly ask.now (asks_in self.old) (asks_in self.new) }
     {
@@ -263,7 +263,7 @@ fn counted(computed: u64, begun: bool) -> u64
 fn walk_from(search: &Search, ask: &Ask, from: CPos) -> KnownWalk
     requires search { IsFor search.now ask.now }
     requires settled { IsSettled search.now from }
-    ensures best { IsBestWalk search.now.tolls.terrain search.now.tolls.built result }
+    ensures best { IsBestWalk search.now.entry_costs.terrain search.now.entry_costs.built result }
     ensures asked { result.ask ≡ ask.now }
 {
     let mut walk = KnownWalk::create(ask);
@@ -279,11 +279,11 @@ fn walk_from(search: &Search, ask: &Ask, from: CPos) -> KnownWalk
 
 /// Takes in the best step from a cell whose label is final, and returns the cell that it enters.
 fn take_step(walk: &mut KnownWalk, search: &Search, ask: &Ask, at: CPos) -> Option<CPos>
-    requires walk { IsBestWalk search.now.tolls.terrain search.now.tolls.built walk.old }
+    requires walk { IsBestWalk search.now.entry_costs.terrain search.now.entry_costs.built walk.old }
     requires asked { walk.old.ask ≡ ask.now }
     requires search { IsFor search.now ask.now }
     requires settled { IsSettled search.now at }
-    ensures walk { IsBestWalk search.now.tolls.terrain search.now.tolls.built walk.new }
+    ensures walk { IsBestWalk search.now.entry_costs.terrain search.now.entry_costs.built walk.new }
     ensures asked { walk.new.ask ≡ ask.now }
     ensures next { IfSome result (IsSettled search.now) }
 {
@@ -300,8 +300,8 @@ fn take_step(walk: &mut KnownWalk, search: &Search, ask: &Ask, at: CPos) -> Opti
 fn best_of(search: &Search, ask: &Ask, from: CPos) -> Option<u8>
     requires search { IsFor search.now ask.now }
     requires settled { IsSettled search.now from }
-    ensures { IsBestDirection (land_over search.now.tolls.terrain search.now.tolls.built
+    ensures { IsBestDirection (land_over search.now.entry_costs.terrain search.now.entry_costs.built
         ask.now.costs ask.now.goal) from result }
 {
-    best_on(&search.tolls, &search.field, from, ask.goal)
+    best_on(&search.entry_costs, &search.field, from, ask.goal)
 }

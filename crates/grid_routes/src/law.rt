@@ -5,7 +5,7 @@ ghost use Rattle.game_model.specs.declared.map.Map.{Map};
 ghost use Rattle.game_model.specs.Grid.{Grid, HasSize};
 ghost use Rattle.game_model.specs.Walks.{land_of};
 ghost use Rattle.grid_routes.specs.Least.{AreLeast};
-ghost use Rattle.grid_routes.specs.Tolls.{IsCheap};
+ghost use Rattle.grid_routes.specs.EntryCosts.{IsCheap};
 
 /// A law of routes: over a map that has a terrain for each cell, for costs of at most 10 and any
 /// buildings and goal, the distance and the best direction as functions are the least cost of all

@@ -3,36 +3,41 @@ ghost use Rattle.game_model.specs.Grid.{IsOn};
 ghost use Rattle.game_model.specs.Walks.{IsBestDirection};
 ghost use Rattle.grid_routes.specs.Labels.{label_of};
 ghost use Rattle.grid_routes.specs.Steps.{IsGoing, IsLead, IsLeastLead};
-ghost use Rattle.grid_routes.specs.Tolls.{toll_in};
+ghost use Rattle.grid_routes.specs.EntryCosts.{entry_cost_in};
 
+use crate::entry_costs::EntryCosts;
 use crate::field::{Field, NONE};
-use crate::tolls::Tolls;
 use world_units::{CPos, DIRECTIONS, step};
 
 /// The least direction whose step begins a walk of least cost, for a cell whose label is final.
-pub(crate) fn best_on(tolls: &Tolls, field: &Field, from: CPos, goal: CPos) -> Option<u8>
-    requires going { IsGoing (record { toll = toll_in tolls.now; goal = goal }) field.now }
+pub(crate) fn best_on(entry_costs: &EntryCosts, field: &Field, from: CPos, goal: CPos) -> Option<u8>
+    requires going { IsGoing (record { entry_cost = entry_cost_in entry_costs.now; goal = goal }) field.now }
     requires on { IsOn field.now.labels.width field.now.labels.height from }
     requires settled { label_of field.now.labels from ≤ field.now.level }
-    ensures { IsBestDirection (record { toll = toll_in tolls.now; goal = goal }) from result }
+    ensures { IsBestDirection (record { entry_cost = entry_cost_in entry_costs.now; goal = goal }) from result }
 {
     let distance = field.label(from);
     if distance == NONE {
         None
     } else {
-        least_lead(tolls, field, from, distance)
+        least_lead(entry_costs, field, from, distance)
     }
 }
 
 /// The least direction whose step leads to a label that is less by the step's cost.
-pub(crate) fn least_lead(tolls: &Tolls, field: &Field, from: CPos, distance: u32) -> Option<u8>
+pub(crate) fn least_lead(
+    entry_costs: &EntryCosts,
+    field: &Field,
+    from: CPos,
+    distance: u32,
+) -> Option<u8>
     requires { distance < NONE }
     ensures { MatchOption result ((d : ℕ) →
-        IsLead (toll_in tolls.now) field.now.labels from distance d →
-        ⊥) (λ d. IsLeastLead (toll_in tolls.now) field.now.labels from distance d) }
+        IsLead (entry_cost_in entry_costs.now) field.now.labels from distance d →
+        ⊥) (λ d. IsLeastLead (entry_cost_in entry_costs.now) field.now.labels from distance d) }
 {
     for d in 0..DIRECTIONS {
-        if leads(tolls, field, from, d, distance) {
+        if leads(entry_costs, field, from, d, distance) {
             return Some(d);
         }
     }
@@ -40,16 +45,16 @@ pub(crate) fn least_lead(tolls: &Tolls, field: &Field, from: CPos, distance: u32
 }
 
 /// Whether the step in direction `d` leads to a label that is less by the step's cost.
-fn leads(tolls: &Tolls, field: &Field, from: CPos, d: u8, distance: u32) -> bool
+fn leads(entry_costs: &EntryCosts, field: &Field, from: CPos, d: u8, distance: u32) -> bool
     requires direction { d < 8 }
     requires distance { distance < NONE }
-    ensures yes { IsTrue result → IsLead (toll_in tolls.now) field.now.labels from distance d }
-    ensures no { IsFalse result → IsLead (toll_in tolls.now) field.now.labels from distance d → ⊥ }
+    ensures yes { IsTrue result → IsLead (entry_cost_in entry_costs.now) field.now.labels from distance d }
+    ensures no { IsFalse result → IsLead (entry_cost_in entry_costs.now) field.now.labels from distance d → ⊥ }
 {
     match step(from, d) {
         Some(q) => {
             let label = field.label(q);
-            label < distance && tolls.fare(from, d, q) == distance - label
+            label < distance && entry_costs.step_cost(from, d, q) == distance - label
         }
         None => false,
     }

@@ -17,7 +17,7 @@
 mod ask;
 mod beside;
 mod buckets;
-mod fares;
+mod entry_costs;
 mod field;
 mod fields;
 mod findings;
@@ -30,8 +30,8 @@ mod offers;
 mod route;
 mod router;
 mod search;
+mod step_costs;
 mod surface;
-mod tolls;
 mod trails;
 
 pub use index::FIELDS;

@@ -5,7 +5,7 @@ ghost use Rattle.std.specs.Prelude.{IfSome, IsFalse, IsTrue, if◌then◌else◌
 ghost use Rattle.world_units.specs.declared.cell.CPos.{CPos};
 ghost use Rattle.game_model.specs.Grid.{HasSize};
 ghost use Rattle.grid_routes.specs.Beside.{IsBeside, IsPlaced};
-ghost use Rattle.grid_routes.specs.Fares.{IsFareFrom};
+ghost use Rattle.grid_routes.specs.StepCosts.{IsStepCostFrom};
 ghost use Rattle.grid_routes.specs.Held.{HasRows, len_of};
 ghost use Rattle.grid_routes.specs.Labels.{label_of};
 ghost use Rattle.grid_routes.specs.Steps.{IsOffered, IsRelaxed, Lowers};
@@ -22,7 +22,7 @@ pub(crate) fn offer(
     buckets: &mut Buckets,
     q: Placed,
     n: Option<Placed>,
-    fare: u32,
+    step_cost: u32,
     level: u32,
     width: u8,
     height: u8,
@@ -31,16 +31,16 @@ pub(crate) fn offer(
     requires there { IfSome n (IsPlaced width height) }
     requires from { label_of field.old.labels q.cell ≡ level }
     requires low { level < 2 ^ 31 }
-    requires cheap { fare ≤ 70 }
+    requires cheap { step_cost ≤ 70 }
     ensures size { HasSize width height field.new.labels }
     ensures stays { label_of field.new.labels q.cell ≡ level }
-    ensures offers { (toll : CPos → ℕ) (d : ℕ) → d < 8 → IsFareFrom toll q.cell d fare →
+    ensures offers { (entry_cost : CPos → ℕ) (d : ℕ) → d < 8 → IsStepCostFrom entry_cost q.cell d step_cost →
         IsBeside width height q.cell d n →
-        IsOffered toll q.cell d level field.old buckets.old field.new buckets.new }
+        IsOffered entry_cost q.cell d level field.old buckets.old field.new buckets.new }
 {
-    if fare > 0 {
+    if step_cost > 0 {
         if let Some(n) = n {
-            relax(field, buckets, n, level + fare);
+            relax(field, buckets, n, level + step_cost);
         }
     }
 }
@@ -67,7 +67,7 @@ pub(crate) fn try_offer(
     q: Placed,
     n: Option<Placed>,
     allowed: bool,
-    fare: u32,
+    step_cost: u32,
     level: u32,
     width: u8,
     height: u8,
@@ -76,19 +76,19 @@ pub(crate) fn try_offer(
     requires there { IfSome n (IsPlaced width height) }
     requires from { label_of field.old.labels q.cell ≡ level }
     requires low { level < 2 ^ 31 }
-    requires some { 0 < fare }
-    requires cheap { fare ≤ 70 }
-    requires row { HasRows buckets.old ((level + fare) % 71) 1 }
+    requires some { 0 < step_cost }
+    requires cheap { step_cost ≤ 70 }
+    requires row { HasRows buckets.old ((level + step_cost) % 71) 1 }
     ensures size { HasSize width height field.new.labels }
     ensures stays { label_of field.new.labels q.cell ≡ level }
     ensures cells { length buckets.new.cells ≡ length buckets.old.cells }
     ensures grows { (b : ℕ) → len_of buckets.new b ≤ len_of buckets.old b + 1 }
-    ensures offers { (toll : CPos → ℕ) (d : ℕ) → d < 8 →
-        IsFareFrom toll q.cell d (if allowed then fare else 0) → IsBeside width height q.cell d n →
-        IsOffered toll q.cell d level field.old buckets.old field.new buckets.new }
+    ensures offers { (entry_cost : CPos → ℕ) (d : ℕ) → d < 8 →
+        IsStepCostFrom entry_cost q.cell d (if allowed then step_cost else 0) → IsBeside width height q.cell d n →
+        IsOffered entry_cost q.cell d level field.old buckets.old field.new buckets.new }
 {
     if let Some(n) = n {
-        try_relax(field, buckets, n, allowed, level + fare);
+        try_relax(field, buckets, n, allowed, level + step_cost);
     }
 }
 
@@ -100,8 +100,8 @@ fn try_relax(field: &mut Field, buckets: &mut Buckets, n: Placed, allowed: bool,
     requires row { HasRows buckets.old (label % 71) 1 }
     ensures relaxed { IsTrue allowed →
         IsRelaxed field.old buckets.old field.new buckets.new n.cell label }
-    ensures closed { IsFalse allowed → (toll : CPos → ℕ) (level : ℕ) →
-        Lowers toll level field.old.labels buckets.old field.new.labels buckets.new }
+    ensures closed { IsFalse allowed → (entry_cost : CPos → ℕ) (level : ℕ) →
+        Lowers entry_cost level field.old.labels buckets.old field.new.labels buckets.new }
     ensures level { field.new.level ≡ field.old.level }
     ensures size { HasSize field.old.labels.width field.old.labels.height field.new.labels }
     ensures cells { length buckets.new.cells ≡ length buckets.old.cells }

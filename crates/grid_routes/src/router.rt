@@ -4,7 +4,7 @@ ghost use Rattle.game_model.specs.Grid.{Grid, IsOn};
 ghost use Rattle.game_model.specs.BestDirection.{best_dir_of};
 ghost use Rattle.game_model.specs.Walks.{IsBestDirection, land_of};
 ghost use Rattle.game_model.specs.declared.map.Map.{Map};
-ghost use Rattle.grid_routes.specs.Tolls.{IsCheap, land_over};
+ghost use Rattle.grid_routes.specs.EntryCosts.{IsCheap, land_over};
 ghost use Rattle.grid_routes.specs.Asked.{ask_for, CountsOn, KeepsOnly};
 ghost use Rattle.grid_routes.specs.Questions.{IsAsked};
 ghost use Rattle.grid_routes.specs.Routing.{AreSized, IsNew, IsSameSight, IsSameSize, LooksAt};
@@ -39,8 +39,8 @@ impl Model for Router {
     ghost view = { λ r. record {
       width = r.width;
       height = r.height;
-      terrain = r.findings.fields.search.tolls.terrain;
-      built = r.findings.fields.search.tolls.built;
+      terrain = r.findings.fields.search.entry_costs.terrain;
+      built = r.findings.fields.search.entry_costs.built;
       last = r.findings.fields.ask;
       asks = asks_in r.findings;
       computed = r.findings.computed;

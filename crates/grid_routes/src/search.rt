@@ -3,7 +3,7 @@ ghost use Rattle.std.specs.Prelude.{IsTrue, IsFalse, MatchOption, [], length, ve
 ghost use Rattle.world_units.specs.declared.cell.CPos.{CPos};
 ghost use Rattle.game_model.specs.Grid.{IsOn, HasSize};
 ghost use Rattle.game_model.specs.Walks.{IsBestDirection};
-ghost use Rattle.grid_routes.specs.Tolls.{IsCheap, land_over, toll_in};
+ghost use Rattle.grid_routes.specs.EntryCosts.{IsCheap, land_over, entry_cost_in};
 ghost use Rattle.grid_routes.specs.Beside.{IsPlaced};
 ghost use Rattle.grid_routes.specs.Labels.{IsFull, begun, label_of};
 ghost use Rattle.grid_routes.specs.Held.{HasRows, IsAt};
@@ -13,11 +13,11 @@ ghost use Rattle.grid_routes.specs.Steps.{IsOnward, IsRoute, IsSearch, Lowers, r
 
 use crate::beside::{Placed, above, below, is_inside, left, left_of, right, right_of};
 use crate::buckets::{BUCKETS, Buckets};
+use crate::entry_costs::{ACROSS, EntryCosts, STRAIGHT};
 use crate::field::{Field, NONE};
 use crate::lead::least_lead;
 use crate::offers::{bucket_of, offer, try_offer};
 use crate::route::Route;
-use crate::tolls::{ACROSS, STRAIGHT, Tolls};
 use base::{List, NoMemory};
 use rule_traits::Costs;
 use std::alloc::Global;
@@ -27,7 +27,7 @@ use world_units::{CPos, step};
 #[derive(Drop)]
 pub(crate) struct Search {
     /// What it costs to enter each cell.
-    pub(crate) tolls: Tolls,
+    pub(crate) entry_costs: EntryCosts,
     /// The distances so far.
     pub(crate) field: Field,
     /// The cells whose label is at least the level.
@@ -37,11 +37,11 @@ pub(crate) struct Search {
 impl Search {
     /// Room for searches on maps of this size. Out of memory is its only error.
     pub(crate) fn create(alloc: Global, w: u8, h: u8) -> Result<Search, NoMemory>
-        ensures { IfOk result (λ search. FitsTogether w h search.tolls search.field
+        ensures { IfOk result (λ search. FitsTogether w h search.entry_costs search.field
             search.buckets) }
     {
         Ok(Search {
-            tolls: Tolls::create(alloc, w, h)?,
+            entry_costs: EntryCosts::create(alloc, w, h)?,
             field: Field::create(alloc, w, h)?,
             buckets: Buckets::create(alloc, w, h)?,
         })
@@ -50,21 +50,21 @@ impl Search {
     /// Begins a search to another goal, over the same ground.
     fn begin(&mut self, costs: &Costs, goal: CPos)
         requires room { self.old.buckets.room ≡
-            self.old.tolls.terrain.width * self.old.tolls.terrain.height }
-        requires size { HasSize self.old.tolls.terrain.width self.old.tolls.terrain.height
+            self.old.entry_costs.terrain.width * self.old.entry_costs.terrain.height }
+        requires size { HasSize self.old.entry_costs.terrain.width self.old.entry_costs.terrain.height
             self.old.field.labels }
         requires costs { IsCheap costs.now }
-        requires goal { IsOn self.old.tolls.terrain.width self.old.tolls.terrain.height goal }
-        ensures tolls { self.new.tolls ≡ record self.old.tolls { costs = costs.now; goal = goal } }
+        requires goal { IsOn self.old.entry_costs.terrain.width self.old.entry_costs.terrain.height goal }
+        ensures entry_costs { self.new.entry_costs ≡ record self.old.entry_costs { costs = costs.now; goal = goal } }
         ensures room { self.new.buckets.room ≡ self.old.buckets.room }
-        ensures size { HasSize self.old.tolls.terrain.width self.old.tolls.terrain.height
+        ensures size { HasSize self.old.entry_costs.terrain.width self.old.entry_costs.terrain.height
             self.new.field.labels }
-        ensures search { IsSearch (record { toll = toll_in self.new.tolls; goal = goal })
+        ensures search { IsSearch (record { entry_cost = entry_cost_in self.new.entry_costs; goal = goal })
             self.new.field self.new.buckets }
         ensures field { self.new.field ≡ begun self.old.field goal }
     {
-        self.tolls.turn_to(costs, goal);
-        self.tolls.ground();
+        self.entry_costs.turn_to(costs, goal);
+        self.entry_costs.ground();
         self.field.begin(goal);
         self.buckets.clear_all();
         self.buckets.push(0, goal);
@@ -73,40 +73,40 @@ impl Search {
     /// Takes up a search where it stopped, over the same ground.
     fn resume(&mut self, costs: &Costs, goal: CPos)
         requires room { self.old.buckets.room ≡
-            self.old.tolls.terrain.width * self.old.tolls.terrain.height }
-        requires size { HasSize self.old.tolls.terrain.width self.old.tolls.terrain.height
+            self.old.entry_costs.terrain.width * self.old.entry_costs.terrain.height }
+        requires size { HasSize self.old.entry_costs.terrain.width self.old.entry_costs.terrain.height
             self.old.field.labels }
         requires costs { IsCheap costs.now }
-        requires going { IsGoing (land_over self.old.tolls.terrain self.old.tolls.built costs.now
+        requires going { IsGoing (land_over self.old.entry_costs.terrain self.old.entry_costs.built costs.now
             goal) self.old.field }
-        ensures tolls { self.new.tolls ≡ record self.old.tolls { costs = costs.now; goal = goal } }
+        ensures entry_costs { self.new.entry_costs ≡ record self.old.entry_costs { costs = costs.now; goal = goal } }
         ensures room { self.new.buckets.room ≡ self.old.buckets.room }
-        ensures size { HasSize self.old.tolls.terrain.width self.old.tolls.terrain.height
+        ensures size { HasSize self.old.entry_costs.terrain.width self.old.entry_costs.terrain.height
             self.new.field.labels }
-        ensures search { IsSearch (record { toll = toll_in self.new.tolls; goal = goal })
+        ensures search { IsSearch (record { entry_cost = entry_cost_in self.new.entry_costs; goal = goal })
             self.new.field self.new.buckets }
         ensures field { self.new.field ≡ self.old.field }
     {
-        self.tolls.turn_to(costs, goal);
+        self.entry_costs.turn_to(costs, goal);
         self.buckets.lose();
     }
 
     /// Takes up the search for a goal, or begins it.
     pub(crate) fn set_out(&mut self, going: bool, costs: &Costs, goal: CPos)
         requires room { self.old.buckets.room ≡
-            self.old.tolls.terrain.width * self.old.tolls.terrain.height }
-        requires size { HasSize self.old.tolls.terrain.width self.old.tolls.terrain.height
+            self.old.entry_costs.terrain.width * self.old.entry_costs.terrain.height }
+        requires size { HasSize self.old.entry_costs.terrain.width self.old.entry_costs.terrain.height
             self.old.field.labels }
         requires costs { IsCheap costs.now }
-        requires goal { IsOn self.old.tolls.terrain.width self.old.tolls.terrain.height goal }
+        requires goal { IsOn self.old.entry_costs.terrain.width self.old.entry_costs.terrain.height goal }
         requires going { IsTrue going →
-            IsGoing (land_over self.old.tolls.terrain self.old.tolls.built costs.now goal)
+            IsGoing (land_over self.old.entry_costs.terrain self.old.entry_costs.built costs.now goal)
             self.old.field }
-        ensures tolls { self.new.tolls ≡ record self.old.tolls { costs = costs.now; goal = goal } }
+        ensures entry_costs { self.new.entry_costs ≡ record self.old.entry_costs { costs = costs.now; goal = goal } }
         ensures room { self.new.buckets.room ≡ self.old.buckets.room }
-        ensures size { HasSize self.old.tolls.terrain.width self.old.tolls.terrain.height
+        ensures size { HasSize self.old.entry_costs.terrain.width self.old.entry_costs.terrain.height
             self.new.field.labels }
-        ensures search { IsSearch (record { toll = toll_in self.new.tolls; goal = goal })
+        ensures search { IsSearch (record { entry_cost = entry_cost_in self.new.entry_costs; goal = goal })
             self.new.field self.new.buckets }
         ensures resumed { IsTrue going → self.new.field ≡ self.old.field }
         ensures anew { IsFalse going → self.new.field ≡ begun self.old.field goal }
@@ -124,85 +124,88 @@ impl Search {
         requires full { IsFull self.old.field.labels }
         requires from { label_of self.old.field.labels q ≡ level }
         requires low { level < 2 ^ 31 }
-        ensures tolls { self.new.tolls ≡ self.old.tolls }
+        ensures entry_costs { self.new.entry_costs ≡ self.old.entry_costs }
         ensures level { self.new.field.level ≡ self.old.field.level }
-        ensures lowers { Lowers (toll_in self.old.tolls) level self.old.field.labels
+        ensures lowers { Lowers (entry_cost_in self.old.entry_costs) level self.old.field.labels
             self.old.buckets self.new.field.labels self.new.buckets }
-        ensures done { IsExpanded (toll_in self.old.tolls) self.new.field.labels level q }
+        ensures done { IsExpanded (entry_cost_in self.old.entry_costs) self.new.field.labels level q }
     {
         let (width, height) = (self.field.width(), self.field.height());
         let at = self.field.place(q);
         let here = Placed { cell: q, at };
-        if is_inside(here, width, height) && self.tolls.has_size(width, height) {
+        if is_inside(here, width, height) && self.entry_costs.has_size(width, height) {
             self.expand_inside(here, level, width, height);
-        } else if self.tolls.toll(q) > 0 {
+        } else if self.entry_costs.entry_cost(q) > 0 {
             self.spread(here, level, width, height);
         }
     }
 
-    /// The same, for a cell at its place, where the tolls have this size too.
+    /// The same, for a cell at its place, where the entry costs have this size too.
     #[inline(always)]
     fn expand_inside(&mut self, q: Placed, level: u32, width: u8, height: u8)
         requires full { IsFull self.old.field.labels }
         requires size { HasSize width height self.old.field.labels }
-        requires terrain { HasSize width height self.old.tolls.terrain }
+        requires terrain { HasSize width height self.old.entry_costs.terrain }
         requires here { IsPlaced width height q }
         requires from { label_of self.old.field.labels q.cell ≡ level }
         requires low { level < 2 ^ 31 }
-        ensures tolls { self.new.tolls ≡ self.old.tolls }
+        ensures entry_costs { self.new.entry_costs ≡ self.old.entry_costs }
         ensures level { self.new.field.level ≡ self.old.field.level }
-        ensures lowers { Lowers (toll_in self.old.tolls) level self.old.field.labels
+        ensures lowers { Lowers (entry_cost_in self.old.entry_costs) level self.old.field.labels
             self.old.buckets self.new.field.labels self.new.buckets }
-        ensures done { IsExpanded (toll_in self.old.tolls) self.new.field.labels level q.cell }
+        ensures done { IsExpanded (entry_cost_in self.old.entry_costs) self.new.field.labels level q.cell }
     {
-        let toll = u32::from(self.tolls.toll_at(q, width, height));
-        if toll > 0 {
-            if self.has_rows(level, toll) {
-                self.spread_inside(q, toll, level, width, height);
+        let entry_cost = u32::from(self.entry_costs.entry_cost_at(q, width, height));
+        if entry_cost > 0 {
+            if self.has_rows(level, entry_cost) {
+                self.spread_inside(q, entry_cost, level, width, height);
             } else {
                 self.spread(q, level, width, height);
             }
         }
     }
 
-    /// Whether the two buckets of the steps into a cell of this toll have rows for all of them.
+    /// Whether the two buckets of the steps into a cell of this entry cost have rows for all of them.
     #[inline(always)]
-    fn has_rows(&self, level: u32, toll: u32) -> bool
+    fn has_rows(&self, level: u32, entry_cost: u32) -> bool
         requires low { level < 2 ^ 31 }
-        requires cheap { toll ≤ 10 }
+        requires cheap { entry_cost ≤ 10 }
         ensures straight { IsTrue result →
-            HasRows self.now.buckets ((level + 5 * toll) % 71) 8 }
+            HasRows self.now.buckets ((level + 5 * entry_cost) % 71) 8 }
         ensures across { IsTrue result →
-            HasRows self.now.buckets ((level + 7 * toll) % 71) 8 }
+            HasRows self.now.buckets ((level + 7 * entry_cost) % 71) 8 }
     {
-        self.buckets.has_rows(bucket_of(level + STRAIGHT * toll))
-            && self.buckets.has_rows(bucket_of(level + ACROSS * toll))
+        self.buckets
+            .has_rows(bucket_of(level + STRAIGHT * entry_cost))
+            && self
+                .buckets
+                .has_rows(bucket_of(level + ACROSS * entry_cost))
     }
 
     /// Offers each neighbour of a cell the walk that enters the cell, where the buckets have rows
     /// for all. A neighbour's label and the end of its bucket are written in any case, so that
     /// nothing has to be decided by a jump.
     #[inline(always)]
-    fn spread_inside(&mut self, q: Placed, toll: u32, level: u32, width: u8, height: u8)
+    fn spread_inside(&mut self, q: Placed, entry_cost: u32, level: u32, width: u8, height: u8)
         requires full { IsFull self.old.field.labels }
         requires size { HasSize width height self.old.field.labels }
-        requires terrain { HasSize width height self.old.tolls.terrain }
+        requires terrain { HasSize width height self.old.entry_costs.terrain }
         requires here { IsPlaced width height q }
         requires from { label_of self.old.field.labels q.cell ≡ level }
         requires low { level < 2 ^ 31 }
-        requires toll { toll ≡ toll_in self.old.tolls q.cell }
-        requires some { 0 < toll }
-        requires cheap { toll ≤ 10 }
-        requires straight { HasRows self.old.buckets ((level + 5 * toll) % 71) 8 }
-        requires across { HasRows self.old.buckets ((level + 7 * toll) % 71) 8 }
-        ensures tolls { self.new.tolls ≡ self.old.tolls }
+        requires entry_cost { entry_cost ≡ entry_cost_in self.old.entry_costs q.cell }
+        requires some { 0 < entry_cost }
+        requires cheap { entry_cost ≤ 10 }
+        requires straight { HasRows self.old.buckets ((level + 5 * entry_cost) % 71) 8 }
+        requires across { HasRows self.old.buckets ((level + 7 * entry_cost) % 71) 8 }
+        ensures entry_costs { self.new.entry_costs ≡ self.old.entry_costs }
         ensures level { self.new.field.level ≡ self.old.field.level }
-        ensures lowers { Lowers (toll_in self.old.tolls) level self.old.field.labels
+        ensures lowers { Lowers (entry_cost_in self.old.entry_costs) level self.old.field.labels
             self.old.buckets self.new.field.labels self.new.buckets }
-        ensures done { IsExpanded (toll_in self.old.tolls) self.new.field.labels level q.cell }
+        ensures done { IsExpanded (entry_cost_in self.old.entry_costs) self.new.field.labels level q.cell }
     {
-        let corners = self.tolls.corners(q, toll, width, height);
-        let (straight, across) = (STRAIGHT * toll, ACROSS * toll);
+        let corners = self.entry_costs.corners(q, entry_cost, width, height);
+        let (straight, across) = (STRAIGHT * entry_cost, ACROSS * entry_cost);
         let north = above(q, width, height);
         let south = below(q, width, height);
         let (field, buckets) = (&mut self.field, &mut self.buckets);
@@ -278,13 +281,13 @@ impl Search {
         requires here { IsPlaced width height q }
         requires from { label_of self.old.field.labels q.cell ≡ level }
         requires low { level < 2 ^ 31 }
-        ensures tolls { self.new.tolls ≡ self.old.tolls }
+        ensures entry_costs { self.new.entry_costs ≡ self.old.entry_costs }
         ensures level { self.new.field.level ≡ self.old.field.level }
-        ensures lowers { Lowers (toll_in self.old.tolls) level self.old.field.labels
+        ensures lowers { Lowers (entry_cost_in self.old.entry_costs) level self.old.field.labels
             self.old.buckets self.new.field.labels self.new.buckets }
-        ensures done { IsExpanded (toll_in self.old.tolls) self.new.field.labels level q.cell }
+        ensures done { IsExpanded (entry_cost_in self.old.entry_costs) self.new.field.labels level q.cell }
     {
-        let fares = self.tolls.fares(q.cell);
+        let step_costs = self.entry_costs.step_costs(q.cell);
         let north = above(q, width, height);
         let south = below(q, width, height);
         let (field, buckets) = (&mut self.field, &mut self.buckets);
@@ -293,7 +296,7 @@ impl Search {
             buckets,
             q,
             north,
-            fares.straight,
+            step_costs.straight,
             level,
             width,
             height,
@@ -304,7 +307,7 @@ impl Search {
             buckets,
             q,
             north_east,
-            fares.north_east,
+            step_costs.north_east,
             level,
             width,
             height,
@@ -314,7 +317,7 @@ impl Search {
             buckets,
             q,
             right(q, width, height),
-            fares.straight,
+            step_costs.straight,
             level,
             width,
             height,
@@ -325,7 +328,7 @@ impl Search {
             buckets,
             q,
             south_east,
-            fares.south_east,
+            step_costs.south_east,
             level,
             width,
             height,
@@ -335,7 +338,7 @@ impl Search {
             buckets,
             q,
             south,
-            fares.straight,
+            step_costs.straight,
             level,
             width,
             height,
@@ -346,7 +349,7 @@ impl Search {
             buckets,
             q,
             south_west,
-            fares.south_west,
+            step_costs.south_west,
             level,
             width,
             height,
@@ -356,7 +359,7 @@ impl Search {
             buckets,
             q,
             left(q, width, height),
-            fares.straight,
+            step_costs.straight,
             level,
             width,
             height,
@@ -367,7 +370,7 @@ impl Search {
             buckets,
             q,
             north_west,
-            fares.north_west,
+            step_costs.north_west,
             level,
             width,
             height,
@@ -378,13 +381,13 @@ impl Search {
     fn ring(&mut self, level: u32)
         requires full { IsFull self.old.field.labels }
         requires low { level < 2 ^ 31 }
-        ensures tolls { self.new.tolls ≡ self.old.tolls }
+        ensures entry_costs { self.new.entry_costs ≡ self.old.entry_costs }
         ensures level { self.new.field.level ≡ self.old.field.level }
-        ensures lowers { Lowers (toll_in self.old.tolls) level self.old.field.labels
+        ensures lowers { Lowers (entry_cost_in self.old.entry_costs) level self.old.field.labels
             self.old.buckets self.new.field.labels self.new.buckets }
         ensures done { (i : ℕ) (q : CPos) → IsAt self.old.buckets (level % 71) i q →
             label_of self.old.field.labels q ≡ level →
-            IsExpanded (toll_in self.old.tolls) self.new.field.labels level q }
+            IsExpanded (entry_cost_in self.old.entry_costs) self.new.field.labels level q }
     {
         let bucket = (level % BUCKETS) as usize;
         for i in 0..self.buckets.len(bucket) {
@@ -431,7 +434,7 @@ impl Search {
     fn refill(&mut self)
         requires full { IsFull self.old.field.labels }
         requires room { self.old.buckets.room ≡ length self.old.field.labels.cells }
-        ensures tolls { self.new.tolls ≡ self.old.tolls }
+        ensures entry_costs { self.new.entry_costs ≡ self.old.entry_costs }
         ensures field { self.new.field ≡ self.old.field }
         ensures room { self.new.buckets.room ≡ self.old.buckets.room }
         ensures whole { self.new.buckets.lost ≡ false }
@@ -449,7 +452,7 @@ impl Search {
         requires room { self.old.buckets.room ≡ length self.old.field.labels.cells }
         requires row { y < self.old.field.labels.height }
         requires filled { IsFilled self.old.field self.old.buckets y 0 }
-        ensures tolls { self.new.tolls ≡ self.old.tolls }
+        ensures entry_costs { self.new.entry_costs ≡ self.old.entry_costs }
         ensures field { self.new.field ≡ self.old.field }
         ensures room { self.new.buckets.room ≡ self.old.buckets.room }
         ensures filled { IsFilled self.new.field self.new.buckets (y + 1) 0 }
@@ -465,7 +468,7 @@ impl Search {
         requires room { self.old.buckets.room ≡ length self.old.field.labels.cells }
         requires on { IsOn self.old.field.labels.width self.old.field.labels.height p }
         requires filled { IsFilled self.old.field self.old.buckets p.y p.x }
-        ensures tolls { self.new.tolls ≡ self.old.tolls }
+        ensures entry_costs { self.new.entry_costs ≡ self.old.entry_costs }
         ensures field { self.new.field ≡ self.old.field }
         ensures room { self.new.buckets.room ≡ self.old.buckets.room }
         ensures filled { IsFilled self.new.field self.new.buckets p.y (p.x + 1) }
@@ -478,11 +481,11 @@ impl Search {
 
     /// Fills the buckets where a cell may be missing.
     fn make_whole(&mut self, goal: CPos)
-        requires { IsSearch (record { toll = toll_in self.old.tolls; goal = goal }) self.old.field
+        requires { IsSearch (record { entry_cost = entry_cost_in self.old.entry_costs; goal = goal }) self.old.field
             self.old.buckets }
-        ensures tolls { self.new.tolls ≡ self.old.tolls }
+        ensures entry_costs { self.new.entry_costs ≡ self.old.entry_costs }
         ensures field { self.new.field ≡ self.old.field }
-        ensures search { IsSearch (record { toll = toll_in self.new.tolls; goal = goal })
+        ensures search { IsSearch (record { entry_cost = entry_cost_in self.new.entry_costs; goal = goal })
             self.new.field self.new.buckets }
         ensures whole { self.new.buckets.lost ≡ false }
     {
@@ -493,13 +496,13 @@ impl Search {
 
     /// Expands the ring of the least label and raises the level above it.
     fn pass(&mut self, goal: CPos, label: u32)
-        requires search { IsSearch (record { toll = toll_in self.old.tolls; goal = goal })
+        requires search { IsSearch (record { entry_cost = entry_cost_in self.old.entry_costs; goal = goal })
             self.old.field self.old.buckets }
         requires whole { self.old.buckets.lost ≡ false }
         requires next { IsNext self.old.field self.old.buckets label }
         requires open { self.old.field.level < NONE }
-        ensures tolls { self.new.tolls ≡ self.old.tolls }
-        ensures search { IsSearch (record { toll = toll_in self.new.tolls; goal = goal })
+        ensures entry_costs { self.new.entry_costs ≡ self.old.entry_costs }
+        ensures search { IsSearch (record { entry_cost = entry_cost_in self.new.entry_costs; goal = goal })
             self.new.field self.new.buckets }
         ensures size { HasSize self.old.field.labels.width self.old.field.labels.height
             self.new.field.labels }
@@ -512,11 +515,11 @@ impl Search {
 
     /// Raises the level by a ring, or to the end where no cell is left.
     fn advance(&mut self, goal: CPos)
-        requires search { IsSearch (record { toll = toll_in self.old.tolls; goal = goal })
+        requires search { IsSearch (record { entry_cost = entry_cost_in self.old.entry_costs; goal = goal })
             self.old.field self.old.buckets }
         requires open { self.old.field.level < NONE }
-        ensures tolls { self.new.tolls ≡ self.old.tolls }
-        ensures search { IsSearch (record { toll = toll_in self.new.tolls; goal = goal })
+        ensures entry_costs { self.new.entry_costs ≡ self.old.entry_costs }
+        ensures search { IsSearch (record { entry_cost = entry_cost_in self.new.entry_costs; goal = goal })
             self.new.field self.new.buckets }
         ensures size { HasSize self.old.field.labels.width self.old.field.labels.height
             self.new.field.labels }
@@ -531,10 +534,10 @@ impl Search {
 
     /// Goes on until the label of a cell is final.
     pub(crate) fn settle(&mut self, from: CPos, goal: CPos)
-        requires search { IsSearch (record { toll = toll_in self.old.tolls; goal = goal })
+        requires search { IsSearch (record { entry_cost = entry_cost_in self.old.entry_costs; goal = goal })
             self.old.field self.old.buckets }
-        ensures tolls { self.new.tolls ≡ self.old.tolls }
-        ensures search { IsSearch (record { toll = toll_in self.new.tolls; goal = goal })
+        ensures entry_costs { self.new.entry_costs ≡ self.old.entry_costs }
+        ensures search { IsSearch (record { entry_cost = entry_cost_in self.new.entry_costs; goal = goal })
             self.new.field self.new.buckets }
         ensures size { HasSize self.old.field.labels.width self.old.field.labels.height
             self.new.field.labels }
@@ -548,14 +551,14 @@ impl Search {
     /// The walk that takes the best direction at each cell, in room for each cell of the map. `None`
     /// comes exactly where there is no walk or the cell is the goal.
     pub(crate) fn route(&self, room: Vec<CPos>, from: CPos, goal: CPos) -> Option<Route>
-        requires search { IsSearch (record { toll = toll_in self.now.tolls; goal = goal })
+        requires search { IsSearch (record { entry_cost = entry_cost_in self.now.entry_costs; goal = goal })
             self.now.field self.now.buckets }
         requires on { IsOn self.now.field.labels.width self.now.field.labels.height from }
         requires settled { label_of self.now.field.labels from ≤ self.now.field.level }
         requires empty { room.items ≡ [] }
         requires room { self.now.field.labels.width * self.now.field.labels.height
             ≤ vec_capacity room }
-        ensures { IsRoute (record { toll = toll_in self.now.tolls; goal = goal }) from result }
+        ensures { IsRoute (record { entry_cost = entry_cost_in self.now.entry_costs; goal = goal }) from result }
     {
         let cost = self.field.label(from);
         if cost == NONE {
@@ -577,16 +580,16 @@ impl Search {
 
     /// The cell that the best step enters.
     fn next(&self, at: CPos, goal: CPos) -> CPos
-        requires search { IsSearch (record { toll = toll_in self.now.tolls; goal = goal })
+        requires search { IsSearch (record { entry_cost = entry_cost_in self.now.entry_costs; goal = goal })
             self.now.field self.now.buckets }
         requires on { IsOn self.now.field.labels.width self.now.field.labels.height at }
         requires settled { label_of self.now.field.labels at ≤ self.now.field.level }
         requires labelled { label_of self.now.field.labels at < NONE }
         requires away { 0 < label_of self.now.field.labels at }
-        ensures { IsOnward (record { toll = toll_in self.now.tolls; goal = goal })
+        ensures { IsOnward (record { entry_cost = entry_cost_in self.now.entry_costs; goal = goal })
             self.now.field.labels at result }
     {
-        match least_lead(&self.tolls, &self.field, at, self.field.label(at)) {
+        match least_lead(&self.entry_costs, &self.field, at, self.field.label(at)) {
             Some(d) => match step(at, d) {
                 Some(q) => q,
                 None => unreachable!(),

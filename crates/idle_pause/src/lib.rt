@@ -7,7 +7,7 @@
 
 mod pause;
 
-pub use pause::{NAP_MICROS, PATIENCE, Pause};
+pub use pause::{NAP_MICROS, Pause, SPINS_BEFORE_SLEEP};
 
 #[cfg(test)]
 mod tests;

@@ -6,12 +6,12 @@ use std::thread::{self, Parker};
 use std::time::Duration;
 
 /// After so many looks in a row that found nothing a pause is a sleep.
-pub const PATIENCE: u32 = 1_024;
+pub const SPINS_BEFORE_SLEEP: u32 = 1_024;
 
 /// How long such a sleep is, in millionths of a second.
 pub const NAP_MICROS: u64 = 500;
 
-/// How many looks in a row have found nothing, at most [`PATIENCE`].
+/// How many looks in a row have found nothing, at most [`SPINS_BEFORE_SLEEP`].
 #[derive(Drop)]
 pub struct Pause {
     looks: u32,
@@ -19,13 +19,13 @@ pub struct Pause {
 
 impl Model for Pause {
     ghost use Rattle.std.specs.Prelude.{ℕ, ◌≤◌};
-    ghost use Rattle.idle_pause.specs.declared.pause.TheConstants.{PATIENCE};
+    ghost use Rattle.idle_pause.specs.declared.pause.TheConstants.{SPINS_BEFORE_SLEEP};
 
     ghost Value = { ℕ };
 
     ghost view = { λ pause. pause.looks };
 
-    ghost invariant = { λ pause. pause.looks ≤ PATIENCE };
+    ghost invariant = { λ pause. pause.looks ≤ SPINS_BEFORE_SLEEP };
 }
 
 impl Pause {
@@ -44,11 +44,11 @@ impl Pause {
     }
 
     /// A look has found nothing: other threads may run before the next one, and from the look
-    /// [`PATIENCE`] on the thread sleeps.
+    /// [`SPINS_BEFORE_SLEEP`] on the thread sleeps.
     pub fn rest<R: Wait>(&mut self, rt: &R)
-        ensures count { self.new ≡ min (self.old + 1) PATIENCE }
+        ensures count { self.new ≡ min (self.old + 1) SPINS_BEFORE_SLEEP }
     {
-        if self.looks < PATIENCE {
+        if self.looks < SPINS_BEFORE_SLEEP {
             self.looks += 1;
             thread::yield_now();
         } else {

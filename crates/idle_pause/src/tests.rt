@@ -5,7 +5,7 @@ use super::*;
 #[test]
 fn a_pause_ends(rt: HostRuntime) {
     let mut pause = Pause::new();
-    for _look in 0..PATIENCE + 3 {
+    for _look in 0..SPINS_BEFORE_SLEEP + 3 {
         pause.rest(&rt);
     }
     pause.end();

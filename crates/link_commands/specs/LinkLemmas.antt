@@ -1,6 +1,6 @@
 -- A whole run of a command over links, over plain values.
 use Rattle.std.proofs.Common.{◌≡◌, ◌≤◌, ◌⊎◌, ℕ, List, [], Option, None, Some, Result, Ok, Err, IsOk, IfOk, IfSome, IfNone, IsSome, refl, sym, ap, subst, inl, inr, arith, ◌∙◌}
-use Rattle.base.specs.Cause.{Rose}
+use Rattle.base.specs.Cause.{Increased}
 use Rattle.base.specs.Steps.{◌>>=◌}
 use Rattle.base.specs.Written.{WrotePrefix, Wrote-nil}
 use Rattle.game_io.specs.Files.{Files}
@@ -37,8 +37,8 @@ made_prints (Err memory) reply status s s' is prints = inr (prints.0, nothing_pr
 -- The causes of a printed reply, whose own status has some cause.
 pub printed_causes :
     (reply : Reply) (status : ℕ) (s s' : SinkState) (R W : Type 0) →
-    ((status ≡ reply.status) → HasCauses status R (Rose s.faults s'.faults ⊎ W)) →
-    MayPrintReply reply status s s' → HasCauses status R (Rose s.faults s'.faults ⊎ W)
+    ((status ≡ reply.status) → HasCauses status R (Increased s.faults s'.faults ⊎ W)) →
+    MayPrintReply reply status s s' → HasCauses status R (Increased s.faults s'.faults ⊎ W)
 printed_causes reply status s s' R W own (inl (inl wrote)) = own wrote.0
 printed_causes reply status s s' R W own (inl (inr cut)) = at_write status _ _ (inl cut.1) cut.0
 printed_causes reply status s s' R W own (inr memory) = at_memory status _ _ memory.0
@@ -131,8 +131,8 @@ pub linked_stopped :
     (status : ℕ) (net_failed : Type 0) (old new : WithLinks) →
     wants ≡ all → new.disk.files ≡ old.disk.files → old.disk.faults ≤ new.disk.faults → old.sink.faults ≤ new.sink.faults →
     IfSome old.disk.files (λ files. IsReadStop stop (contents_of all files)
-    (IsFirstThere (in_order all) files × Rose old.disk.faults new.disk.faults)) →
-    IfNone old.disk.files (IsUntoldStop stop (in_order all) (Rose old.disk.faults new.disk.faults)) →
+    (IsFirstThere (in_order all) files × Increased old.disk.faults new.disk.faults)) →
+    IfNone old.disk.files (IsUntoldStop stop (in_order all) (Increased old.disk.faults new.disk.faults)) →
     PrintsStop stop status old.sink new.sink → IsApart old new →
     RunsLinked wants start Goes Done status (causes_by net_failed old new) old new
 linked_stopped wants all start Goes Done (Refused name place cause) status net_failed old new wants_all same later later' told untold prints apart = record {
@@ -155,8 +155,8 @@ linked_stopped wants all start Goes Done (Refused name place cause) status net_f
   refused : (files : Files) → (contents_of wants files >>= start) ≡ Err reply → Begins (contents_of wants files >>= start) Goes status old new
   refused files is = subst (λ step. Begins step Goes status old new) (sym is) (prints, apart)
 
-  causes : HasCauses status (Rose old.disk.faults new.disk.faults ⊎ net_failed)
-      (Rose old.sink.faults new.sink.faults ⊎ (causes_by net_failed old new).write)
+  causes : HasCauses status (Increased old.disk.faults new.disk.faults ⊎ net_failed)
+      (Increased old.sink.faults new.sink.faults ⊎ (causes_by net_failed old new).write)
   causes = printed_causes reply status old.sink new.sink _ _ (λ e. settled_causes status _ _ _ file_settled e) prints
 linked_stopped wants all start Goes Done ReadFault status net_failed old new wants_all same later later' told untold prints apart = record {
   told = map_some old.disk.files _ _
@@ -169,11 +169,11 @@ linked_stopped wants all start Goes Done ReadFault status net_failed old new wan
   files = same;
   later = (later, later');
 } where
-  rose : Rose old.disk.faults new.disk.faults
+  rose : Increased old.disk.faults new.disk.faults
   rose = rose_of old.disk.files (IsFirstThere (in_order all)) told untold
 
-  causes : HasCauses status (Rose old.disk.faults new.disk.faults ⊎ net_failed)
-      (Rose old.sink.faults new.sink.faults ⊎ (causes_by net_failed old new).write)
+  causes : HasCauses status (Increased old.disk.faults new.disk.faults ⊎ net_failed)
+      (Increased old.sink.faults new.sink.faults ⊎ (causes_by net_failed old new).write)
   causes = printed_causes read_fault status old.sink new.sink _ _ (λ e. at_read status _ _ (inl rose) e) (inl prints)
 linked_stopped wants all start Goes Done NoMemory status net_failed old new wants_all same later later' told untold prints apart = record {
   told = map_some old.disk.files _ _ (λ files read. inr (inl before)) told;
@@ -188,6 +188,6 @@ linked_stopped wants all start Goes Done NoMemory status net_failed old new want
   before : EndsBefore status old new
   before = (prints.0, prints.1, apart)
 
-  causes : HasCauses status (Rose old.disk.faults new.disk.faults ⊎ net_failed)
-      (Rose old.sink.faults new.sink.faults ⊎ (causes_by net_failed old new).write)
+  causes : HasCauses status (Increased old.disk.faults new.disk.faults ⊎ net_failed)
+      (Increased old.sink.faults new.sink.faults ⊎ (causes_by net_failed old new).write)
   causes = at_memory status _ _ prints.0

@@ -1,6 +1,6 @@
 -- A run of a command over links: its files decide first, and then what the links tell.
 use Rattle.std.specs.Prelude.{◌≡◌, ◌≢◌, ℕ, ◌⊎◌, Option, None, Result, Ok, Err, IsOk, IfSome, IfNone}
-use Rattle.base.specs.Cause.{Rose}
+use Rattle.base.specs.Cause.{Increased}
 use Rattle.base.specs.Steps.{◌>>=◌}
 use Rattle.game_io.specs.DiskState.{DiskState}
 use Rattle.game_io.specs.Files.{Files}
@@ -13,14 +13,14 @@ use Rattle.command_answers.specs.declared.answer.Answer.{Answer}
 use Rattle.command_answers.specs.Answer.{reply_of}
 use Rattle.command_answers.specs.Reply.{Reply, read_fault}
 use Rattle.command_answers.specs.Causes.{Causes, IsQuiet, causes_of}
-use Rattle.command_answers.specs.Outside.{Outside, IsLater, outside}
+use Rattle.command_answers.specs.Environment.{Environment, IsLater, environment}
 use Rattle.command_answers.specs.Printing.{PrintsReply, MayPrintReply}
 use Rattle.command_answers.specs.Step.{Step}
 use Rattle.command_answers.specs.WantedFiles.{WantedFiles, in_order}
 use Rattle.command_answers.specs.Contents.{Contents, contents_of, IsFirstThere, AreContents}
 use Rattle.command_answers.specs.Contents.{IsUnread}
 
--- The outside of a command over links, before or after a call.
+-- What is outside a command over links, before or after a call.
 pub record WithLinks : Type 0 where
   pub disk : DiskState
   pub sink : SinkState
@@ -31,8 +31,8 @@ abbrev pub with_links : DiskState → SinkState → NetState → SourceState →
 with_links disk sink net console =
     record { disk = disk; sink = sink; net = net; console = console }
 
-abbrev pub outside_of : WithLinks → Outside
-outside_of all = outside all.disk all.sink
+abbrev pub environment_of : WithLinks → Environment
+environment_of all = environment all.disk all.sink
 
 -- Net and console are as they were.
 abbrev pub IsApart : (old new : WithLinks) → Type 0
@@ -42,7 +42,7 @@ IsApart old new = (new.net ≡ old.net) × (new.console ≡ old.console)
 -- where this is so.
 abbrev pub causes_by : (net_failed : Type 0) → (old new : WithLinks) → Causes
 causes_by net_failed old new =
-    record (causes_of None (outside_of old) (outside_of new)) { net = net_failed }
+    record (causes_of None (environment_of old) (environment_of new)) { net = net_failed }
 
 -- Memory ran out before anything was printed, and before there was a link.
 abbrev pub EndsBefore : ℕ → (old new : WithLinks) → Type 0
@@ -65,7 +65,7 @@ IsToldStart wants start Goes files status old new =
     Begins (contents_of wants files >>= start) Goes status old new
     ⊎ (EndsBefore status old new
     ⊎ (IsFirstThere (in_order wants) files
-    × Rose old.disk.faults new.disk.faults
+    × Increased old.disk.faults new.disk.faults
     × PrintsReply read_fault status old.sink new.sink
     × IsApart old new))
 
@@ -78,7 +78,7 @@ IsUntoldStart wants start Goes status old new =
     ((contents : Contents)
     × (AreContents wants contents × Begins (start contents) Goes status old new))
     ⊎ (EndsBefore status old new
-    ⊎ (Rose old.disk.faults new.disk.faults
+    ⊎ (Increased old.disk.faults new.disk.faults
     × IsApart old new
     × (((reply : Reply)
     × (IsUnread (in_order wants) reply × MayPrintReply reply status old.sink new.sink))
@@ -105,7 +105,7 @@ pub record RunsLinked {T : Type 0}
       (λ files. IsOk (contents_of wants files >>= start) → Done status ⊎ (status ≡ OUT_OF_MEMORY))
   -- No file changed.
   pub files : new.disk.files ≡ old.disk.files
-  pub later : IsLater (outside_of old) (outside_of new)
+  pub later : IsLater (environment_of old) (environment_of new)
 
 -- What is printed and answered for an answer in code that writes no file, or where memory ran out
 -- before it was made.

@@ -1,7 +1,7 @@
 -- What is known of a match that was played over a link, over plain values.
 use Rattle.std.proofs.Common.{◌≡◌, ◌≤◌, ◌<◌, ◌+◌, ◌-◌, ◌⊎◌, ℕ, List, length, Option, None, Some, Result, Ok, Err, IsOk, min, refl, sym, ap, subst, inl, inr, arith, ◌∙◌}
 use Rattle.std.specs.Prelude.{◌^◌}
-use Rattle.base.specs.Cause.{Rose}
+use Rattle.base.specs.Cause.{Increased}
 use Rattle.game_io.specs.NetState.{NetState, link_faults}
 use Rattle.game_io.specs.SinkState.{SinkState}
 use Rattle.game_io.specs.SourceState.{SourceState}
@@ -25,24 +25,24 @@ use Rattle.link_commands.specs.Plays.{PlaysBy, LinkFailed, IsPlayDone}
 use Rattle.link_commands.specs.LinkLemmas.{IsCaused, printed_causes, settled_causes}
 
 -- A half that has failed counts for its link, which had none before.
-half_rose : (a b : ℕ) → Rose 0 a ⊎ Rose 0 b → Rose 0 (min (a + b) (2 ^ 64 - 1))
+half_rose : (a b : ℕ) → Increased 0 a ⊎ Increased 0 b → Increased 0 (min (a + b) (2 ^ 64 - 1))
 half_rose a b (inl rose) = omega arith
 half_rose a b (inr rose) = omega arith
 
-later_rose : (old new : ℕ) → old ≡ 0 → Rose old new → Rose 0 new
-later_rose old new none rose = subst (λ n. Rose n new) none rose
+later_rose : (old new : ℕ) → old ≡ 0 → Increased old new → Increased 0 new
+later_rose old new none rose = subst (λ n. Increased n new) none rose
 
 lost_by :
     {W : Type 0} (terms : Terms W) (packets : List Down) (now : Option (Stage W)) (found : FirstPacket Down) (size at : ℕ) (i i' : SourceState) (o o' : SinkState) →
-    i.faults ≡ 0 → o.faults ≡ 0 → EndsBy terms packets now found size at i i' o o' end.Lost → Rose 0 i'.faults ⊎ Rose 0 o'.faults
+    i.faults ≡ 0 → o.faults ≡ 0 → EndsBy terms packets now found size at i i' o o' end.Lost → Increased 0 i'.faults ⊎ Increased 0 o'.faults
 lost_by terms packets now found size at i i' o o' none none' (inl unread) = inl (later_rose i.faults i'.faults none unread.2)
 lost_by terms packets now found size at i i' o o' none none' (inr fails) = inr (later_rose o.faults o'.faults none' fails.2.rose)
 
 -- A match that ended by a fault of its link.
 lost_failed : {W : Type 0} (terms : Terms W) (old new : NetState) (client frames : ℕ) (sim : Option W) →
-    PlayedLink terms old new end.Lost client frames sim → Rose 0 (link_faults new.given 0)
+    PlayedLink terms old new end.Lost client frames sim → Increased 0 (link_faults new.given 0)
 lost_failed terms old new client frames sim played =
-    subst (λ given. Rose 0 (link_faults given 0)) (sym played.lends.given)
+    subst (λ given. Increased 0 (link_faults given 0)) (sym played.lends.given)
     (half_rose played.input_after.faults played.output_after.faults
     (lost_by terms played.plays.plays.packets played.plays.plays.now played.plays.plays.found (length played.plays.plays.link.taken) played.plays.plays.at played.input played.input_after played.output played.output_after
     played.lends.link.no_input_faults played.lends.link.no_output_faults played.plays.plays.ends))
@@ -65,7 +65,7 @@ played_done hash summary terms end.Lost client frames sim status old new played 
 
 -- The status of a printed reply, where the sink did not fail.
 printed_done : (Done : ℕ → Type 0) (reply : Reply) (status : ℕ) (s s' : SinkState) →
-    (Rose s.faults s'.faults → ⊥) → (status ≡ reply.status → Done status) → MayPrintReply reply status s s' → Done status ⊎ (status ≡ OUT_OF_MEMORY)
+    (Increased s.faults s'.faults → ⊥) → (status ≡ reply.status → Done status) → MayPrintReply reply status s s' → Done status ⊎ (status ≡ OUT_OF_MEMORY)
 printed_done Done reply status s s' quiet own (inl (inl wrote)) = inl (own wrote.0)
 printed_done Done reply status s s' quiet own (inl (inr cut)) = absurd (quiet cut.1)
 printed_done Done reply status s s' quiet own (inr memory) = inr memory.0

@@ -1,7 +1,7 @@
 -- A script that is played over the first link of a net, which was handed back to the net then.
 use Rattle.std.specs.Prelude.{◌≡◌, ◌⊎◌, ℕ, ◌≤◌, [], ◌∷◌, drop, Option, Some, Result, Ok, Err}
 use Rattle.std.specs.Option.{option_map}
-use Rattle.base.specs.Cause.{Rose}
+use Rattle.base.specs.Cause.{Increased}
 use Rattle.game_io.specs.NetState.{NetState, IsNewLink, taken_back}
 use Rattle.game_io.specs.SinkState.{SinkState}
 use Rattle.game_io.specs.SourceState.{SourceState}
@@ -45,7 +45,7 @@ pub record PartlyPlayedLink {W : Type 0} (terms : Terms W) (old new : NetState) 
 pub record GivesNone (old new : NetState) : Type 0 where
   pub coming : new.coming ≡ old.coming
   pub given : new.given ≡ old.given
-  pub rose : Rose old.faults new.faults
+  pub rose : Increased old.faults new.faults
 
 -- Why no match was played to its end.
 abbrev pub NotPlayed : {W : Type 0} → Terms W → (old new : NetState) → PlayFault → Type 0

@@ -1,6 +1,6 @@
 -- A script that is played over a link, and what is printed of it.
 use Rattle.std.specs.Prelude.{◌≡◌, ℕ, ◌⊎◌, Option}
-use Rattle.base.specs.Cause.{Rose}
+use Rattle.base.specs.Cause.{Increased}
 use Rattle.frame_core.specs.declared.summary.Summary.{Summary}
 use Rattle.game_io.specs.NetState.{NetState, link_faults}
 use Rattle.game_io.specs.SinkState.{SinkState}
@@ -37,7 +37,7 @@ PlaysBy hash summary terms status old new before after =
 
 -- The net's count of faults rose, or a half of its first link has failed.
 abbrev pub LinkFailed : (old new : NetState) → Type 0
-LinkFailed old new = Rose old.faults new.faults ⊎ Rose 0 (link_faults new.given 0)
+LinkFailed old new = Increased old.faults new.faults ⊎ Increased 0 (link_faults new.given 0)
 
 -- The match is over, or the server or the bytes of the link were refused.
 abbrev pub IsPlayDone : ℕ → Type 0

@@ -18,7 +18,7 @@ use Rattle.command_answers.specs.Contents.{Contents}
 use Rattle.command_answers.specs.CausesLemmas.{IsSettled, done_settled, mark_settled, answered_causes, answered_changes, none_changes}
 use Rattle.command_answers.specs.FileWrite.{name_of, OnlyChanges}
 use Rattle.command_answers.specs.Outcome.{IsAnswered}
-use Rattle.command_answers.specs.Outside.{Outside, outside}
+use Rattle.command_answers.specs.Environment.{Environment, environment}
 use Rattle.command_answers.specs.Reply.{Reply}
 use Rattle.command_answers.specs.Step.{Step, replied}
 use Rattle.command_answers.specs.Stop.{ReturnsStep}
@@ -42,7 +42,7 @@ never (Some name) none named = absurd cc
 
 -- The causes of a reply are those of its request.
 answered_as :
-    (written : Option (List ℕ)) (reply : Reply) (status : ℕ) (old new : Outside) →
+    (written : Option (List ℕ)) (reply : Reply) (status : ℕ) (old new : Environment) →
     (name_of reply.write ≡ None) ⊎ (name_of reply.write ≡ written) →
     IsAnswered reply status (causes_of (name_of reply.write) old new) old new →
     IsAnswered reply status (causes_of written old new) old new
@@ -55,7 +55,7 @@ answered_as written reply status old new (inl none) (inl (inr (inr cut))) =
 answered_as written reply status old new (inl none) (inr memory) = inr memory
 
 changes_as :
-    (written : Option (List ℕ)) (reply : Reply) (status : ℕ) (old new : Outside) →
+    (written : Option (List ℕ)) (reply : Reply) (status : ℕ) (old new : Environment) →
     (name_of reply.write ≡ None) ⊎ (name_of reply.write ≡ written) →
     IsAnswered reply status (causes_of written old new) old new → OnlyChanges written old.disk.files new.disk.files
 changes_as written reply status old new (inr is) answered =
@@ -72,8 +72,8 @@ pub reply_printed :
     d1.files ≡ d.files → d.faults ≤ d1.faults → Fits written reply → AnswersReply reply status d1 d' s s' →
     Printed written reply status d d' s s'
 reply_printed written reply status d d1 d' s s' same later fits answers =
-    let old = outside d s in
-    let new = outside d' s' in
+    let old = environment d s in
+    let new = environment d' s' in
     let answered : IsAnswered reply status (causes_of written old new) old new =
     answered_as written reply status old new fits.named (answered_since reply status (name_of reply.write) d d1 d' s s' same later answers) in
     record {

@@ -1,7 +1,7 @@
 -- The commands over rules and a map, and over a script after them.
 use Rattle.std.proofs.Common.{◌≡◌, ◌≤◌, ℕ, List, [], Option, None, Some, Ok, Result, IfSome, IfNone, refl, sym, subst, arith}
 use Rattle.std.specs.Global.{Vec}
-use Rattle.base.specs.Cause.{Rose}
+use Rattle.base.specs.Cause.{Increased}
 use Rattle.command_words.specs.RequestPlain.{RequestPlain}
 use Rattle.game_io.specs.Files.{Files}
 use Rattle.game_io.specs.DiskState.{DiskState}
@@ -11,7 +11,7 @@ use Rattle.command_answers.specs.Step.{Step, replied}
 use Rattle.command_answers.specs.WantedFiles.{WantedFiles, no_files, in_order}
 use Rattle.command_answers.specs.Contents.{Contents, contents_of, IsFirstThere, AreContents}
 use Rattle.command_answers.specs.Causes.{causes_of}
-use Rattle.command_answers.specs.Outside.{outside}
+use Rattle.command_answers.specs.Environment.{environment}
 use Rattle.command_answers.specs.Stop.{IsReadStop, IsUntoldStop, ReturnsStep, PrintsStop, PrintsText}
 use Rattle.match_commands.specs.Request.{wanted, written_by, answer_of, given_reply, text_reply}
 use Rattle.match_commands.specs.Run.{RunsRequest}
@@ -28,7 +28,7 @@ pub all_given :
     IfSome d.files (λ files. contents_of all files ≡ Ok contents) →
     IfNone d.files (AreContents all contents) →
     Printed (written_by request) (given_reply request contents) status d d' s s' →
-    RunsRequest request status (causes_of (written_by request) (outside d s) (outside d' s')) (outside d s) (outside d' s')
+    RunsRequest request status (causes_of (written_by request) (environment d s) (environment d' s')) (environment d s) (environment d' s')
 all_given request all contents status d d' s s' wants later later' told untold printed =
     request_given request contents status d d' s s' later later'
     (subst (λ wanted. IfSome d.files (λ files. contents_of wanted files ≡ Ok contents)) (sym wants) told)
@@ -44,7 +44,7 @@ pub files_given :
     IfNone d.files (AreContents all contents) →
     ReturnsStep text (λ text. text.items) step → answer_of request contents ≡ text_reply step →
     PrintsText text status s s' →
-    RunsRequest request status (causes_of (written_by request) (outside d s) (outside d' s')) (outside d s) (outside d' s')
+    RunsRequest request status (causes_of (written_by request) (environment d s) (environment d' s')) (environment d s) (environment d' s')
 files_given request all contents text step status d d' s s' wants same later later' told untold returns answers prints =
     all_given request all contents status d d' s s' wants later later' told untold
     (subst (λ answer. Printed (written_by request) (replied answer) status d d' s s') (sym answers)
@@ -56,7 +56,7 @@ pub nothing_read :
     wanted request ≡ no_files → s.faults ≤ s'.faults →
     ReturnsStep text (λ text. text.items) step → answer_of request no_contents ≡ text_reply step →
     PrintsText text status s s' →
-    RunsRequest request status (causes_of (written_by request) (outside d s) (outside d s')) (outside d s) (outside d s')
+    RunsRequest request status (causes_of (written_by request) (environment d s) (environment d s')) (environment d s) (environment d s')
 nothing_read request text step status d s s' wants later' returns answers prints =
     files_given request no_files no_contents text step status d d s s' wants refl (omega arith) later'
     (told d.files) (untold d.files) returns answers prints where
@@ -74,12 +74,12 @@ pub files_stopped :
     wanted request ≡ all →
     d'.files ≡ d.files → d.faults ≤ d'.faults → s.faults ≤ s'.faults →
     IfSome d.files (λ files. IsReadStop stop (contents_of all files)
-    (IsFirstThere (in_order all) files × Rose d.faults d'.faults)) →
-    IfNone d.files (IsUntoldStop stop (in_order all) (Rose d.faults d'.faults)) →
+    (IsFirstThere (in_order all) files × Increased d.faults d'.faults)) →
+    IfNone d.files (IsUntoldStop stop (in_order all) (Increased d.faults d'.faults)) →
     PrintsStop stop status s s' →
-    RunsRequest request status (causes_of (written_by request) (outside d s) (outside d' s')) (outside d s) (outside d' s')
+    RunsRequest request status (causes_of (written_by request) (environment d s) (environment d' s')) (environment d s) (environment d' s')
 files_stopped request all stop status d d' s s' wants same later later' told untold prints =
     request_stopped request stop status d d' s s' same later later'
-    (subst (λ wanted. IfSome d.files (λ files. IsReadStop stop (contents_of wanted files) (IsFirstThere (in_order wanted) files × Rose d.faults d'.faults))) (sym wants) told)
-    (subst (λ wanted. IfNone d.files (IsUntoldStop stop (in_order wanted) (Rose d.faults d'.faults))) (sym wants) untold)
+    (subst (λ wanted. IfSome d.files (λ files. IsReadStop stop (contents_of wanted files) (IsFirstThere (in_order wanted) files × Increased d.faults d'.faults))) (sym wants) told)
+    (subst (λ wanted. IfNone d.files (IsUntoldStop stop (in_order wanted) (Increased d.faults d'.faults))) (sym wants) untold)
     prints

@@ -1,7 +1,7 @@
 -- A whole request, over plain values.
 use Rattle.std.proofs.Common.{◌≡◌, ◌≤◌, ◌⊎◌, ℕ, List, [], map, Option, None, Some, Result, Ok, Err, IfSome, IfNone, IsSome, refl, sym, ap, subst, inl, inr, append-nil}
 use Rattle.std.specs.Global.{Vec}
-use Rattle.base.specs.Cause.{Rose}
+use Rattle.base.specs.Cause.{Increased}
 use Rattle.base.specs.Steps.{◌>>=◌}
 use Rattle.command_words.specs.RequestPlain.{RequestPlain}
 use Rattle.game_io.specs.Files.{Files}
@@ -14,7 +14,7 @@ use Rattle.command_answers.specs.FileWrite.{OnlyChanges}
 use Rattle.command_answers.specs.Reply.{Reply, done, refusal, read_fault}
 use Rattle.command_answers.specs.Step.{Step, replied}
 use Rattle.command_answers.specs.Causes.{causes_of}
-use Rattle.command_answers.specs.Outside.{outside}
+use Rattle.command_answers.specs.Environment.{environment}
 use Rattle.command_answers.specs.Outcome.{IsPrinted, IsAnswered}
 use Rattle.command_answers.specs.Printing.{PrintsReply, MayPrintReply}
 use Rattle.command_answers.specs.WantedFiles.{WantedFiles, no_files, in_order, rule_file}
@@ -29,8 +29,8 @@ use Rattle.command_answers.specs.OutcomeLemmas.{printed_outcome, answered_outcom
 -- What was printed and written for a command: the reply, the causes of the status, and the files that changed. `written` is
 -- the file that its request names to be written.
 pub record Printed (written : Option (List ℕ)) (reply : Reply) (status : ℕ) (d d' : DiskState) (s s' : SinkState) : Type 0 where
-  pub answered : IsAnswered reply status (causes_of written (outside d s) (outside d' s')) (outside d s) (outside d' s')
-  pub causes : HasCauses status (Rose d.faults d'.faults) (Rose s.faults s'.faults ⊎ (IsSome written × Rose d.faults d'.faults))
+  pub answered : IsAnswered reply status (causes_of written (environment d s) (environment d' s')) (environment d s) (environment d' s')
+  pub causes : HasCauses status (Increased d.faults d'.faults) (Increased s.faults s'.faults ⊎ (IsSome written × Increased d.faults d'.faults))
   pub files : OnlyChanges written d.files d'.files
 
 -- A reply without a file.
@@ -42,7 +42,7 @@ alone_printed written reply status d d' s s' settled none same prints =
     let answered = answered_outcome reply status written d d' s s' none same prints in
     record {
       answered = answered;
-      causes = answered_causes reply status (causes_of written (outside d s) (outside d' s')) (outside d s) (outside d' s') settled answered;
+      causes = answered_causes reply status (causes_of written (environment d s) (environment d' s')) (environment d s) (environment d' s') settled answered;
       files = none_changes written d.files d'.files same;
     }
 
@@ -85,7 +85,7 @@ pub request_given :
     IfSome d.files (λ files. contents_of (wanted request) files ≡ Ok contents) →
     IfNone d.files (AreContents (wanted request) contents) →
     Printed (written_by request) (given_reply request contents) status d d' s s' →
-    RunsRequest request status (causes_of (written_by request) (outside d s) (outside d' s')) (outside d s) (outside d' s')
+    RunsRequest request status (causes_of (written_by request) (environment d s) (environment d' s')) (environment d s) (environment d' s')
 request_given request contents status d d' s s' later later' told untold printed = record {
   told = map_some d.files _ _ (λ files read. inl (answer files read)) told;
   untold = map_none d.files (λ given. inl (contents, (given, printed.answered))) untold;
@@ -96,9 +96,9 @@ request_given request contents status d d' s s' later later' told untold printed
   later = (later, later');
 } where
   answer : (files : Files) → contents_of (wanted request) files ≡ Ok contents →
-      IsAnswered (reply_to request files) status (causes_of (written_by request) (outside d s) (outside d' s')) (outside d s) (outside d' s')
+      IsAnswered (reply_to request files) status (causes_of (written_by request) (environment d s) (environment d' s')) (environment d s) (environment d' s')
   answer files read =
-      subst (λ step. IsAnswered (replied (step >>= answer_of request)) status (causes_of (written_by request) (outside d s) (outside d' s')) (outside d s) (outside d' s'))
+      subst (λ step. IsAnswered (replied (step >>= answer_of request)) status (causes_of (written_by request) (environment d s) (environment d' s')) (environment d s) (environment d' s'))
       (sym read) printed.answered
 
 -- The count of faults rose, whether the disk tells its files or not.
@@ -111,10 +111,10 @@ pub request_stopped :
     (request : RequestPlain) (stop : Stop) (status : ℕ) (d d' : DiskState) (s s' : SinkState) →
     d'.files ≡ d.files → d.faults ≤ d'.faults → s.faults ≤ s'.faults →
     IfSome d.files (λ files. IsReadStop stop (contents_of (wanted request) files)
-    (IsFirstThere (in_order (wanted request)) files × Rose d.faults d'.faults)) →
-    IfNone d.files (IsUntoldStop stop (in_order (wanted request)) (Rose d.faults d'.faults)) →
+    (IsFirstThere (in_order (wanted request)) files × Increased d.faults d'.faults)) →
+    IfNone d.files (IsUntoldStop stop (in_order (wanted request)) (Increased d.faults d'.faults)) →
     PrintsStop stop status s s' →
-    RunsRequest request status (causes_of (written_by request) (outside d s) (outside d' s')) (outside d s) (outside d' s')
+    RunsRequest request status (causes_of (written_by request) (environment d s) (environment d' s')) (environment d s) (environment d' s')
 request_stopped request (Refused name place cause) status d d' s s' same later later' told untold prints = record {
   told = map_some d.files _ _ (λ files read. inl (answer files read)) told;
   untold = map_none d.files (λ unread. inr (inl (unread.0, inl (reply, (unread.1, printed.answered))))) untold;
@@ -131,9 +131,9 @@ request_stopped request (Refused name place cause) status d d' s s' same later l
   printed = alone_printed (written_by request) reply status d d' s s' file_settled refl same prints
 
   answer : (files : Files) → contents_of (wanted request) files ≡ Err reply →
-      IsAnswered (reply_to request files) status (causes_of (written_by request) (outside d s) (outside d' s')) (outside d s) (outside d' s')
+      IsAnswered (reply_to request files) status (causes_of (written_by request) (environment d s) (environment d' s')) (environment d s) (environment d' s')
   answer files read =
-      subst (λ step. IsAnswered (replied (step >>= answer_of request)) status (causes_of (written_by request) (outside d s) (outside d' s')) (outside d s) (outside d' s'))
+      subst (λ step. IsAnswered (replied (step >>= answer_of request)) status (causes_of (written_by request) (environment d s) (environment d' s')) (environment d s) (environment d' s'))
       (sym read) printed.answered
 request_stopped request ReadFault status d d' s s' same later later' told untold prints = record {
   told = map_some d.files _ _ (λ files read. inr (read.0, read.1, outcome)) told;
@@ -144,13 +144,13 @@ request_stopped request ReadFault status d d' s s' same later later' told untold
   files = none_changes (written_by request) d.files d'.files same;
   later = (later, later');
 } where
-  outcome : IsPrinted read_fault status (causes_of (written_by request) (outside d s) (outside d' s')) (outside d s) (outside d' s')
+  outcome : IsPrinted read_fault status (causes_of (written_by request) (environment d s) (environment d' s')) (environment d s) (environment d' s')
   outcome = printed_outcome read_fault status (written_by request) d d' s s' refl same prints
 
-  rose : Rose d.faults d'.faults
+  rose : Increased d.faults d'.faults
   rose = rose_of d.files (IsFirstThere (in_order (wanted request))) told untold
 
-  causes : PrintsReply read_fault status s s' → HasCauses status (Rose d.faults d'.faults) (Rose s.faults s'.faults ⊎ (IsSome (written_by request) × Rose d.faults d'.faults))
+  causes : PrintsReply read_fault status s s' → HasCauses status (Increased d.faults d'.faults) (Increased s.faults s'.faults ⊎ (IsSome (written_by request) × Increased d.faults d'.faults))
   causes (inl wrote) = at_read status _ _ rose wrote.0
   causes (inr cut) = at_write status _ _ (inl cut.1) cut.0
 request_stopped request NoMemory status d d' s s' same later later' told untold prints = record {
@@ -162,7 +162,7 @@ request_stopped request NoMemory status d d' s s' same later later' told untold 
   files = none_changes (written_by request) d.files d'.files same;
   later = (later, later');
 } where
-  causes : HasCauses status (Rose d.faults d'.faults) (Rose s.faults s'.faults ⊎ (IsSome (written_by request) × Rose d.faults d'.faults))
+  causes : HasCauses status (Increased d.faults d'.faults) (Increased s.faults s'.faults ⊎ (IsSome (written_by request) × Increased d.faults d'.faults))
   causes = at_memory status _ _ prints.0
 
 -- ---- rule files
@@ -221,7 +221,7 @@ pub rules_given :
     IfNone d.files (AreWithinLimits (map rule_file names) contents) →
     ReturnsStep text (λ text. text.items) step → answer_of request (rule_contents contents) ≡ text_reply step →
     PrintsText text status s s' →
-    RunsRequest request status (causes_of (written_by request) (outside d s) (outside d' s')) (outside d s) (outside d' s')
+    RunsRequest request status (causes_of (written_by request) (environment d s) (environment d' s')) (environment d s) (environment d' s')
 rules_given request names contents text step status d d' s s' wants same later later' told untold returns answers prints =
     request_given request (rule_contents contents) status d d' s s' later later'
     (subst (λ wanted. IfSome d.files (λ files. contents_of wanted files ≡ Ok (rule_contents contents))) (sym wants)
@@ -237,14 +237,14 @@ pub rules_stopped :
     wanted request ≡ rules_alone names →
     d'.files ≡ d.files → d.faults ≤ d'.faults → s.faults ≤ s'.faults →
     IfSome d.files (λ files. IsReadStop stop (read_after [] (map rule_file names) files)
-    (IsFirstThere (map rule_file names) files × Rose d.faults d'.faults)) →
-    IfNone d.files (IsUntoldStop stop (map rule_file names) (Rose d.faults d'.faults)) →
+    (IsFirstThere (map rule_file names) files × Increased d.faults d'.faults)) →
+    IfNone d.files (IsUntoldStop stop (map rule_file names) (Increased d.faults d'.faults)) →
     PrintsStop stop status s s' →
-    RunsRequest request status (causes_of (written_by request) (outside d s) (outside d' s')) (outside d s) (outside d' s')
+    RunsRequest request status (causes_of (written_by request) (environment d s) (environment d' s')) (environment d s) (environment d' s')
 rules_stopped request names stop status d d' s s' wants same later later' told untold prints =
     request_stopped request stop status d d' s s' same later later'
-    (subst (λ wanted. IfSome d.files (λ files. IsReadStop stop (contents_of wanted files) (IsFirstThere (in_order wanted) files × Rose d.faults d'.faults)))
-    (sym wants) (rules_stop_told names stop (Rose d.faults d'.faults) d.files told))
-    (subst (λ wanted. IfNone d.files (IsUntoldStop stop (in_order wanted) (Rose d.faults d'.faults)))
-    (sym wants) (rules_stop_untold names stop (Rose d.faults d'.faults) d.files untold))
+    (subst (λ wanted. IfSome d.files (λ files. IsReadStop stop (contents_of wanted files) (IsFirstThere (in_order wanted) files × Increased d.faults d'.faults)))
+    (sym wants) (rules_stop_told names stop (Increased d.faults d'.faults) d.files told))
+    (subst (λ wanted. IfNone d.files (IsUntoldStop stop (in_order wanted) (Increased d.faults d'.faults)))
+    (sym wants) (rules_stop_untold names stop (Increased d.faults d'.faults) d.files untold))
     prints

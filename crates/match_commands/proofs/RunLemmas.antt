@@ -27,7 +27,7 @@ use Rattle.replay_commands.specs.Replays.{game_rerun, mark_status, migrated_repl
 use Rattle.command_answers.specs.Reply.{Reply, done, read_fault}
 use Rattle.command_answers.specs.Outcome.{IsPrinted, IsAnswered}
 use Rattle.command_answers.specs.Causes.{Causes, causes_of, IsQuiet}
-use Rattle.command_answers.specs.Outside.{Outside}
+use Rattle.command_answers.specs.Environment.{Environment}
 use Rattle.match_commands.specs.Request.{IsFaultless, written_by, wanted, answer_of, given_reply, text_reply}
 use Rattle.match_commands.specs.Run.{Runs, RunsRequest, IsDone, IsSound, IsToldAnswer, IsUntoldAnswer}
 use Rattle.command_answers.specs.OptionLemmas.{map_some}
@@ -89,7 +89,7 @@ read_done request (Err reply) ok = absurd cc
 
 -- Where nothing failed and the files are without a fault, the command is done, or memory ran out.
 complete_of :
-    (request : RequestPlain) (files : Files) (status : ℕ) (causes : Causes) (old new : Outside) →
+    (request : RequestPlain) (files : Files) (status : ℕ) (causes : Causes) (old new : Environment) →
     IsQuiet causes → IsToldAnswer request files status causes old new → IsFaultless request files →
     IsDone request status ⊎ (status ≡ OUT_OF_MEMORY)
 complete_of request files status causes old new quiet (inl (inl (inl complete))) faultless =
@@ -101,33 +101,33 @@ complete_of request files status causes old new quiet (inr fault) faultless = ab
 
 -- ---- the status of `make`
 
-done_sound : (text : List ℕ) (status : ℕ) (causes : Causes) (old new : Outside) → IsAnswered (done text) status causes old new → status ≢ REFUSED_FILE
+done_sound : (text : List ℕ) (status : ℕ) (causes : Causes) (old new : Environment) → IsAnswered (done text) status causes old new → status ≢ REFUSED_FILE
 done_sound text status causes old new (inl (inl complete)) refused = absurd (omega (arith, complete.0, refused))
 done_sound text status causes old new (inl (inr (inl cut))) refused = absurd (omega (arith, cut.0, refused))
 done_sound text status causes old new (inl (inr (inr cut))) refused = absurd (omega (arith, cut.0, refused))
 done_sound text status causes old new (inr memory) refused = absurd (omega (arith, memory.0, refused))
 
 answered_sound :
-    (number status : ℕ) (causes : Causes) (old new : Outside) →
+    (number status : ℕ) (causes : Causes) (old new : Environment) →
     IsAnswered (replied (text_reply (make_step number))) status causes old new → status ≢ REFUSED_FILE
 answered_sound number status causes old new answered =
     done_sound (made_text sample_setup (made_drill_of number)) status causes old new
     (subst (λ step. IsAnswered (replied (text_reply step)) status causes old new) (make_is number) answered)
 
 told_sound :
-    (number : ℕ) (files : Files) (status : ℕ) (causes : Causes) (old new : Outside) →
+    (number : ℕ) (files : Files) (status : ℕ) (causes : Causes) (old new : Environment) →
     IsToldAnswer (Make number) files status causes old new → status ≢ REFUSED_FILE
 told_sound number files status causes old new (inl answered) = answered_sound number status causes old new answered
 told_sound number files status causes old new (inr fault) = absurd fault.0
 
 read_sound :
-    (status : ℕ) (causes : Causes) (old new : Outside) → IsPrinted read_fault status causes old new → status ≢ REFUSED_FILE
+    (status : ℕ) (causes : Causes) (old new : Environment) → IsPrinted read_fault status causes old new → status ≢ REFUSED_FILE
 read_sound status causes old new (inl complete) refused = absurd (omega (arith, complete.0, refused))
 read_sound status causes old new (inr (inl cut)) refused = absurd (omega (arith, cut.0, refused))
 read_sound status causes old new (inr (inr cut)) refused = absurd (omega (arith, cut.0, refused))
 
 untold_sound :
-    (number status : ℕ) (causes : Causes) (old new : Outside) →
+    (number status : ℕ) (causes : Causes) (old new : Environment) →
     IsUntoldAnswer (Make number) status causes old new → status ≢ REFUSED_FILE
 untold_sound number status causes old new (inl given) = answered_sound number status causes old new given.1.1
 untold_sound number status causes old new (inr (inl (rose, inl unread))) = absurd unread.1.0
@@ -142,7 +142,7 @@ by_disk None P Q R one other told untold = other untold
 by_disk (Some files) P Q R one other told untold = one files told
 
 request_sound :
-    (request : RequestPlain) (status : ℕ) (causes : Causes) (old new : Outside) →
+    (request : RequestPlain) (status : ℕ) (causes : Causes) (old new : Environment) →
     RunsRequest request status causes old new → IsSound request status
 request_sound (Make number) status causes old new runs =
     by_disk old.disk.files (λ files. IsToldAnswer (Make number) files status causes old new)
@@ -161,7 +161,7 @@ request_sound (Migrate query to) status causes old new runs = tt
 
 -- The words name a request, which was run.
 pub request_runs :
-    (request : RequestPlain) (status : ℕ) (causes : Causes) (old new : Outside) →
+    (request : RequestPlain) (status : ℕ) (causes : Causes) (old new : Environment) →
     RunsRequest request status causes old new → Runs (Some request) status causes old new
 request_runs request status causes old new runs = record {
   refused = tt;
@@ -178,12 +178,12 @@ request_runs request status causes old new runs = record {
 }
 
 -- The causes of a run of this request, if the words name one.
-abbrev run_causes : Option RequestPlain → (old new : Outside) → Causes
+abbrev run_causes : Option RequestPlain → (old new : Environment) → Causes
 run_causes request = causes_of (option_and_then written_by request)
 
 -- The words name a request, which was run or refused by the call whose own requests are these.
 pub named_runs :
-    (own : RequestPlain → Option RequestPlain) (named : Option RequestPlain) (request : RequestPlain) (status : ℕ) (old new : Outside) →
+    (own : RequestPlain → Option RequestPlain) (named : Option RequestPlain) (request : RequestPlain) (status : ℕ) (old new : Environment) →
     named ≡ Some request → Runs (own request) status (run_causes (own request) old new) old new →
     Runs (option_and_then own named) status (run_causes (option_and_then own named) old new) old new
 named_runs own named request status old new is runs =

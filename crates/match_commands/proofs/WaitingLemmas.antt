@@ -16,7 +16,7 @@ use Rattle.command_answers.specs.declared.stop.Stop.{Stop}
 use Rattle.command_answers.specs.declared.stop.Stop.TheVariants.{NoMemory}
 use Rattle.command_answers.specs.Causes.{Causes}
 use Rattle.command_answers.specs.CausesLemmas.{HasCauses, at_memory}
-use Rattle.command_answers.specs.Outside.{outside}
+use Rattle.command_answers.specs.Environment.{environment}
 use Rattle.command_answers.specs.Step.{Step}
 use Rattle.command_answers.specs.Stop.{ReturnsStep}
 use Rattle.command_answers.specs.WantedFiles.{rules_and_map, with_script}
@@ -90,7 +90,7 @@ unread_untold : (o : Option Files) (stop : Type 0) → stop → IfNone o stop
 unread_untold None stop is = is
 unread_untold (Some files) stop is = tt
 
-none_runs : (d : DiskState) (s : SinkState) (causes : Causes) → Runs None OUT_OF_MEMORY causes (outside d s) (outside d s)
+none_runs : (d : DiskState) (s : SinkState) (causes : Causes) → Runs None OUT_OF_MEMORY causes (environment d s) (environment d s)
 none_runs d s causes =
     let has : HasCauses OUT_OF_MEMORY (causes.read ⊎ causes.net) (causes.sink ⊎ causes.write) = at_memory OUT_OF_MEMORY _ _ refl in
     record {
@@ -125,7 +125,7 @@ request_waits (Serve query) d s net console =
     linked_stopped all all (serve_step query) (ServesOver query OUT_OF_MEMORY old old) IsServeDone NoMemory OUT_OF_MEMORY (NetFailed net net) old old
     refl refl (omega arith) (omega arith) (unread_told d.files _ (λ files. tt)) (unread_untold d.files _ tt) (refl, refl) (refl, refl)
 request_waits (Local query) d s net console = (
-  request_runs (Local query) OUT_OF_MEMORY _ (outside d s) (outside d s)
+  request_runs (Local query) OUT_OF_MEMORY _ (environment d s) (environment d s)
       (request_stopped (Local query) NoMemory OUT_OF_MEMORY d d s s refl (omega arith) (omega arith)
       (unread_told d.files _ (λ files. tt)) (unread_untold d.files _ tt) (refl, refl)),
   (refl, refl),

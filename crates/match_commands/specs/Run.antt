@@ -9,21 +9,21 @@ use Rattle.command_answers.specs.declared.statuses.TheConstants.{MARK_DIFFERS}
 use Rattle.command_answers.specs.Reply.{Reply, words_reply, read_fault}
 use Rattle.command_answers.specs.FileWrite.{OnlyChanges}
 use Rattle.command_answers.specs.Causes.{Causes, IsQuiet}
-use Rattle.command_answers.specs.Outside.{Outside, IsUnchanged, IsLater}
+use Rattle.command_answers.specs.Environment.{Environment, IsUnchanged, IsLater}
 use Rattle.command_answers.specs.Outcome.{IsPrinted, IsAnswered}
 use Rattle.command_answers.specs.WantedFiles.{in_order}
 use Rattle.command_answers.specs.Contents.{Contents, IsFirstThere, AreContents, IsUnread}
 use Rattle.match_commands.specs.Request.{wanted, written_by, given_reply, reply_to, IsFaultless}
 
 -- `refused words` is printed, or memory ran out before anything was.
-abbrev pub RefusesWords : ℕ → Causes → (old new : Outside) → Type 0
+abbrev pub RefusesWords : ℕ → Causes → (old new : Environment) → Type 0
 RefusesWords status causes old new =
     IsPrinted words_reply status causes old new
     ⊎ ((status ≡ OUT_OF_MEMORY) × IsUnchanged old new)
 
 -- Over a disk that tells its files, the words and the files decide. Else a read failed, which it
 -- can where the first file is there.
-abbrev pub IsToldAnswer : RequestPlain → Files → ℕ → Causes → (old new : Outside) → Type 0
+abbrev pub IsToldAnswer : RequestPlain → Files → ℕ → Causes → (old new : Environment) → Type 0
 IsToldAnswer request files status causes old new =
     IsAnswered (reply_to request files) status causes old new
     ⊎ (IsFirstThere (in_order (wanted request)) files
@@ -33,7 +33,7 @@ IsToldAnswer request files status causes old new =
 -- Over a disk that tells nothing, the contents that it gave decide. Else its count of faults rose,
 -- and a file is missing, too long, or could not be read; or memory ran out before anything was
 -- printed.
-abbrev pub IsUntoldAnswer : RequestPlain → ℕ → Causes → (old new : Outside) → Type 0
+abbrev pub IsUntoldAnswer : RequestPlain → ℕ → Causes → (old new : Environment) → Type 0
 IsUntoldAnswer request status causes old new =
     ((contents : Contents)
     × (AreContents (wanted request) contents
@@ -58,7 +58,7 @@ IsSound request status = Unit {0}
 
 -- A run of a request.
 pub record RunsRequest
-    (request : RequestPlain) (status : ℕ) (causes : Causes) (old new : Outside) : Type 0 where
+    (request : RequestPlain) (status : ℕ) (causes : Causes) (old new : Environment) : Type 0 where
   pub told :
       IfSome old.disk.files (λ files. IsToldAnswer request files status causes old new)
   pub untold : IfNone old.disk.files (IsUntoldAnswer request status causes old new)
@@ -70,7 +70,7 @@ pub record RunsRequest
 
 -- A run of the program, for the request that its words name, if they name one.
 pub record Runs
-    (request : Option RequestPlain) (status : ℕ) (causes : Causes) (old new : Outside)
+    (request : Option RequestPlain) (status : ℕ) (causes : Causes) (old new : Environment)
     : Type 0 where
   -- Status 2: exactly where the words name no request.
   pub refused : IfNone request (RefusesWords status causes old new)

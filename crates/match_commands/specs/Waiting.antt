@@ -2,7 +2,7 @@
 use Rattle.std.specs.Prelude.{◌≡◌, ℕ, Option, Some, option_and_then}
 use Rattle.command_words.specs.RequestPlain.{RequestPlain, Serve, Play}
 use Rattle.command_answers.specs.Causes.{causes_of}
-use Rattle.link_commands.specs.Links.{WithLinks, IsApart, outside_of}
+use Rattle.link_commands.specs.Links.{WithLinks, IsApart, environment_of}
 use Rattle.match_commands.specs.Plays.{RunsPlay}
 use Rattle.match_commands.specs.Serves.{RunsServe}
 use Rattle.match_commands.specs.Request.{written_by}
@@ -12,8 +12,8 @@ use Rattle.match_commands.specs.Run.{Runs}
 abbrev pub RunsAlone : Option RequestPlain → ℕ → (old new : WithLinks) → Type 0
 RunsAlone request status old new =
     Runs request status
-    (causes_of (option_and_then written_by request) (outside_of old) (outside_of new))
-    (outside_of old) (outside_of new)
+    (causes_of (option_and_then written_by request) (environment_of old) (environment_of new))
+    (environment_of old) (environment_of new)
     × IsApart old new
 
 -- A run of the request that the words name, if they name one.

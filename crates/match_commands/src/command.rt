@@ -4,7 +4,7 @@ ghost use Rattle.command_words.specs.RequestPlain.{Drill, Yaml, Check, Route, pl
 ghost use Rattle.command_words.specs.RequestPlain.{plain_match, plain_route, HasFewFiles};
 ghost use Rattle.command_words.specs.Reading.{request_of};
 ghost use Rattle.command_answers.specs.Causes.{causes_of};
-ghost use Rattle.command_answers.specs.Outside.{outside};
+ghost use Rattle.command_answers.specs.Environment.{environment};
 ghost use Rattle.match_commands.specs.Request.{written_by};
 ghost use Rattle.match_commands.specs.Run.{Runs, RunsRequest};
 ghost use Rattle.match_commands.specs.TopCalls.{returning, returning_request};
@@ -42,8 +42,8 @@ use std::alloc::Global;
 /// The file that `drill --record` or `migrate` names is written after the text. At 5 it holds what
 /// it held, nothing, or a prefix of its bytes; at every other status but 0 it is as it was.
 pub fn run<D: Disk, K: Sink>(alloc: Global, words: &[String], disk: &mut D, out: &mut K) -> u8
-    ensures { let old = outside (D.state disk.old) (K.state out.old) in
-        let new = outside (D.state disk.new) (K.state out.new) in
+    ensures { let old = environment (D.state disk.old) (K.state out.old) in
+        let new = environment (D.state disk.new) (K.state out.new) in
         let request = returning_request (request_of (map string_bytes words.now)) in
         Runs request result (causes_of (option_and_then written_by request) old new) old new }
 {
@@ -62,8 +62,8 @@ fn run_request<D: Disk, K: Sink>(
     out: &mut K,
 ) -> u8
     requires { HasFewFiles request.now }
-    ensures { let old = outside (D.state disk.old) (K.state out.old) in
-        let new = outside (D.state disk.new) (K.state out.new) in
+    ensures { let old = environment (D.state disk.old) (K.state out.old) in
+        let new = environment (D.state disk.new) (K.state out.new) in
         let named = returning (plain_of request.now) in
         Runs named result (causes_of (option_and_then written_by named) old new) old new }
 {
@@ -89,8 +89,8 @@ fn run_drill_query<D: Disk, K: Sink>(
 ) -> u8
     requires { length query.now.rules ≤ MAX_FILES }
     ensures { let name = option_map (λ name. name.now) record.entry in
-        let old = outside (D.state disk.old) (K.state out.old) in
-        let new = outside (D.state disk.new) (K.state out.new) in
+        let old = environment (D.state disk.old) (K.state out.old) in
+        let new = environment (D.state disk.new) (K.state out.new) in
         RunsRequest (Drill (plain_match query.now) name) result (causes_of name old new) old new }
 {
     match record {
@@ -108,8 +108,8 @@ fn run_script<D: Disk, K: Sink>(
     out: &mut K,
 ) -> u8
     requires { length query.now.rules ≤ MAX_FILES }
-    ensures { let old = outside (D.state disk.old) (K.state out.old) in
-        let new = outside (D.state disk.new) (K.state out.new) in
+    ensures { let old = environment (D.state disk.old) (K.state out.old) in
+        let new = environment (D.state disk.new) (K.state out.new) in
         RunsRequest (Drill (plain_match query.now) None) result (causes_of None old new) old new }
 {
     let names = query.rules.as_slice();
@@ -135,8 +135,8 @@ fn run_recorded_script<D: Disk, K: Sink>(
     out: &mut K,
 ) -> u8
     requires { length query.now.rules ≤ MAX_FILES }
-    ensures { let old = outside (D.state disk.old) (K.state out.old) in
-        let new = outside (D.state disk.new) (K.state out.new) in
+    ensures { let old = environment (D.state disk.old) (K.state out.old) in
+        let new = environment (D.state disk.new) (K.state out.new) in
         RunsRequest (Drill (plain_match query.now) (Some name.now)) result
         (causes_of (Some name.now) old new) old new }
 {
@@ -159,8 +159,8 @@ fn run_recorded_script<D: Disk, K: Sink>(
 /// The command `yaml`: reads rule files and prints their resolved forest.
 fn run_yaml<D: Disk, K: Sink>(alloc: Global, names: &FileNames<'_>, disk: &mut D, out: &mut K) -> u8
     requires { length names.now ≤ MAX_FILES }
-    ensures { let old = outside (D.state disk.old) (K.state out.old) in
-        let new = outside (D.state disk.new) (K.state out.new) in
+    ensures { let old = environment (D.state disk.old) (K.state out.old) in
+        let new = environment (D.state disk.new) (K.state out.new) in
         RunsRequest (Yaml names.now) result (causes_of None old new) old new }
 {
     let names = names.as_slice();
@@ -180,8 +180,8 @@ fn run_check<D: Disk, K: Sink>(
     out: &mut K,
 ) -> u8
     requires { length names.now ≤ MAX_FILES }
-    ensures { let old = outside (D.state disk.old) (K.state out.old) in
-        let new = outside (D.state disk.new) (K.state out.new) in
+    ensures { let old = environment (D.state disk.old) (K.state out.old) in
+        let new = environment (D.state disk.new) (K.state out.new) in
         RunsRequest (Check (option_map (λ name. name.now) map_file.entry) names.now) result
         (causes_of None old new) old new }
 {
@@ -200,8 +200,8 @@ fn run_route<D: Disk, K: Sink>(
     out: &mut K,
 ) -> u8
     requires { length query.now.rules ≤ MAX_FILES }
-    ensures { let old = outside (D.state disk.old) (K.state out.old) in
-        let new = outside (D.state disk.new) (K.state out.new) in
+    ensures { let old = environment (D.state disk.old) (K.state out.old) in
+        let new = environment (D.state disk.new) (K.state out.new) in
         RunsRequest (Route (plain_route query.now)) result (causes_of None old new) old new }
 {
     match read_files(alloc, disk, query.rules.as_slice(), Some(query.map_file)) {

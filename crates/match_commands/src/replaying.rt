@@ -4,7 +4,7 @@ ghost use Rattle.command_words.specs.RequestPlain.{Migrate, Replay, plain_match}
 ghost use Rattle.command_answers.specs.Answer.{reply_of};
 ghost use Rattle.command_answers.specs.Causes.{causes_of};
 ghost use Rattle.command_answers.specs.Given.{replay_contents};
-ghost use Rattle.command_answers.specs.Outside.{outside};
+ghost use Rattle.command_answers.specs.Environment.{environment};
 ghost use Rattle.command_answers.specs.Stop.{ReturnsStep};
 ghost use Rattle.match_commands.specs.Replayed.{migrated_step, replayed_step};
 ghost use Rattle.match_commands.specs.Run.{RunsRequest};
@@ -58,8 +58,8 @@ pub(crate) fn run_replay<D: Disk, K: Sink>(
     out: &mut K,
 ) -> u8
     requires { length query.now.rules ≤ MAX_FILES }
-    ensures { let old = outside (D.state disk.old) (K.state out.old) in
-        let new = outside (D.state disk.new) (K.state out.new) in
+    ensures { let old = environment (D.state disk.old) (K.state out.old) in
+        let new = environment (D.state disk.new) (K.state out.new) in
         RunsRequest (Replay (plain_match query.now)) result (causes_of None old new) old new }
 {
     let names = query.rules.as_slice();
@@ -85,8 +85,8 @@ pub(crate) fn run_migrate<D: Disk, K: Sink>(
     out: &mut K,
 ) -> u8
     requires { length query.now.rules ≤ MAX_FILES }
-    ensures { let old = outside (D.state disk.old) (K.state out.old) in
-        let new = outside (D.state disk.new) (K.state out.new) in
+    ensures { let old = environment (D.state disk.old) (K.state out.old) in
+        let new = environment (D.state disk.new) (K.state out.new) in
         RunsRequest (Migrate (plain_match query.now) to.now) result
         (causes_of (Some to.now) old new) old new }
 {

@@ -6,7 +6,7 @@ ghost use Rattle.command_words.specs.RequestPlain.{RequestPlain, plain_of};
 ghost use Rattle.command_words.specs.Reading.{request_of};
 ghost use Rattle.command_answers.specs.Causes.{causes_of};
 ghost use Rattle.command_answers.specs.Given.{script_contents};
-ghost use Rattle.command_answers.specs.Outside.{outside};
+ghost use Rattle.command_answers.specs.Environment.{environment};
 ghost use Rattle.command_answers.specs.Stop.{ReturnsStep};
 ghost use Rattle.match_commands.specs.Locals.{local_match_step};
 ghost use Rattle.link_commands.specs.Links.{with_links};
@@ -153,8 +153,8 @@ fn run_local_match<D: Disk, K: Sink, G: Gate + Sync, R: Threads + Wait + Sync>(
     gate: &G,
 ) -> u8
     requires { length query.now.rules ≤ MAX_FILES }
-    ensures { let old = outside (D.state disk.old) (K.state out.old) in
-        let new = outside (D.state disk.new) (K.state out.new) in
+    ensures { let old = environment (D.state disk.old) (K.state out.old) in
+        let new = environment (D.state disk.new) (K.state out.new) in
         RunsRequest (Local (plain_match query.now)) result (causes_of None old new) old new }
 {
     let names = query.rules.as_slice();

@@ -12,8 +12,8 @@ use Rattle.order_packets.specs.declared.down.Down.TheVariants as down
 use Rattle.peer_core.specs.Faithful.{IsFaithful}
 use Rattle.peer_core.specs.FaithfulLemmas.{fresh_faithful, deliver_faithful, tick_faithful}
 use Rattle.peer_core.specs.Peer.{PeerState, ticked_peer, delivered_peer}
-use Rattle.match_net.specs.declared.halt.Halt.{Halt}
-use Rattle.match_net.specs.declared.halt.Halt.TheVariants as halt
+use Rattle.match_net.specs.declared.stop_reason.StopReason.{StopReason}
+use Rattle.match_net.specs.declared.stop_reason.StopReason.TheVariants as stop
 use Rattle.match_net.specs.declared.play_cause.PlayCause.TheVariants as cause
 use Rattle.match_net.specs.Playing.{Player, Stage, round}
 use Rattle.match_net.specs.Stages.{Terms, is_match, welcomed, greeting_bytes, after_later}
@@ -86,7 +86,7 @@ all_true {W = W} terms start columns now last (packet ∷ packets) agreed holds 
         after_packets terms (Some next) packets ≡ Ok (Some last) →
         IsTrue terms.course.after start columns last.player.peer
 
-    by : (a : Result (Stage W) Halt) → after_later terms now packet ≡ a →
+    by : (a : Result (Stage W) StopReason) → after_later terms now packet ≡ a →
         (a >>= λ next. after_packets terms (Some next) packets) ≡ Ok (Some last) → Rest →
         IsTrue terms.course.after start columns last.player.peer
     by (Ok next) went rest others =
@@ -129,7 +129,7 @@ is_agreed {W = W} terms client clients lag seed packets now columns follows whol
 
     by : (fits : Bool) →
         ((if fits then Ok (round terms.course terms.script fresh)
-        else Err (halt.Bad cause.BadWelcome))
+        else Err (stop.Bad cause.BadWelcome))
         >>= λ next. after_packets terms (Some next) packets) ≡ Ok (Some now) →
         IsAt terms.course.after (terms.made seed clients) columns now.player.peer.ticked
         now.player.peer.world

@@ -32,8 +32,8 @@ use Rattle.peer_core.specs.Receipt.{receipt_of}
 use Rattle.order_packets.specs.declared.down.Down.{Down}
 use Rattle.order_packets.specs.declared.down.Down.TheVariants as down
 use Rattle.base.specs.Steps.{◌>>=◌}
-use Rattle.match_net.specs.declared.halt.Halt.{Halt}
-use Rattle.match_net.specs.declared.halt.Halt.TheVariants as halt
+use Rattle.match_net.specs.declared.stop_reason.StopReason.{StopReason}
+use Rattle.match_net.specs.declared.stop_reason.StopReason.TheVariants as stop
 use Rattle.match_net.specs.declared.play_cause.PlayCause.{PlayCause}
 use Rattle.match_net.specs.declared.play_cause.PlayCause.TheVariants as cause
 use Rattle.match_net.specs.Playing.{Course, Player, Stage, Telling, telling, ticked_if, tick_once}
@@ -502,7 +502,7 @@ goes_round {W = W} terms now next packet went = by_over (is_over now.player.peer
   by_down (Err why) is went = absurd cc
 
   by_over : (over : Bool) →
-      (if over then Err halt.Over else rounded terms now.said (after_down now.player packet))
+      (if over then Err stop.Over else rounded terms now.said (after_down now.player packet))
       ≡ Ok next → Rounds terms now packet next
   by_over true went = absurd cc
   by_over false went = by_down (after_down now.player packet) refl went
@@ -701,7 +701,7 @@ all_followed {W = W} terms start clients now last (packet ∷ packets) settled f
               ∙ so.1 c n packets,
         )
 
-    by : (a : Result (Stage W) Halt) → after_later terms now packet ≡ a →
+    by : (a : Result (Stage W) StopReason) → after_later terms now packet ≡ a →
         (a >>= λ next. after_packets terms (Some next) packets) ≡ Ok (Some last) → Rest →
         IsSettled terms start clients last
         × ((c n : ℕ) → kept_at last.player.peer.arrived c n
@@ -757,7 +757,7 @@ is_fold {W = W} terms client clients lag seed packets now follows =
 
     by : (fits : Bool) →
         ((if fits then Ok (round terms.course terms.script fresh)
-        else Err (halt.Bad cause.BadWelcome))
+        else Err (stop.Bad cause.BadWelcome))
         >>= λ next. after_packets terms (Some next) packets) ≡ Ok (Some now) →
         IsFold terms.course.after start clients packets now.player.peer
     by true rest = done rest

@@ -4,7 +4,7 @@ use Rattle.std.proofs.lemmas.Bool.{eqb-true}
 use Rattle.wire_bytes.specs.Read.{field_at}
 use Rattle.std.specs.Prelude.{◌==◌}
 use Rattle.std.proofs.lemmas.List.{length-append, append-nil}
-use Rattle.base.specs.Cause.{Rose}
+use Rattle.base.specs.Cause.{Increased}
 use Rattle.game_io.specs.SourceState.{SourceState}
 use Rattle.wire_bytes.specs.FieldLemmas.{field_length}
 use Rattle.wire_bytes.specs.Field.{field_bytes}
@@ -230,7 +230,7 @@ greets_undecided :
     (here turn : ℕ) (old mid new : SourceState) (from count total : ℕ) (fed after : Fed) (taken : List ℕ) (answer : Greeting) →
     Waiting old mid from count fed turn → taken ≡ [] → Took mid.left new.left taken → Counts count total taken → mid.faults ≤ new.faults →
     after ≡ more_fed fed.fault fed taken → None ≡ decision answer →
-    (answer ≡ greeting.Ended → NoneLeft new.left) → (answer ≡ greeting.Lost → Rose mid.faults new.faults) →
+    (answer ≡ greeting.Ended → NoneLeft new.left) → (answer ≡ greeting.Lost → Increased mid.faults new.faults) →
     (greets : Greets here old new after answer) × Counts from total greets.taken
 greets_undecided here turn old mid new from count total fed after taken answer so_far none took counted later is_fed undecided ended lost =
     let bytes = so_far.bytes in
@@ -256,7 +256,7 @@ greets_undecided here turn old mid new from count total fed after taken answer s
     by_welcome : (answer : Greeting) → None ≡ decision answer → answer ≡ greeting.Welcome → ⊥
     by_welcome answer undecided is = absurd cc
 
-    rose : Rose mid.faults new.faults → Rose old.faults new.faults
+    rose : Increased mid.faults new.faults → Increased old.faults new.faults
     rose up = let before = so_far.later in omega (arith, before, up)
 
     leaves : (answer : Greeting) → None ≡ decision answer → (answer ≡ greeting.Ended → NoneLeft new.left) → IsGreeted answer after new.left

@@ -12,25 +12,25 @@ use Rattle.order_packets.specs.declared.down.Down.{Down}
 use Rattle.order_packets.specs.PacketReading.{FirstPacket, packet_at, down_at}
 use Rattle.order_packets.specs.PacketLemmas.{same_first}
 use Rattle.order_packets.specs.Feed.{ReadsAll}
-use Rattle.match_net.specs.declared.halt.Halt.{Halt}
-use Rattle.match_net.specs.declared.halt.Halt.TheVariants as halt
+use Rattle.match_net.specs.declared.stop_reason.StopReason.{StopReason}
+use Rattle.match_net.specs.declared.stop_reason.StopReason.TheVariants as stop
 use Rattle.match_net.specs.declared.limits.TheConstants.{MAX_PLAY_BYTES}
 use Rattle.match_net.specs.declared.play_end.PlayEnd.{PlayEnd}
 use Rattle.match_net.specs.declared.play_end.PlayEnd.TheVariants as end
 use Rattle.match_net.specs.Playing.{Player, Stage, is_over}
 use Rattle.match_net.specs.Stages.{Terms, rounded, after_down, after_packet, after_packets}
-use Rattle.match_net.specs.Stages.{halt_of, halt_at, halt_in, is_over_stage, player_of}
+use Rattle.match_net.specs.Stages.{stop_of, stop_at, stop_in, is_over_stage, player_of}
 use Rattle.match_net.specs.PlayMatch.{Shows, PlaysTo, PlaysAs}
 use Rattle.match_net.specs.WholeMatch.{WholeMatch, IsWholeMatch, end_of, IsPlayed}
 
 -- The match stands at an end there.
 abbrev IsAtEnd : {W : Type 0} → Terms W → Option (Stage W) → List ℕ → Type 0
-IsAtEnd terms now rest = (h : Halt) × (halt_at terms now (packet_at down_at rest) ≡ Some h)
+IsAtEnd terms now rest = (h : StopReason) × (stop_at terms now (packet_at down_at rest) ≡ Some h)
 
 -- A first packet that goes on.
 goes_to :
-    {W : Type 0} (a : Result (Stage W) Halt)
-    (f : Stage W → Result (Option (Stage W)) Halt) (last : Option (Stage W)) →
+    {W : Type 0} (a : Result (Stage W) StopReason)
+    (f : Stage W → Result (Option (Stage W)) StopReason) (last : Option (Stage W)) →
     (a >>= f) ≡ Ok last → (next : Stage W) × (a ≡ Ok next) × (f next ≡ Ok last)
 goes_to (Ok next) f last is = (next, refl, is)
 goes_to (Err why) f last is = absurd cc
@@ -43,7 +43,7 @@ over_ends terms None next packet over goes = absurd cc
 over_ends {W = W} terms (Some now) next packet over goes = by (is_over now.player.peer) over goes
   where
     by : (b : Bool) → b ≡ true →
-        (if b then Err halt.Over else rounded terms now.said (after_down now.player packet))
+        (if b then Err stop.Over else rounded terms now.said (after_down now.player packet))
         ≡ Ok next → ⊥
     by true over goes = absurd cc
     by false over goes = absurd cc
@@ -54,12 +54,12 @@ goes_no_further :
     (packet : Down) → IsAtEnd terms now rest →
     packet_at down_at rest ≡ Ok (Some (packet, mid)) → after_packet terms now packet ≡ Ok next → ⊥
 goes_no_further {W = W} terms now next rest mid packet ends is goes =
-    by (is_over_stage now) refl (sym (ap (halt_at terms now) is) ∙ ends.1)
+    by (is_over_stage now) refl (sym (ap (stop_at terms now) is) ∙ ends.1)
   where
     by : (over : Bool) → is_over_stage now ≡ over →
-        (if over then Some halt.Over else halt_of (after_packet terms now packet)) ≡ Some ends.0 → ⊥
+        (if over then Some stop.Over else stop_of (after_packet terms now packet)) ≡ Some ends.0 → ⊥
     by true over found = over_ends terms now next packet over goes
-    by false over found = let none : None ≡ Some ends.0 = sym (ap halt_of goes) ∙ found in absurd cc
+    by false over found = let none : None ≡ Some ends.0 = sym (ap stop_of goes) ∙ found in absurd cc
 
 pub record SameWay {W : Type 0} (s t : Option (Stage W)) (rest more : List ℕ)
     (packets others : List Down) : Type 0 where
@@ -98,28 +98,28 @@ one_way {W = W} terms bytes rest more (packet ∷ packets) (other ∷ others) fi
 
 -- An end that counts is an end.
 is_at_end :
-    {W : Type 0} (terms : Terms W) (size : ℕ) (now : Option (Stage W)) (rest : List ℕ) (h : Halt) →
-    option_map (halt_in size) (halt_at terms now (packet_at down_at rest)) ≡ Some h →
+    {W : Type 0} (terms : Terms W) (size : ℕ) (now : Option (Stage W)) (rest : List ℕ) (h : StopReason) →
+    option_map (stop_in size) (stop_at terms now (packet_at down_at rest)) ≡ Some h →
     IsAtEnd terms now rest
-is_at_end terms size now rest h is = by (halt_at terms now (packet_at down_at rest)) is
+is_at_end terms size now rest h is = by (stop_at terms now (packet_at down_at rest)) is
   where
-    by : (found : Option Halt) → option_map (halt_in size) found ≡ Some h →
-        (e : Halt) × (found ≡ Some e)
+    by : (found : Option StopReason) → option_map (stop_in size) found ≡ Some h →
+        (e : StopReason) × (found ≡ Some e)
     by None is = absurd cc
     by (Some e) is = (e, refl)
 
 -- The same fields make the same match.
-abbrev match_of : {W : Type 0} → List Down → Option (Stage W) → Halt → ℕ → WholeMatch W
-match_of packets now h at = record { packets = packets; now = now; halt = h; at = at }
+abbrev match_of : {W : Type 0} → List Down → Option (Stage W) → StopReason → ℕ → WholeMatch W
+match_of packets now h at = record { packets = packets; now = now; stop = h; at = at }
 
 same_match :
-    {W : Type 0} (packets others : List Down) (now later : Option (Stage W)) (h other : Halt)
+    {W : Type 0} (packets others : List Down) (now later : Option (Stage W)) (h other : StopReason)
     (at there : ℕ) → packets ≡ others → now ≡ later → h ≡ other → at ≡ there →
     match_of packets now h at ≡ match_of others later other there
 same_match {W = W} packets others now later h other at there a b c d =
     ap (λ (x : List Down). match_of x now h at) a
     ∙ ap (λ (x : Option (Stage W)). match_of others x h at) b
-    ∙ ap (λ (x : Halt). match_of others later x at) c
+    ∙ ap (λ (x : StopReason). match_of others later x at) c
     ∙ ap (λ (x : ℕ). match_of others later other x) d
 
 pub one_match :
@@ -129,32 +129,32 @@ one_match {W = W} terms bytes one other is also =
     let size = length bytes in
     let same = one_way terms (take MAX_PLAY_BYTES bytes) is.rest also.rest one.packets other.packets
     None one.now other.now is.reads also.reads is.follows also.follows
-    (is_at_end terms size one.now is.rest one.halt is.ends)
-    (is_at_end terms size other.now also.rest other.halt also.ends) in
-    let ends : Some one.halt ≡ Some other.halt =
+    (is_at_end terms size one.now is.rest one.stop is.ends)
+    (is_at_end terms size other.now also.rest other.stop also.ends) in
+    let ends : Some one.stop ≡ Some other.stop =
     sym is.ends
     ∙ ap₂ (λ (x : Option (Stage W)) (b : List ℕ).
-    option_map (halt_in size) (halt_at terms x (packet_at down_at b))) same.stage same.left
+    option_map (stop_in size) (stop_at terms x (packet_at down_at b))) same.stage same.left
     ∙ also.ends in
     let long = ap length same.left in
-    let halts : one.halt ≡ other.halt = cc in
-    same_match one.packets other.packets one.now other.now one.halt other.halt one.at other.at
-    same.followed same.stage halts
+    let stops : one.stop ≡ other.stop = cc in
+    same_match one.packets other.packets one.now other.now one.stop other.stop one.at other.at
+    same.followed same.stage stops
     (let a = is.place in let b = also.place in omega (arith, a, b, long))
 
 -- What a player's call followed, with an end that its bytes have there.
 abbrev followed_to :
     {W : Type 0} {terms : Terms W} {old new : SourceState} {before after : SinkState}
     {player : Option (Player W)} {answer : PlayEnd} →
-    PlaysTo terms old new before after player answer → Halt → WholeMatch W
+    PlaysTo terms old new before after player answer → StopReason → WholeMatch W
 followed_to plays h =
-    record { packets = plays.packets; now = plays.now; halt = h; at = plays.at }
+    record { packets = plays.packets; now = plays.now; stop = h; at = plays.at }
 
 whole_by :
     {W : Type 0} (terms : Terms W) (old new : SourceState) (before after : SinkState)
     (player : Option (Player W)) (answer : PlayEnd)
-    (plays : PlaysTo terms old new before after player answer) (h : Halt) →
-    option_map (halt_in (length plays.link.taken)) (halt_at terms plays.now plays.found) ≡ Some h →
+    (plays : PlaysTo terms old new before after player answer) (h : StopReason) →
+    option_map (stop_in (length plays.link.taken)) (stop_at terms plays.now plays.found) ≡ Some h →
     IsWholeMatch terms plays.link.taken (followed_to plays h)
 whole_by {W = W} terms old new before after player answer plays h ends =
     let all : take MAX_PLAY_BYTES plays.link.taken ≡ plays.link.taken =
@@ -164,14 +164,14 @@ whole_by {W = W} terms old new before after player answer plays h ends =
       reads = subst (λ (b : List ℕ). ReadsAll down_at b plays.packets plays.link.rest) (sym all) plays.link.reads;
       place = plays.link.place ∙ ap length (sym all);
       follows = plays.follows;
-      ends = ap (λ (f : FirstPacket Down). option_map (halt_in (length plays.link.taken)) (halt_at terms plays.now f)) plays.link.found_is ∙ ends;
+      ends = ap (λ (f : FirstPacket Down). option_map (stop_in (length plays.link.taken)) (stop_at terms plays.now f)) plays.link.found_is ∙ ends;
     }
 
 played_by :
     {W : Type 0} (terms : Terms W) (old new : SourceState) (before after : SinkState)
     (answer : PlayEnd) (client frames : ℕ) (sim : Option W)
-    (plays : PlaysAs terms old new before after answer client frames sim) (h : Halt) →
-    option_map (halt_in (length plays.plays.link.taken)) (halt_at terms plays.plays.now plays.plays.found) ≡ Some h →
+    (plays : PlaysAs terms old new before after answer client frames sim) (h : StopReason) →
+    option_map (stop_in (length plays.plays.link.taken)) (stop_at terms plays.plays.now plays.plays.found) ≡ Some h →
     answer ≡ end_of h plays.plays.at →
     IsPlayed terms plays.plays.link.taken answer client frames sim
 played_by {W = W} terms old new before after answer client frames sim plays h ends answered =
@@ -189,13 +189,13 @@ pub played :
     (plays : PlaysAs terms old new before after answer client frames sim) → answer ≢ end.Lost →
     IsPlayed terms plays.plays.link.taken answer client frames sim
 played terms old new before after end.Over client frames sim plays ended =
-    played_by terms old new before after end.Over client frames sim plays halt.Over
-    (ap (option_map (halt_in (length plays.plays.link.taken))) plays.plays.ends.0) refl
+    played_by terms old new before after end.Over client frames sim plays stop.Over
+    (ap (option_map (stop_in (length plays.plays.link.taken))) plays.plays.ends.0) refl
 played terms old new before after (end.Refused code) client frames sim plays ended =
-    played_by terms old new before after (end.Refused code) client frames sim plays (halt.Refused code)
-    (ap (option_map (halt_in (length plays.plays.link.taken))) plays.plays.ends.0) refl
+    played_by terms old new before after (end.Refused code) client frames sim plays (stop.Refused code)
+    (ap (option_map (stop_in (length plays.plays.link.taken))) plays.plays.ends.0) refl
 played terms old new before after (end.BadLink place why) client frames sim plays ended =
-    played_by terms old new before after (end.BadLink place why) client frames sim plays (halt.Bad why)
+    played_by terms old new before after (end.BadLink place why) client frames sim plays (stop.Bad why)
     plays.plays.ends.1 (ap (λ (at : ℕ). end.BadLink at why) plays.plays.ends.0)
 played terms old new before after end.Lost client frames sim plays ended = absurd (ended refl)
 
@@ -219,7 +219,7 @@ one_played {W = W} terms bytes answer another client frames c f sim world one ot
     let shown = shows_one (player_of other.whole.now) client frames c f sim world
     (subst (λ (m : WholeMatch W). Shows (player_of m.now) client frames sim) same one.shows)
     other.shows in (
-      one.answered ∙ ap (λ (m : WholeMatch W). end_of m.halt m.at) same ∙ sym other.answered,
+      one.answered ∙ ap (λ (m : WholeMatch W). end_of m.stop m.at) same ∙ sym other.answered,
       shown.0,
       shown.1,
       shown.2,
@@ -287,4 +287,4 @@ followed_begins {W = W} terms old new before after answer client frames sim whol
     plays.plays.now whole.now plays.plays.link.reads
     (subst (λ (b : List ℕ). ReadsAll down_at b whole.packets is.rest) all is.reads)
     plays.plays.follows is.follows
-    (is_at_end terms (length bytes) whole.now is.rest whole.halt is.ends)
+    (is_at_end terms (length bytes) whole.now is.rest whole.stop is.ends)

@@ -5,7 +5,7 @@ use Rattle.std.proofs.Common.{Some, None, Result, Ok, Err, refl, sym, ap, subst,
 use Rattle.std.proofs.Common.{inl, inr}
 use Rattle.std.specs.Prelude.{OnErr}
 use Rattle.std.specs.Option.{option_map}
-use Rattle.base.specs.Cause.{Rose}
+use Rattle.base.specs.Cause.{Increased}
 use Rattle.base.specs.Written.{Wrote, WrotePrefix, Wrote-nil, Wrote-append}
 use Rattle.game_io.specs.SourceState.{SourceState}
 use Rattle.game_io.specs.SinkState.{SinkState}
@@ -15,8 +15,8 @@ use Rattle.order_packets.specs.declared.down.Down.{Down}
 use Rattle.order_packets.specs.declared.down.Down.TheVariants as down
 use Rattle.order_packets.specs.PacketReading.{FirstPacket, packet_at, down_at}
 use Rattle.order_packets.specs.Feed.{Fed}
-use Rattle.match_net.specs.declared.halt.Halt.{Halt}
-use Rattle.match_net.specs.declared.halt.Halt.TheVariants as halt
+use Rattle.match_net.specs.declared.stop_reason.StopReason.{StopReason}
+use Rattle.match_net.specs.declared.stop_reason.StopReason.TheVariants as stop
 use Rattle.match_net.specs.declared.next.Next.{Next}
 use Rattle.match_net.specs.declared.next.Next.TheVariants as next
 use Rattle.match_net.specs.declared.play_cause.PlayCause.{PlayCause}
@@ -25,7 +25,7 @@ use Rattle.match_net.specs.declared.play_end.PlayEnd.{PlayEnd}
 use Rattle.match_net.specs.declared.play_end.PlayEnd.TheVariants as end
 use Rattle.match_net.specs.Playing.{Course, Player, Stage, round, is_over}
 use Rattle.match_net.specs.Stages.{Terms, after_first}
-use Rattle.match_net.specs.Stages.{halt_of, halt_in}
+use Rattle.match_net.specs.Stages.{stop_of, stop_in}
 use Rattle.match_net.specs.Stages.{is_match, welcomed, greeting_bytes}
 use Rattle.match_net.specs.Downward.{InStream, Finds, NextMeans, Spills}
 use Rattle.match_net.specs.PlayMatch.{HasSaid, FailsWithin, FailsAfter, EndsBy, PlaysTo, PlaysAs}
@@ -113,9 +113,9 @@ await_packet old mid now fed next_fed at packet found is means stream =
 -- How a first packet that does not welcome ends a match.
 abbrev pub FirstEnds : {W : Type 0} → Terms W → Down → ℕ → PlayEnd → Type 0
 FirstEnds terms packet at end.Over = ⊥
-FirstEnds terms packet at (end.Refused code) = after_first terms packet ≡ Err (halt.Refused code)
+FirstEnds terms packet at (end.Refused code) = after_first terms packet ≡ Err (stop.Refused code)
 FirstEnds terms packet at (end.BadLink place why) =
-    (place ≡ at) × (after_first terms packet ≡ Err (halt.Bad why)) × (why ≡ cause.Early → ⊥)
+    (place ≡ at) × (after_first terms packet ≡ Err (stop.Bad why)) × (why ≡ cause.Early → ⊥)
 FirstEnds terms packet at end.Lost = ⊥
 
 -- A welcome to no match that can be.
@@ -149,10 +149,10 @@ first_ends {W = W} terms old now before later at packet more how answer client f
         EndsBy terms [] None (Ok (Some (packet, more))) (length finds.taken) at old now before
         later how
     by_end end.Over ends = absurd ends
-    by_end (end.Refused code) ends = (ap halt_of ends, said)
+    by_end (end.Refused code) ends = (ap stop_of ends, said)
     by_end (end.BadLink place why) ends = (
       ends.0,
-      ap (λ (a : Result (Stage W) Halt). option_map (halt_in (length finds.taken)) (halt_of a))
+      ap (λ (a : Result (Stage W) StopReason). option_map (stop_in (length finds.taken)) (stop_of a))
           ends.1,
       (λ early. absurd (ends.2 early)),
       said,
@@ -215,7 +215,7 @@ pub greeting_fails :
     {W : Type 0} (terms : Terms W) (state : SourceState) (before later : SinkState) (bytes : List ℕ)
     (answer : PlayEnd) (client frames : ℕ) (sim : Option W) →
     bytes ≡ greeting_bytes terms.rules → WrotePrefix before.written later.written bytes →
-    before.faults ≤ later.faults → Rose before.faults later.faults →
+    before.faults ≤ later.faults → Increased before.faults later.faults →
     (answer ≡ end.Lost) × Shows None client frames sim →
     PlaysAs terms state state before later answer client frames sim
 greeting_fails terms state before later bytes answer client frames sim is wrote later_count rose

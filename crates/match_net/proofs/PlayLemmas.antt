@@ -14,8 +14,8 @@ use Rattle.order_packets.specs.PacketReading.{FirstPacket, packet_at, down_at}
 use Rattle.order_packets.specs.Feed.{Fed}
 use Rattle.peer_core.specs.declared.receipt.Receipt.{Receipt}
 use Rattle.peer_core.specs.declared.receipt.Receipt.TheVariants as receipt
-use Rattle.match_net.specs.declared.halt.Halt.{Halt}
-use Rattle.match_net.specs.declared.halt.Halt.TheVariants as halt
+use Rattle.match_net.specs.declared.stop_reason.StopReason.{StopReason}
+use Rattle.match_net.specs.declared.stop_reason.StopReason.TheVariants as stop
 use Rattle.match_net.specs.declared.next.Next.{Next}
 use Rattle.match_net.specs.declared.next.Next.TheVariants as next
 use Rattle.match_net.specs.declared.play_cause.PlayCause.{PlayCause}
@@ -24,12 +24,12 @@ use Rattle.match_net.specs.declared.play_end.PlayEnd.{PlayEnd}
 use Rattle.match_net.specs.declared.play_end.PlayEnd.TheVariants as end
 use Rattle.match_net.specs.Playing.{Player, Stage, round, is_over, after_receipt}
 use Rattle.match_net.specs.Stages.{Terms, after_down, rounded, after_packet}
-use Rattle.match_net.specs.Stages.{after_packets, halt_of, halt_by, halt_at, halt_in, bad_at}
+use Rattle.match_net.specs.Stages.{after_packets, stop_of, stop_by, stop_at, stop_in, bad_at}
 use Rattle.match_net.specs.Stages.{bad_end, said_by, is_match, welcomed, greeting_bytes}
 use Rattle.match_net.specs.Downward.{InStream, Finds, NextMeans, Spills}
 use Rattle.match_net.specs.PlayMatch.{HasSaid, SaidBefore, EndsBy, PlaysTo, PlaysAs, PlaysPartly}
 use Rattle.match_net.specs.PlayMatch.{PlaySoFar, PlayBegins, AfterTurn, TurnMeans}
-use Rattle.match_net.specs.PlayMatch.{ActMeans, HeedMeans, Shows}
+use Rattle.match_net.specs.PlayMatch.{ActMeans, HandlingMeans, Shows}
 use Rattle.match_net.proofs.DownLemmas.{stands_next}
 
 -- One packet more.
@@ -41,12 +41,12 @@ pub after_one_more :
 after_one_more {W = W} terms [] now mid next packet so_far is =
     let at : now ≡ mid = cc in
     ap (λ (s : Option (Stage W)). after_packet terms s packet >>= λ last. Ok (Some last)) at
-    ∙ ap (λ (a : Result (Stage W) Halt). a >>= λ last. Ok (Some last)) is
+    ∙ ap (λ (a : Result (Stage W) StopReason). a >>= λ last. Ok (Some last)) is
 after_one_more {W = W} terms (first ∷ packets) now mid next packet so_far is =
     by_first (after_packet terms now first) so_far (λ after goes. after_one_more terms packets
     (Some after) mid next packet goes is)
   where
-    by_first : (a : Result (Stage W) Halt) →
+    by_first : (a : Result (Stage W) StopReason) →
         (a >>= λ after. after_packets terms (Some after) packets) ≡ Ok mid →
         ((after : Stage W) → after_packets terms (Some after) packets ≡ Ok mid →
         after_packets terms (Some after) (packets ++ packet ∷ []) ≡ Ok (Some next)) →
@@ -63,18 +63,18 @@ later_on :
 later_on terms player said packet going = rw going refl
 
 -- What is found of a match that is not over.
-halts_later :
+stops_later :
     {W : Type 0} (terms : Terms W) (player : Player W) (said : List ℕ) (found : FirstPacket Down) →
     is_over player.peer ≡ false →
-    halt_at terms (Some (record { player = player; said = said })) found
-    ≡ halt_by terms (Some (record { player = player; said = said })) found
-halts_later terms player said found going = rw going refl
+    stop_at terms (Some (record { player = player; said = said })) found
+    ≡ stop_by terms (Some (record { player = player; said = said })) found
+stops_later terms player said found going = rw going refl
 
-halts_over :
+stops_over :
     {W : Type 0} (terms : Terms W) (now : Stage W) (found : FirstPacket Down) →
     is_over now.player.peer ≡ true →
-    halt_at terms (Some now) found ≡ Some halt.Over
-halts_over terms now found over = rw over refl
+    stop_at terms (Some now) found ≡ Some stop.Over
+stops_over terms now found over = rw over refl
 
 -- No packet of an entry or a welcome ends a match early.
 not_early_receipt :
@@ -137,7 +137,7 @@ acted {W = W} terms old now before later packets said after player fed (Some end
       follows = follows;
       player_is = ap (λ (p : Player W). Some p) acts.0;
       ends = (
-        halts_over terms after (packet_at down_at fed.rest)
+        stops_over terms after (packet_at down_at fed.rest)
             (ap (λ (p : Player W). is_over p.peer) (sym acts.0) ∙ acts.1),
         acts.2,
       );
@@ -160,21 +160,21 @@ acted {W = W} terms old now before later packets said after player fed (Some end
     }
 
 -- After a packet.
-pub after_heed :
+pub after_handling :
     {W : Type 0} (terms : Terms W) (old mid now : SourceState) (before first later : SinkState)
     (player after : Player W) (fed next_fed : Fed) (at : ℕ) (packet : Down)
     (answer : Option PlayEnd) →
     (so_far : PlaySoFar terms old mid before first player fed) →
     NextMeans old now so_far.packets next_fed (next.Packet at packet) →
-    HeedMeans terms.course terms.script (after_down player packet) player so_far.said at after
+    HandlingMeans terms.course terms.script (after_down player packet) player so_far.said at after
     before later answer →
     AfterTurn terms old now before later after next_fed answer
-after_heed {W = W} terms old mid now before first later player after fed next_fed at packet answer
-    so_far found heeds =
-    by_down (after_down player packet) refl heeds
+after_handling {W = W} terms old mid now before first later player after fed next_fed at packet answer
+    so_far found handles =
+    by_down (after_down player packet) refl handles
   where
     by_down : (d : Result (Player W) PlayCause) → after_down player packet ≡ d →
-        HeedMeans terms.course terms.script d player so_far.said at after before later answer →
+        HandlingMeans terms.course terms.script d player so_far.said at after before later answer →
         AfterTurn terms old now before later after next_fed answer
     by_down (Ok next_player) is acts =
         acted terms old now before later (so_far.packets ++ packet ∷ []) so_far.said
@@ -205,9 +205,9 @@ after_heed {W = W} terms old mid now before first later player after fed next_fe
           player_is = ap (λ (p : Player W). Some p) ends.1;
           ends = (
             refl,
-            ap (option_map (halt_in (length found.1.1.taken)))
-                (halts_later terms player so_far.said (Ok (Some (packet, found.1.0))) so_far.going
-                ∙ ap halt_of (later_on terms player so_far.said packet so_far.going
+            ap (option_map (stop_in (length found.1.1.taken)))
+                (stops_later terms player so_far.said (Ok (Some (packet, found.1.0))) so_far.going
+                ∙ ap stop_of (later_on terms player so_far.said packet so_far.going
                 ∙ ap (rounded terms so_far.said) is)),
             (λ early. absurd (not_early player packet why is early)),
             ends.2,
@@ -215,16 +215,16 @@ after_heed {W = W} terms old mid now before first later player after fed next_fe
         })
 
 -- What is bad ends a match.
-bad_halts :
+bad_stops :
     {W : Type 0} (terms : Terms W) (now : Option (Stage W)) (size : ℕ) (found : FirstPacket Down)
     (why : PlayCause) →
-    bad_at size found ≡ Some why → option_map (halt_in size) (halt_by terms now found)
-    ≡ Some (halt.Bad why)
-bad_halts terms now size (Ok None) why is =
-    let same : bad_end size ≡ why = cc in ap (λ (w : PlayCause). Some (halt.Bad w)) same
-bad_halts terms now size (Ok (Some first)) why is = absurd cc
-bad_halts terms now size (Err fault) why is =
-    let same : cause.Feed fault ≡ why = cc in ap (λ (w : PlayCause). Some (halt.Bad w)) same
+    bad_at size found ≡ Some why → option_map (stop_in size) (stop_by terms now found)
+    ≡ Some (stop.Bad why)
+bad_stops terms now size (Ok None) why is =
+    let same : bad_end size ≡ why = cc in ap (λ (w : PlayCause). Some (stop.Bad w)) same
+bad_stops terms now size (Ok (Some first)) why is = absurd cc
+bad_stops terms now size (Err fault) why is =
+    let same : cause.Feed fault ≡ why = cc in ap (λ (w : PlayCause). Some (stop.Bad w)) same
 
 -- After no packet came.
 pub after_bad :
@@ -244,9 +244,9 @@ after_bad terms old mid now before first player fed next_fed at why so_far bad =
       player_is = refl;
       ends = (
         refl,
-        ap (option_map (halt_in (length bad.1.taken))) (halts_later terms player so_far.said bad.0
+        ap (option_map (stop_in (length bad.1.taken))) (stops_later terms player so_far.said bad.0
             so_far.going)
-            ∙ bad_halts terms (Some (record { player = player; said = so_far.said }))
+            ∙ bad_stops terms (Some (record { player = player; said = so_far.said }))
             (length bad.1.taken) bad.0 why bad.2,
         bad.3,
         so_far.wrote,
@@ -269,7 +269,7 @@ after_lost terms old mid now before first player fed next_fed so_far lost =
       follows = so_far.follows;
       player_is = refl;
       ends = inl (
-        halts_later terms player so_far.said (Ok None) so_far.going,
+        stops_later terms player so_far.said (Ok None) so_far.going,
         lost.2,
         lost.3,
         so_far.wrote,
@@ -303,13 +303,13 @@ turn_spills terms old mid now before first player fed so_far spills =
     partly terms old now before first so_far.packets spills.0 spills.1
     (Some (record { player = player; said = so_far.said })) spills.2 so_far.follows so_far.wrote
 
-pub heed_spills :
+pub handling_spills :
     {W : Type 0} (terms : Terms W) (old mid now : SourceState) (before first later : SinkState)
     (player : Player W) (fed next_fed : Fed) (at : ℕ) (packet : Down) →
     (so_far : PlaySoFar terms old mid before first player fed) →
     NextMeans old now so_far.packets next_fed (next.Packet at packet) → later ≡ first →
     PlaysPartly terms old now before later
-heed_spills terms old mid now before first later player fed next_fed at packet so_far found same =
+handling_spills terms old mid now before first later player fed next_fed at packet so_far found same =
     partly terms old now before later so_far.packets at (Ok (Some (packet, found.1.0)))
     (Some (record { player = player; said = so_far.said })) found.1.1 so_far.follows
     (subst (λ (s : SinkState). HasSaid before s so_far.said) (sym same) so_far.wrote)
@@ -346,7 +346,7 @@ pub unwelcomed_bad :
     frames sim
 unwelcomed_bad terms old now before later fed at why client frames sim bad said shows =
     unwelcomed_end terms old now before later at bad.0 (end.BadLink at why) client frames sim bad.1
-    (refl, bad_halts terms None (length bad.1.taken) bad.0 why bad.2, bad.3, said) shows
+    (refl, bad_stops terms None (length bad.1.taken) bad.0 why bad.2, bad.3, said) shows
 
 pub unwelcomed_lost :
     {W : Type 0} (terms : Terms W) (old now : SourceState) (before later : SinkState) (fed : Fed)
@@ -394,20 +394,20 @@ pub turn_packet :
     ((packets : List Down) → InStream old mid packets fed →
     NextMeans old now packets next_fed found) →
     IfOk result (λ answer. (start : SinkState) (said : List ℕ) → HasSaid start first said →
-    HeedMeans terms.course terms.script (after_down player packet) player said at after start later
+    HandlingMeans terms.course terms.script (after_down player packet) player said at after start later
     answer) →
     OnErr result (later ≡ first) →
     PlaySoFar terms old mid before first player fed →
     TurnMeans terms old now before later after next_fed result
 turn_packet terms old mid now before first later player after fed next_fed at packet found
-    (Ok answer) is means heeds stays so_far =
-    after_heed terms old mid now before first later player after fed next_fed at packet answer
+    (Ok answer) is means handles stays so_far =
+    after_handling terms old mid now before first later player after fed next_fed at packet answer
     so_far
     (subst (NextMeans old now so_far.packets next_fed) is (means so_far.packets so_far.stream))
-    (heeds before so_far.said so_far.wrote)
+    (handles before so_far.said so_far.wrote)
 turn_packet terms old mid now before first later player after fed next_fed at packet found
-    (Err failed) is means heeds stays so_far =
-    heed_spills terms old mid now before first later player fed next_fed at packet so_far
+    (Err failed) is means handles stays so_far =
+    handling_spills terms old mid now before first later player fed next_fed at packet so_far
     (subst (NextMeans old now so_far.packets next_fed) is (means so_far.packets so_far.stream))
     stays
 

@@ -14,7 +14,7 @@ use Rattle.frame_core.specs.declared.put.Put.{Put}
 use Rattle.frame_core.specs.declared.put.Put.TheVariants.{Fixed, Repeat, Conflict, Left, Ahead, Full}
 use Rattle.order_packets.specs.declared.up.Up.TheVariants.{Orders}
 use Rattle.match_net.specs.Session.{Session, own_column}
-use Rattle.match_net.specs.Heeding.{end_by_put, IsLeftIf, HeedMeans}
+use Rattle.match_net.specs.Handling.{end_by_put, IsLeftIf, HandlingMeans}
 
 -- A column of these plays.
 abbrev pub with_plays : List (List Order) → Bool → Column
@@ -22,7 +22,7 @@ with_plays plays left = record { plays = plays; left = left }
 
 -- What a put says of a session, where the column has its plays.
 pub record PutSays (client : ℕ) (session : Session) (left : Bool) (n : ℕ) (orders : List Order) : Type 0 where
-  pub means : HeedMeans client session (Orders n orders)
+  pub means : HandlingMeans client session (Orders n orders)
       (record session { plays = (put_column (with_plays session.plays left) n (Play orders)).plays })
       (end_by_put (put_answer (with_plays session.plays left) n (Play orders)) n)
   pub knows : IsLeftIf left (end_by_put (put_answer (with_plays session.plays left) n (Play orders)) n)

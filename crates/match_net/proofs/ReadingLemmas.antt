@@ -16,8 +16,8 @@ use Rattle.match_net.specs.declared.read_cause.ReadCause.TheVariants as cause
 use Rattle.match_net.specs.declared.reader_end.ReaderEnd.{ReaderEnd}
 use Rattle.match_net.specs.declared.reader_end.ReaderEnd.TheVariants as end
 use Rattle.match_net.specs.Session.{Session}
-use Rattle.match_net.specs.Heeding.{end_by_put, IsLeftIf, HeedMeans}
-use Rattle.match_net.specs.Reading.{MayPlay, OnlyLearns, IsStanding, PutsOrders, Heeds, PushMeans}
+use Rattle.match_net.specs.Handling.{end_by_put, IsLeftIf, HandlingMeans}
+use Rattle.match_net.specs.Reading.{MayPlay, OnlyLearns, IsStanding, PutsOrders, HandlesPacket, PushMeans}
 use Rattle.match_net.proofs.PutLemmas.{with_plays, PutSays, put_says}
 
 -- A column that was published with its departure as it was.
@@ -49,15 +49,15 @@ puts_orders c n orders old new answer may free puts =
           subst (λ (b : Bool). IsLeftIf b (end_by_put answer n)) (sym (ap (λ (k : Column). k.left) after ∙ stays_of K))
           (subst (λ (a : Put). IsLeftIf K.left (end_by_put a n)) (sym puts.2) (says_of K).knows);
       means = λ session same.
-          subst (λ (xs : List (List Order)). HeedMeans c session (Orders n orders) (record session { plays = xs }) (end_by_put answer n)) (sym (ap (λ (k : Column). k.plays) after))
-          (subst (λ (a : Put). HeedMeans c session (Orders n orders) (record session { plays = (put_column K n (Play orders)).plays }) (end_by_put a n)) (sym puts.2)
+          subst (λ (xs : List (List Order)). HandlingMeans c session (Orders n orders) (record session { plays = xs }) (end_by_put answer n)) (sym (ap (λ (k : Column). k.plays) after))
+          (subst (λ (a : Put). HandlingMeans c session (Orders n orders) (record session { plays = (put_column K n (Play orders)).plays }) (end_by_put a n)) (sym puts.2)
           (means_of K session (same ∙ plays)));
     }
   where
     means_of : (K : Column) (session : Session) → session.plays ≡ K.plays →
-        HeedMeans c session (Orders n orders) (record session { plays = (put_column K n (Play orders)).plays }) (end_by_put (put_answer K n (Play orders)) n)
+        HandlingMeans c session (Orders n orders) (record session { plays = (put_column K n (Play orders)).plays }) (end_by_put (put_answer K n (Play orders)) n)
     means_of K session same =
-        subst (λ (k : Column). HeedMeans c session (Orders n orders) (record session { plays = (put_column k n (Play orders)).plays }) (end_by_put (put_answer k n (Play orders)) n))
+        subst (λ (k : Column). HandlingMeans c session (Orders n orders) (record session { plays = (put_column k n (Play orders)).plays }) (end_by_put (put_answer k n (Play orders)) n))
         (ap (λ (xs : List (List Order)). with_plays xs K.left) same)
         (put_says c session K.left n orders).means
 
@@ -79,11 +79,11 @@ puts_nothing c n orders old new long same =
           ap (λ (xs : List (List Order)). record session { plays = xs }) (ap (λ (p : Part). p.known.plays) (same.parts c) ∙ sym plays);
     }
 
--- Orders are heeded.
-pub heeds_orders :
+-- Orders are handled.
+pub handles_orders :
     (c n : ℕ) (orders : List Order) (old new : View) (pushed : List Heard) (answer : Option ReaderEnd) →
-    PutsOrders c old new n orders answer → Heeds c old new pushed pushed (Orders n orders) answer
-heeds_orders c n orders old new pushed answer puts =
+    PutsOrders c old new n orders answer → HandlesPacket c old new pushed pushed (Orders n orders) answer
+handles_orders c n orders old new pushed answer puts =
     record {
       others = puts.others;
       learns = puts.learns;
@@ -96,30 +96,30 @@ heeds_orders c n orders old new pushed answer puts =
     }
 
 -- A packet that does nothing to the column.
-pub heeds_alone :
+pub handles_alone :
     (c : ℕ) (view : View) (before after : List Heard) (packet : Up) (answer : Option ReaderEnd) →
     IsLeftIf (part_of c view).known.left answer → ((session : Session) (first : List Heard) → IsStanding c session first view before →
-    (next : Session) × IsStanding c next first view after × HeedMeans c session packet next answer) →
-    Heeds c view view before after packet answer
-heeds_alone c view before after packet answer knows means =
+    (next : Session) × IsStanding c next first view after × HandlingMeans c session packet next answer) →
+    HandlesPacket c view view before after packet answer
+handles_alone c view before after packet answer knows means =
     record { others = (refl, refl, λ d other. refl); learns = refl; knows = knows; means = means }
 
-pub heeds_hello :
+pub handles_hello :
     (c : ℕ) (view : View) (pushed : List Heard) (version rules : ℕ) →
-    Heeds c view view pushed pushed (Hello version rules) (Some (end.Refused cause.SecondHello))
-heeds_hello c view pushed version rules =
-    heeds_alone c view pushed pushed (Hello version rules) (Some (end.Refused cause.SecondHello)) tt (λ session first at. (session, at, (refl, refl)))
+    HandlesPacket c view view pushed pushed (Hello version rules) (Some (end.Refused cause.SecondHello))
+handles_hello c view pushed version rules =
+    handles_alone c view pushed pushed (Hello version rules) (Some (end.Refused cause.SecondHello)) tt (λ session first at. (session, at, (refl, refl)))
 
-pub heeds_bye :
-    (c : ℕ) (view : View) (pushed : List Heard) → Heeds c view view pushed pushed Bye (Some end.Ended)
-heeds_bye c view pushed = heeds_alone c view pushed pushed Bye (Some end.Ended) tt (λ session first at. (session, at, (refl, refl)))
+pub handles_bye :
+    (c : ℕ) (view : View) (pushed : List Heard) → HandlesPacket c view view pushed pushed Bye (Some end.Ended)
+handles_bye c view pushed = handles_alone c view pushed pushed Bye (Some end.Ended) tt (λ session first at. (session, at, (refl, refl)))
 
-pub heeds_sync :
+pub handles_sync :
     (c frame hash : ℕ) (view : View) (before after : List Heard) (answer : Option ReaderEnd) →
     PushMeans before after (record { client = c; frame = frame; hash = hash } ∷ []) answer →
-    Heeds c view view before after (Sync frame hash) answer
-heeds_sync c frame hash view before after None pushes =
-    heeds_alone c view before after (Sync frame hash) None tt (λ session first at. (
+    HandlesPacket c view view before after (Sync frame hash) answer
+handles_sync c frame hash view before after None pushes =
+    handles_alone c view before after (Sync frame hash) None tt (λ session first at. (
       record session { reports = session.reports ++ record { client = c; frame = frame; hash = hash } ∷ [] },
       record {
         welcomed = at.welcomed;
@@ -129,13 +129,13 @@ heeds_sync c frame hash view before after None pushes =
       },
       refl,
     ))
-heeds_sync c frame hash view before after (Some end.NoMemory) pushes =
-    heeds_alone c view before after (Sync frame hash) (Some end.NoMemory) tt (λ session first at. (
+handles_sync c frame hash view before after (Some end.NoMemory) pushes =
+    handles_alone c view before after (Sync frame hash) (Some end.NoMemory) tt (λ session first at. (
       session,
       record { welcomed = at.welcomed; plays = at.plays; reports = pushes ∙ at.reports },
       refl,
     ))
-heeds_sync c frame hash view before after (Some end.Ended) pushes = absurd pushes
-heeds_sync c frame hash view before after (Some (end.Refused cause)) pushes = absurd pushes
-heeds_sync c frame hash view before after (Some (end.LeftAt at)) pushes = absurd pushes
-heeds_sync c frame hash view before after (Some end.Lost) pushes = absurd pushes
+handles_sync c frame hash view before after (Some end.Ended) pushes = absurd pushes
+handles_sync c frame hash view before after (Some (end.Refused cause)) pushes = absurd pushes
+handles_sync c frame hash view before after (Some (end.LeftAt at)) pushes = absurd pushes
+handles_sync c frame hash view before after (Some end.Lost) pushes = absurd pushes

@@ -18,7 +18,7 @@ use Rattle.match_net.specs.declared.reader_end.ReaderEnd.{ReaderEnd}
 use Rattle.match_net.specs.declared.reader_end.ReaderEnd.TheVariants as end
 use Rattle.match_net.specs.Taking.{Counts}
 use Rattle.match_net.specs.Greeting.{hello_bytes}
-use Rattle.match_net.specs.Heeding.{IsLeftIf}
+use Rattle.match_net.specs.Handling.{IsLeftIf}
 use Rattle.match_net.specs.Reading.{MayPlay, OnlyLearns, EndMeans, ReadsTo}
 use Rattle.match_net.specs.Sessions.{LeavesColumn, FixedIt, FoundIt, SessionEnds, ReadsLink, GreetingEnds, ReadsNothing, ReadsAs, CountsAs, Untouched, ReadBy, after_leaving}
 use Rattle.match_net.proofs.TurnLemmas.{others_stay}

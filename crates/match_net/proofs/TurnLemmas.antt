@@ -29,8 +29,8 @@ use Rattle.match_net.specs.declared.reader_end.ReaderEnd.TheVariants as end
 use Rattle.match_net.specs.Taking.{Took, Counts}
 use Rattle.match_net.specs.Greeting.{hello_bytes}
 use Rattle.match_net.specs.Session.{Session, no_session, After, after_up, after_packet, after_packet_if, after_all, end_by, end_at, limited}
-use Rattle.match_net.specs.Heeding.{HeedMeans, IsLeftIf}
-use Rattle.match_net.specs.Reading.{OnlyLearns, IsStanding, Heeds, EndMeans, ReadsTo}
+use Rattle.match_net.specs.Handling.{HandlingMeans, IsLeftIf}
+use Rattle.match_net.specs.Reading.{OnlyLearns, IsStanding, HandlesPacket, EndMeans, ReadsTo}
 use Rattle.match_net.specs.ReadSoFar.{ReadSoFar, AfterTurn, TakesMore}
 use Rattle.match_net.proofs.TakingLemmas.{took_nothing, took_more, counts_more}
 use Rattle.match_net.proofs.GreetingLemmas.{hello_length}
@@ -110,7 +110,7 @@ end_of_packet : (c here : ℕ) (session : Session) (packet : Up) (bytes rest : L
 end_of_packet c here session packet bytes rest end welcomed at is =
     ap (end_at c here session) at ∙ ap end_by (welcomed_packet c here session packet welcomed ∙ is)
 
--- After a packet that was heeded.
+-- After a packet that was handled.
 goes_on :
     (c here : ℕ) (given : List ℕ) (old now : SourceState) (from count : ℕ) (before view after : View) (start pushed more : List Heard) (fed next : Fed) (packet : Up) →
     (so_far : ReadSoFar c here given old now from count before view start pushed fed) →
@@ -163,25 +163,25 @@ ends_with c here given old now from count before view after start pushed more fe
       ends = ends;
     }
 
-pub after_heed :
+pub after_handling :
     (c here : ℕ) (given : List ℕ) (old now : SourceState) (from count : ℕ) (before view after : View) (start pushed more : List Heard) (fed next : Fed) (packet : Up) (answer : Option ReaderEnd) →
     (so_far : ReadSoFar c here given old now from count before view start pushed fed) →
     (found : Option Up) → found ≡ Some packet → (Ok found, next) ≡ next_answer up_at fed.fault fed →
     HasGiven up_at up_payload (given ++ so_far.taken) (so_far.packets ++ given_by (Ok found)) next →
-    Heeds c view after pushed more packet answer →
+    HandlesPacket c view after pushed more packet answer →
     AfterTurn c here given old now from count before after start more next answer
-after_heed c here given old now from count before view after start pushed more fed next packet answer so_far found found_is is gives heeds =
+after_handling c here given old now from count before view after start pushed more fed next packet answer so_far found found_is is gives handles =
     let so : (Ok (Some packet), next) ≡ next_answer up_at fed.fault fed = subst (λ (x : Option Up). (Ok x, next) ≡ next_answer up_at fed.fault fed) found_is is in
     let stream : HasGiven up_at up_payload (given ++ so_far.taken) (so_far.packets ++ packet ∷ []) next =
     subst (λ (x : Option Up). HasGiven up_at up_payload (given ++ so_far.taken) (so_far.packets ++ given_by (Ok x)) next) found_is gives in
     let gave = next_gave fed next packet (packet_at up_at fed.rest) (so ∙ asked fed so_far.whole) in
-    let met = heeds.means so_far.session start so_far.standing in
-    by_answer answer heeds.others heeds.learns heeds.knows gave.0 gave.1 stream met.0 met.1 met.2
+    let met = handles.means so_far.session start so_far.standing in
+    by_answer answer handles.others handles.learns handles.knows gave.0 gave.1 stream met.0 met.1 met.2
   where
     by_answer : (answer : Option ReaderEnd) → OthersStay c view after → OnlyLearns (part_of c view) (part_of c after) →
         IsLeftIf (part_of c after).known.left answer → packet_at up_at fed.rest ≡ Ok (Some (packet, next.rest)) → next.fault ≡ None →
         HasGiven up_at up_payload (given ++ so_far.taken) (so_far.packets ++ packet ∷ []) next →
-        (session : Session) → IsStanding c session start after more → HeedMeans c so_far.session packet session answer →
+        (session : Session) → IsStanding c session start after more → HandlingMeans c so_far.session packet session answer →
         AfterTurn c here given old now from count before after start more next answer
     by_answer None others learns knows at whole stream session standing means =
         goes_on c here given old now from count before view after start pushed more fed next packet so_far whole stream others learns session standing means

@@ -27,8 +27,8 @@ use Rattle.peer_core.specs.Arrived.{ready_by, frame_by}
 use Rattle.peer_core.specs.Delivery.{delivery_of, after_delivery}
 use Rattle.peer_core.specs.Peer.{PeerState, ticked_peer, delivered_peer}
 use Rattle.peer_core.specs.Receipt.{receipt_of}
-use Rattle.match_net.specs.declared.halt.Halt.{Halt}
-use Rattle.match_net.specs.declared.halt.Halt.TheVariants as halt
+use Rattle.match_net.specs.declared.stop_reason.StopReason.{StopReason}
+use Rattle.match_net.specs.declared.stop_reason.StopReason.TheVariants as stop
 use Rattle.match_net.specs.declared.play_cause.PlayCause.TheVariants as cause
 use Rattle.match_net.specs.Playing.{Course, Player, Stage, Telling, telling, ticked_if, tick_once}
 use Rattle.match_net.specs.Playing.{ticks, all_ticked, sealed_bytes, may_seal, farewell_bytes}
@@ -575,7 +575,7 @@ all_rounded {W = W} terms start client clients lag now last (packet ∷ packets)
         after_packets terms (Some next) packets ≡ Ok (Some last) →
         IsRounded terms client clients lag start last
 
-    by : (a : Result (Stage W) Halt) → after_later terms now packet ≡ a →
+    by : (a : Result (Stage W) StopReason) → after_later terms now packet ≡ a →
         (a >>= λ next. after_packets terms (Some next) packets) ≡ Ok (Some last) → Rest →
         IsRounded terms client clients lag start last
     by (Ok next) went rest others =
@@ -630,7 +630,7 @@ welcomed_rounded {W = W} terms client clients lag seed packets now follows =
 
     by : (fits : Bool) →
         ((if fits then Ok (round terms.course terms.script fresh)
-        else Err (halt.Bad cause.BadWelcome))
+        else Err (stop.Bad cause.BadWelcome))
         >>= λ next. after_packets terms (Some next) packets) ≡ Ok (Some now) →
         IsRounded terms client clients lag start now
     by true rest =
@@ -729,7 +729,7 @@ silent_rest {W = W} terms now last (packet ∷ packets) quiet follows =
     by (after_later terms now packet) refl follows
     (λ next there rest. silent_rest terms next last packets there rest)
   where
-    by : (a : Result (Stage W) Halt) → after_later terms now packet ≡ a →
+    by : (a : Result (Stage W) StopReason) → after_later terms now packet ≡ a →
         (a >>= λ next. after_packets terms (Some next) packets) ≡ Ok (Some last) →
         ((next : Stage W) → next.player.quiet ≡ true →
         after_packets terms (Some next) packets ≡ Ok (Some last) → last.said ≡ next.said) →
@@ -768,7 +768,7 @@ silent_departed {W = W} terms client clients lag seed frame packets later mid no
     me : mid.player.peer.me ≡ client
     me = (welcomed_rounded terms client clients lag seed packets mid follows).writing.me_is
 
-    by : (a : Result (Stage W) Halt) → after_later terms mid left ≡ a →
+    by : (a : Result (Stage W) StopReason) → after_later terms mid left ≡ a →
         (a >>= λ next. after_packets terms (Some next) later) ≡ Ok (Some now) →
         now.said ≡ mid.said
     by (Ok next) went rest =

@@ -1,7 +1,7 @@
 -- How packets are taken from a player's link.
 use Rattle.std.specs.Prelude.{◌≡◌, ℕ, ◌+◌, ◌<◌, ◌≤◌, List, ◌∷◌, [], ◌++◌, length, Option, Some}
 use Rattle.std.specs.Prelude.{None, Result, Ok, Err}
-use Rattle.base.specs.Cause.{Rose}
+use Rattle.base.specs.Cause.{Increased}
 use Rattle.game_io.specs.SourceState.{SourceState}
 use Rattle.order_packets.specs.declared.down.Down.{Down}
 use Rattle.order_packets.specs.PacketBytes.{down_payload}
@@ -47,7 +47,7 @@ NextMeans old now packets fed (next.Bad at why) =
     × (bad_at (length finds.taken) found ≡ Some why) × (why ≡ cause.Early → NoneLeft now.left)
 NextMeans old now packets fed next.Lost =
     (at : ℕ) × (finds : Finds old now packets at (Ok None))
-    × (length finds.taken < MAX_PLAY_BYTES) × Rose old.faults now.faults
+    × (length finds.taken < MAX_PLAY_BYTES) × Increased old.faults now.faults
 
 -- What is so where memory runs out on the way: some bytes may be lost.
 abbrev pub Spills : SourceState → SourceState → List Down → Type 0
@@ -93,7 +93,7 @@ MoreMeans old new before after taken (Some (next.Bad at why)) =
     × (why ≡ cause.Early → NoneLeft new.left)
 MoreMeans old new before after taken (Some next.Lost) =
     (taken ≡ []) × (before.at + length before.rest < MAX_PLAY_BYTES)
-    × Rose old.faults new.faults
+    × Increased old.faults new.faults
 
 -- The taking of more bytes: the feeder was fed a piece; or there was none to take.
 pub record TakesMore (old new : SourceState) (before after : Fed) (answer : Option Next) : Type 0

@@ -1,7 +1,7 @@
 -- What the first packet of a link decides, and what the server has then taken from the link.
 use Rattle.std.specs.Prelude.{◌≡◌, ℕ, ◌≤◌, ◌-◌, ◌==◌, if◌then◌else◌, List, ◌++◌, length}
 use Rattle.std.specs.Prelude.{Option, Some, None, Ok, Err}
-use Rattle.base.specs.Cause.{Rose}
+use Rattle.base.specs.Cause.{Increased}
 use Rattle.game_io.specs.SourceState.{SourceState}
 use Rattle.order_packets.specs.declared.up.Up.{Up}
 use Rattle.order_packets.specs.declared.up.Up.TheVariants.{Hello, Orders, Sync, Bye}
@@ -78,5 +78,5 @@ pub record Greets (here : ℕ) (old new : SourceState) (fed : Fed) (answer : Gre
   pub fed_so : fed ≡ asked_once taken
   pub welcomed : answer ≡ greeting.Welcome → taken ≡ hello_bytes here ++ fed.rest
   pub ended : answer ≡ greeting.Ended → NoneLeft new.left
-  pub lost : answer ≡ greeting.Lost → Rose old.faults new.faults
+  pub lost : answer ≡ greeting.Lost → Increased old.faults new.faults
   pub leaves : IsGreeted answer fed new.left

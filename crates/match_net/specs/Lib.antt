@@ -1,7 +1,7 @@
 pub mod Taking
 pub mod Greeting
 pub mod Session
-pub mod Heeding
+pub mod Handling
 pub mod Reading
 pub mod ReadSoFar
 pub mod Sessions

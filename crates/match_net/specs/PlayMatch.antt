@@ -2,7 +2,7 @@
 use Rattle.std.specs.Prelude.{◌≡◌, ℕ, ◌≤◌, ◌<◌, ◌⊎◌, List, [], ◌∷◌, ◌++◌, length, true, false}
 use Rattle.std.specs.Prelude.{Option, Some, None, Result, Ok, Err}
 use Rattle.std.specs.Option.{option_map}
-use Rattle.base.specs.Cause.{Rose}
+use Rattle.base.specs.Cause.{Increased}
 use Rattle.base.specs.Written.{Wrote, WrotePrefix}
 use Rattle.game_io.specs.SourceState.{SourceState}
 use Rattle.game_io.specs.SinkState.{SinkState}
@@ -10,7 +10,7 @@ use Rattle.game_orders.specs.declared.order.Order.{Order}
 use Rattle.order_packets.specs.declared.down.Down.{Down}
 use Rattle.order_packets.specs.PacketReading.{FirstPacket}
 use Rattle.order_packets.specs.Feed.{Fed}
-use Rattle.match_net.specs.declared.halt.Halt.TheVariants as halt
+use Rattle.match_net.specs.declared.stop_reason.StopReason.TheVariants as stop
 use Rattle.match_net.specs.declared.limits.TheConstants.{MAX_PLAY_BYTES}
 use Rattle.match_net.specs.declared.play_cause.PlayCause.{PlayCause}
 use Rattle.match_net.specs.declared.play_cause.PlayCause.TheVariants as cause
@@ -19,7 +19,7 @@ use Rattle.match_net.specs.declared.play_end.PlayEnd.TheVariants as end
 use Rattle.match_net.specs.Taking.{NoneLeft}
 use Rattle.match_net.specs.Downward.{InStream, Finds}
 use Rattle.match_net.specs.Playing.{Course, Player, Stage, round, is_over}
-use Rattle.match_net.specs.Stages.{Terms, after_packets, halt_at, halt_in, said_by, player_of}
+use Rattle.match_net.specs.Stages.{Terms, after_packets, stop_at, stop_in, said_by, player_of}
 use Rattle.match_net.specs.Stages.{greeting_bytes}
 
 -- What is handed back of a player: its client, how many frames it has ticked, and its world after
@@ -39,7 +39,7 @@ pub record HasSaid (old new : SinkState) (said : List ℕ) : Type 0 where
 pub record FailsWithin (old new : SinkState) (said : List ℕ) : Type 0 where
   pub wrote : WrotePrefix old.written new.written said
   pub later : old.faults ≤ new.faults
-  pub rose : Rose old.faults new.faults
+  pub rose : Increased old.faults new.faults
 
 -- The sink failed in what was to be written last: all of `done` was written, and then a prefix of
 -- what is left of `said`.
@@ -49,7 +49,7 @@ pub record FailsAfter (old new : SinkState) (done said : List ℕ) : Type 0 wher
   pub whole : done ++ (part ++ rest) ≡ said
   pub wrote : Wrote old.written new.written (done ++ part)
   pub later : old.faults ≤ new.faults
-  pub rose : Rose old.faults new.faults
+  pub rose : Increased old.faults new.faults
 
 -- All that there was to write before the last of these packets was followed. Before the first this
 -- is the greeting.
@@ -74,16 +74,16 @@ abbrev pub EndsBy :
     {W : Type 0} → Terms W → List Down → Option (Stage W) → FirstPacket Down → ℕ → ℕ →
     SourceState → SourceState → SinkState → SinkState → PlayEnd → Type 0
 EndsBy terms packets now found size at old new before after end.Over =
-    (halt_at terms now found ≡ Some halt.Over) × HasSaid before after (said_by terms.rules now)
+    (stop_at terms now found ≡ Some stop.Over) × HasSaid before after (said_by terms.rules now)
 EndsBy terms packets now found size at old new before after (end.Refused code) =
-    (halt_at terms now found ≡ Some (halt.Refused code))
+    (stop_at terms now found ≡ Some (stop.Refused code))
     × HasSaid before after (said_by terms.rules now)
 EndsBy terms packets now found size at old new before after (end.BadLink place why) =
-    (place ≡ at) × (option_map (halt_in size) (halt_at terms now found) ≡ Some (halt.Bad why))
+    (place ≡ at) × (option_map (stop_in size) (stop_at terms now found) ≡ Some (stop.Bad why))
     × (why ≡ cause.Early → NoneLeft new.left) × HasSaid before after (said_by terms.rules now)
 EndsBy terms packets now found size at old new before after end.Lost =
-    ((halt_at terms now found ≡ Some halt.Open) × (size < MAX_PLAY_BYTES)
-    × Rose old.faults new.faults × HasSaid before after (said_by terms.rules now))
+    ((stop_at terms now found ≡ Some stop.Open) × (size < MAX_PLAY_BYTES)
+    × Increased old.faults new.faults × HasSaid before after (said_by terms.rules now))
     ⊎ ((done : List ℕ) × SaidBefore terms packets done
     × FailsAfter before after done (said_by terms.rules now))
 
@@ -192,11 +192,11 @@ ActMeans said next player before after (Some end.Lost) =
 
 -- What a packet after the first one leaves, by what it makes of the player: it acts on, or the
 -- match ends.
-abbrev pub HeedMeans :
+abbrev pub HandlingMeans :
     {W : Type 0} → Course W → List (List Order) → Result (Player W) PlayCause → Player W →
     List ℕ → ℕ → Player W → SinkState → SinkState → Option PlayEnd → Type 0
-HeedMeans course script (Ok mid) old said at new before after answer =
+HandlingMeans course script (Ok mid) old said at new before after answer =
     ActMeans said (round course script (record { player = mid; said = said })) new before after
     answer
-HeedMeans course script (Err why) old said at new before after answer =
+HandlingMeans course script (Err why) old said at new before after answer =
     (answer ≡ Some (end.BadLink at why)) × (new ≡ old) × HasSaid before after said

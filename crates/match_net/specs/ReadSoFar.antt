@@ -1,7 +1,7 @@
 -- A reading that goes on.
 use Rattle.std.specs.Prelude.{◌≡◌, ℕ, ◌+◌, ◌<◌, ◌≤◌, List, [], ◌++◌, length, Option, Some}
 use Rattle.std.specs.Prelude.{None, Ok}
-use Rattle.base.specs.Cause.{Rose}
+use Rattle.base.specs.Cause.{Increased}
 use Rattle.game_io.specs.SourceState.{SourceState}
 use Rattle.order_packets.specs.declared.up.Up.{Up}
 use Rattle.order_packets.specs.PacketBytes.{up_payload}
@@ -57,7 +57,7 @@ MoreMeans old new before after taken (Some (end.Refused why)) =
 MoreMeans old new before after taken (Some (end.LeftAt at)) = ⊥
 MoreMeans old new before after taken (Some end.Lost) =
     (taken ≡ []) × (before.at + length before.rest < MAX_LINK_BYTES)
-    × Rose old.faults new.faults
+    × Increased old.faults new.faults
 MoreMeans old new before after taken (Some end.NoMemory) = Unit {0}
 
 -- What the taking of more bytes leaves: the feeder was fed a piece, at least one byte; or the reading

@@ -2,7 +2,7 @@
 use Rattle.std.specs.Prelude.{◌≡◌, ℕ, ◌+◌, ◌<◌, ◌≤◌, ◌⊎◌, true, List, ◌++◌, length}
 use Rattle.std.specs.Prelude.{Option, Some, None, Ok}
 use Rattle.std.specs.Option.{option_map}
-use Rattle.base.specs.Cause.{Rose}
+use Rattle.base.specs.Cause.{Increased}
 use Rattle.game_io.specs.SourceState.{SourceState}
 use Rattle.game_orders.specs.declared.order.Order.{Order}
 use Rattle.order_packets.specs.declared.up.Up.{Up}
@@ -18,7 +18,7 @@ use Rattle.match_net.specs.declared.reader_end.ReaderEnd.{ReaderEnd}
 use Rattle.match_net.specs.declared.reader_end.ReaderEnd.TheVariants as end
 use Rattle.match_net.specs.Taking.{Took, Counts, NoneLeft}
 use Rattle.match_net.specs.Session.{Session, Makes, end_at, limited}
-use Rattle.match_net.specs.Heeding.{IsLate, IsLeftIf, HeedMeans}
+use Rattle.match_net.specs.Handling.{IsLate, IsLeftIf, HandlingMeans}
 
 -- The pass may add plays to the client's column, which is free.
 pub record MayPlay (part : Part) : Type 0 where
@@ -45,18 +45,18 @@ pub record PutsOrders (c : ℕ) (old new : View) (n : ℕ) (orders : List Order)
   pub learns : OnlyLearns (part_of c old) (part_of c new)
   pub knows : IsLeftIf (part_of c new).known.left answer
   pub means : (session : Session) → session.plays ≡ (part_of c old).known.plays →
-      HeedMeans c session (Orders n orders)
+      HandlingMeans c session (Orders n orders)
       (record session { plays = (part_of c new).known.plays }) answer
 
 -- What any packet does, and how the reading ends by it.
-pub record Heeds (c : ℕ) (old new : View) (before after : List Heard) (packet : Up)
+pub record HandlesPacket (c : ℕ) (old new : View) (before after : List Heard) (packet : Up)
     (answer : Option ReaderEnd) : Type 0 where
   pub others : OthersStay c old new
   pub learns : OnlyLearns (part_of c old) (part_of c new)
   pub knows : IsLeftIf (part_of c new).known.left answer
   pub means : (session : Session) (first : List Heard) → IsStanding c session first old before →
       (next : Session) × IsStanding c next first new after
-      × HeedMeans c session packet next answer
+      × HandlingMeans c session packet next answer
 
 -- What the pushing of a report says by how the reading ends.
 abbrev pub PushMeans : List Heard → List Heard → List Heard → Option ReaderEnd → Type 0
@@ -84,7 +84,7 @@ EndMeans c here bytes session rest old new (end.LeftAt at) =
     × IsLate session packet at
 EndMeans c here bytes session rest old new end.Lost =
     (end_at c here session (packet_at up_at rest) ≡ Some ending.Over)
-    × (length bytes < MAX_LINK_BYTES) × Rose old.faults new.faults
+    × (length bytes < MAX_LINK_BYTES) × Increased old.faults new.faults
 EndMeans c here bytes session rest old new end.NoMemory = Unit {0}
 
 -- What a reading took from the link and counted, and what it made of its bytes: these are the ones

@@ -1,6 +1,6 @@
 -- What the session of a link's sender leaves.
 use Rattle.std.specs.Prelude.{◌≡◌, ℕ, ◌≤◌, List}
-use Rattle.base.specs.Cause.{Rose}
+use Rattle.base.specs.Cause.{Increased}
 use Rattle.base.specs.Written.{Wrote, WrotePrefix}
 use Rattle.game_io.specs.SinkState.{SinkState}
 use Rattle.frame_core.specs.declared.leaving.Leaving.{Leaving}
@@ -25,7 +25,7 @@ welcome_of invite = down.Welcome invite.client invite.clients invite.lag invite.
 abbrev pub RefusalMeans : SinkState → SinkState → List ℕ → SenderEnd → Type 0
 RefusalMeans old new bytes sent.Sent = Wrote old.written new.written bytes
 RefusalMeans old new bytes sent.Lost =
-    WrotePrefix old.written new.written bytes × Rose old.faults new.faults
+    WrotePrefix old.written new.written bytes × Increased old.faults new.faults
 RefusalMeans old new bytes sent.NoMemory = new.written ≡ old.written
 
 pub record SendsRefusal (code : ℕ) (old new : SinkState) (answer : SenderEnd) : Type 0 where

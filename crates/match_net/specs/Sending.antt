@@ -2,7 +2,7 @@
 use Rattle.std.specs.Prelude.{◌≡◌, ℕ, ◌+◌, ◌<◌, ◌≤◌, ◌==◌, if◌then◌else◌, Bool, true, false, List, []}
 use Rattle.std.specs.Prelude.{◌∷◌, ◌++◌, length, slice_index_or, nat_lt, Option, Some, None}
 use Rattle.std.specs.Prelude.{Result, Ok, Err}
-use Rattle.base.specs.Cause.{Rose}
+use Rattle.base.specs.Cause.{Increased}
 use Rattle.base.specs.Written.{Wrote, WrotePrefix}
 use Rattle.game_io.specs.SinkState.{SinkState}
 use Rattle.game_orders.specs.declared.order.Order.{Order}
@@ -81,7 +81,7 @@ abbrev pub PutMeans : SinkState → SinkState → List ℕ → Option SenderEnd 
 PutMeans old new bytes None = Wrote old.written new.written bytes
 PutMeans old new bytes (Some sent.Sent) = ⊥
 PutMeans old new bytes (Some sent.Lost) =
-    WrotePrefix old.written new.written bytes × Rose old.faults new.faults
+    WrotePrefix old.written new.written bytes × Increased old.faults new.faults
 PutMeans old new bytes (Some sent.NoMemory) = new.written ≡ old.written
 
 pub record PutsPacket (old new : SinkState) (bytes : List ℕ) (answer : Option SenderEnd) : Type 0
@@ -117,7 +117,7 @@ NextMeans c old new known entries count (Ok true) =
 NextMeans c old new known entries count (Err sent.Lost) =
     (n : ℕ) × (e : one_entry)
     × WrotePrefix old.written new.written (down_bytes (down.Entry c n e))
-    × Rose old.faults new.faults
+    × Increased old.faults new.faults
     × SentColumn c (entries ++ record { client = c; frame = n; entry = e } ∷ []) known
 NextMeans c old new known entries count (Err sent.NoMemory) =
     (new.written ≡ old.written) × SentColumn c entries known
@@ -152,7 +152,7 @@ SentMeans clients bytes entries old new view sent.Sent =
     ((part_of c view).known.left ≡ true)
     × (of_client c entries ≡ entries_of (part_of c view).known))
 SentMeans clients bytes entries old new view sent.Lost =
-    WrotePrefix old.written new.written bytes × Rose old.faults new.faults
+    WrotePrefix old.written new.written bytes × Increased old.faults new.faults
 SentMeans clients bytes entries old new view sent.NoMemory =
     WrotePrefix old.written new.written bytes
 

@@ -12,8 +12,8 @@ use Rattle.order_packets.specs.PacketBytes.{up_bytes}
 use Rattle.order_packets.specs.PacketReading.{FirstPacket}
 use Rattle.peer_core.specs.Peer.{fresh_peer}
 use Rattle.match_net.specs.declared.limits.TheConstants.{VERSION, MAX_PLAY_BYTES}
-use Rattle.match_net.specs.declared.halt.Halt.{Halt}
-use Rattle.match_net.specs.declared.halt.Halt.TheVariants as halt
+use Rattle.match_net.specs.declared.stop_reason.StopReason.{StopReason}
+use Rattle.match_net.specs.declared.stop_reason.StopReason.TheVariants as stop
 use Rattle.match_net.specs.declared.play_cause.PlayCause.{PlayCause}
 use Rattle.match_net.specs.declared.play_cause.PlayCause.TheVariants as cause
 use Rattle.match_net.specs.Playing.{Course, Player, Stage, round, is_over, after_entry}
@@ -58,16 +58,16 @@ greeting_bytes rules = up_bytes (Hello VERSION rules)
 
 -- The first packet: only a welcome goes on. The player then does what it can.
 abbrev pub after_first :
-    {W : Type 0} → Terms W → Down → Result (Stage W) Halt
+    {W : Type 0} → Terms W → Down → Result (Stage W) StopReason
 after_first terms (down.Welcome client clients lag seed) =
     if is_match client clients lag
     then Ok (round terms.course terms.script (record {
       player = welcomed terms.made client clients lag seed;
       said = greeting_bytes terms.rules;
     }))
-    else Err (halt.Bad cause.BadWelcome)
-after_first terms (down.Refused code) = Err (halt.Refused code)
-after_first terms (down.Entry client frame entry) = Err (halt.Bad cause.BadWelcome)
+    else Err (stop.Bad cause.BadWelcome)
+after_first terms (down.Refused code) = Err (stop.Refused code)
+after_first terms (down.Entry client frame entry) = Err (stop.Bad cause.BadWelcome)
 
 -- What a later packet makes of the player, before it does what it can.
 abbrev pub after_down : {W : Type 0} → Player W → Down → Result (Player W) PlayCause
@@ -76,62 +76,62 @@ after_down player (down.Refused code) = Err cause.BadWelcome
 after_down player (down.Entry client frame entry) = after_entry player client frame entry
 
 abbrev pub rounded :
-    {W : Type 0} → Terms W → List ℕ → Result (Player W) PlayCause → Result (Stage W) Halt
+    {W : Type 0} → Terms W → List ℕ → Result (Player W) PlayCause → Result (Stage W) StopReason
 rounded terms said (Ok player) =
     Ok (round terms.course terms.script (record { player = player; said = said }))
-rounded terms said (Err why) = Err (halt.Bad why)
+rounded terms said (Err why) = Err (stop.Bad why)
 
 -- A later packet. A match that is over takes none.
 abbrev pub after_later :
-    {W : Type 0} → Terms W → Stage W → Down → Result (Stage W) Halt
+    {W : Type 0} → Terms W → Stage W → Down → Result (Stage W) StopReason
 after_later terms now packet =
-    if is_over now.player.peer then Err halt.Over
+    if is_over now.player.peer then Err stop.Over
     else rounded terms now.said (after_down now.player packet)
 
 -- How a player stands, if it was welcomed.
 abbrev pub after_packet :
-    {W : Type 0} → Terms W → Option (Stage W) → Down → Result (Stage W) Halt
+    {W : Type 0} → Terms W → Option (Stage W) → Down → Result (Stage W) StopReason
 after_packet terms None packet = after_first terms packet
 after_packet terms (Some now) packet = after_later terms now packet
 
 -- Packets one after another, none of which ends the match.
 abbrev pub after_packets :
-    {W : Type 0} → Terms W → Option (Stage W) → List Down → Result (Option (Stage W)) Halt
+    {W : Type 0} → Terms W → Option (Stage W) → List Down → Result (Option (Stage W)) StopReason
 after_packets terms now [] = Ok now
 after_packets terms now (packet ∷ packets) =
     after_packet terms now packet
     >>= λ next. after_packets terms (Some next) packets
 
 -- How a match ends by what stands next in the bytes, if it ends there.
-abbrev pub halt_of : {W : Type 0} → Result (Stage W) Halt → Option Halt
-halt_of (Ok now) = None
-halt_of (Err why) = Some why
+abbrev pub stop_of : {W : Type 0} → Result (Stage W) StopReason → Option StopReason
+stop_of (Ok now) = None
+stop_of (Err why) = Some why
 
 abbrev pub is_over_stage : {W : Type 0} → Option (Stage W) → Bool
 is_over_stage None = false
 is_over_stage (Some now) = is_over now.player.peer
 
-abbrev pub halt_by :
-    {W : Type 0} → Terms W → Option (Stage W) → FirstPacket Down → Option Halt
-halt_by terms now (Ok None) = Some halt.Open
-halt_by terms now (Ok (Some first)) =
-    halt_of (after_packet terms now first.0)
-halt_by terms now (Err fault) = Some (halt.Bad (cause.Feed fault))
+abbrev pub stop_by :
+    {W : Type 0} → Terms W → Option (Stage W) → FirstPacket Down → Option StopReason
+stop_by terms now (Ok None) = Some stop.Open
+stop_by terms now (Ok (Some first)) =
+    stop_of (after_packet terms now first.0)
+stop_by terms now (Err fault) = Some (stop.Bad (cause.Feed fault))
 
-abbrev pub halt_at :
-    {W : Type 0} → Terms W → Option (Stage W) → FirstPacket Down → Option Halt
-halt_at terms now first =
-    if is_over_stage now then Some halt.Over else halt_by terms now first
+abbrev pub stop_at :
+    {W : Type 0} → Terms W → Option (Stage W) → FirstPacket Down → Option StopReason
+stop_at terms now first =
+    if is_over_stage now then Some stop.Over else stop_by terms now first
 
 -- Bytes that end, or are too many, before the match is over.
 abbrev pub bad_end : ℕ → PlayCause
 bad_end size = if nat_lt size MAX_PLAY_BYTES then cause.Early else cause.SessionTooLong
 
-abbrev pub halt_in : ℕ → Halt → Halt
-halt_in size halt.Open = halt.Bad (bad_end size)
-halt_in size halt.Over = halt.Over
-halt_in size (halt.Refused code) = halt.Refused code
-halt_in size (halt.Bad why) = halt.Bad why
+abbrev pub stop_in : ℕ → StopReason → StopReason
+stop_in size stop.Open = stop.Bad (bad_end size)
+stop_in size stop.Over = stop.Over
+stop_in size (stop.Refused code) = stop.Refused code
+stop_in size (stop.Bad why) = stop.Bad why
 
 -- Why no packet is read where this stands.
 abbrev pub bad_at : ℕ → FirstPacket Down → Option PlayCause

@@ -1,7 +1,7 @@
 -- How bytes are taken from a link into a feeder.
 use Rattle.std.specs.Prelude.{◌≡◌, ℕ, ◌+◌, ◌<◌, ◌≤◌, List, [], ◌++◌, length, Option, IfSome}
 use Rattle.std.specs.Option.{option_map}
-use Rattle.base.specs.Cause.{Rose}
+use Rattle.base.specs.Cause.{Increased}
 use Rattle.game_io.specs.SourceState.{SourceState}
 use Rattle.order_packets.specs.Feed.{Fed, more_fed}
 use Rattle.match_net.specs.declared.limits.TheConstants.{PIECE_BYTES}
@@ -33,7 +33,7 @@ pub record TookAtMost (room : ℕ) (old new : SourceState) : Type 0 where
 abbrev pub PieceMeans : SourceState → SourceState → List ℕ → Piece → Type 0
 PieceMeans old new taken piece.Some = 0 < length taken
 PieceMeans old new taken piece.End = (taken ≡ []) × NoneLeft new.left
-PieceMeans old new taken piece.Lost = (taken ≡ []) × Rose old.faults new.faults
+PieceMeans old new taken piece.Lost = (taken ≡ []) × Increased old.faults new.faults
 
 -- One piece of at most so many bytes was taken from a link, and the feeder was fed just that.
 pub record TakesPiece (room : ℕ) (old new : SourceState) (before after : Fed) (piece : Piece) :

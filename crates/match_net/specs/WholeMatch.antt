@@ -4,13 +4,13 @@ use Rattle.std.specs.Option.{option_map}
 use Rattle.order_packets.specs.declared.down.Down.{Down}
 use Rattle.order_packets.specs.PacketReading.{packet_at, down_at}
 use Rattle.order_packets.specs.Feed.{ReadsAll}
-use Rattle.match_net.specs.declared.halt.Halt.{Halt}
-use Rattle.match_net.specs.declared.halt.Halt.TheVariants as halt
+use Rattle.match_net.specs.declared.stop_reason.StopReason.{StopReason}
+use Rattle.match_net.specs.declared.stop_reason.StopReason.TheVariants as stop
 use Rattle.match_net.specs.declared.limits.TheConstants.{MAX_PLAY_BYTES}
 use Rattle.match_net.specs.declared.play_end.PlayEnd.{PlayEnd}
 use Rattle.match_net.specs.declared.play_end.PlayEnd.TheVariants as end
 use Rattle.match_net.specs.Playing.{Stage}
-use Rattle.match_net.specs.Stages.{Terms, after_packets, halt_at, halt_in, player_of}
+use Rattle.match_net.specs.Stages.{Terms, after_packets, stop_at, stop_in, player_of}
 use Rattle.match_net.specs.PlayMatch.{Shows}
 
 -- A match to its end: the packets that the player follows, which are a welcome and then entries;
@@ -19,7 +19,7 @@ use Rattle.match_net.specs.PlayMatch.{Shows}
 pub record WholeMatch (W : Type 0) : Type 0 where
   pub packets : List Down
   pub now : Option (Stage W)
-  pub halt : Halt
+  pub stop : StopReason
   pub at : ℕ
 
 -- These bytes, of which no more than the first `MAX_PLAY_BYTES` are looked at, make this match. Its
@@ -31,15 +31,15 @@ pub record IsWholeMatch {W : Type 0} (terms : Terms W) (bytes : List ℕ) (whole
   pub place : whole.at + length rest ≡ length (take MAX_PLAY_BYTES bytes)
   pub follows : after_packets terms None whole.packets ≡ Ok whole.now
   pub ends :
-      option_map (halt_in (length bytes)) (halt_at terms whole.now (packet_at down_at rest))
-      ≡ Some whole.halt
+      option_map (stop_in (length bytes)) (stop_at terms whole.now (packet_at down_at rest))
+      ≡ Some whole.stop
 
 -- What is answered to a match that ends so, at this place.
-abbrev pub end_of : Halt → ℕ → PlayEnd
-end_of halt.Over at = end.Over
-end_of (halt.Refused code) at = end.Refused code
-end_of (halt.Bad why) at = end.BadLink at why
-end_of halt.Open at = end.Lost
+abbrev pub end_of : StopReason → ℕ → PlayEnd
+end_of stop.Over at = end.Over
+end_of (stop.Refused code) at = end.Refused code
+end_of (stop.Bad why) at = end.BadLink at why
+end_of stop.Open at = end.Lost
 
 -- What is handed back of a player is the match that these bytes make: its end, and the client, the
 -- ticked count and the world of the player after it.
@@ -47,5 +47,5 @@ pub record IsPlayed {W : Type 0} (terms : Terms W) (bytes : List ℕ) (answer : 
     (client frames : ℕ) (sim : Option W) : Type 0 where
   pub whole : WholeMatch W
   pub is : IsWholeMatch terms bytes whole
-  pub answered : answer ≡ end_of whole.halt whole.at
+  pub answered : answer ≡ end_of whole.stop whole.at
   pub shows : Shows (player_of whole.now) client frames sim

@@ -18,7 +18,6 @@ mod ending;
 mod first_packet;
 mod following;
 mod greeting;
-mod halt;
 mod invite;
 mod law;
 mod limits;
@@ -38,6 +37,7 @@ mod rounds;
 mod sender;
 mod sender_end;
 mod sending;
+mod stop_reason;
 mod taking;
 mod turns;
 
@@ -58,7 +58,7 @@ pub use read_cause::ReadCause;
 pub use reader::{reader_session, reader_session_counted};
 pub use reader_end::ReaderEnd;
 pub use report_line::{
-    Heard, Hearer, ReportEnds, Reports, report_queue, reports_of_each_client_are_heard,
+    Heard, ReportEnds, ReportReceiver, Reports, report_queue, reports_of_each_client_are_heard,
 };
 pub use sender::sender_session;
 pub use sender_end::SenderEnd;

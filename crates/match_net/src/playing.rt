@@ -6,7 +6,7 @@ ghost use Rattle.game_io.specs.SourceState.{SourceState};
 ghost use Rattle.match_net.specs.declared.limits.TheConstants.{MAX_PLAY_BYTES};
 ghost use Rattle.match_net.specs.PlayMatch.{Shows, HasSaid, PutMeans, ActMeans, PlaySoFar};
 ghost use Rattle.match_net.specs.PlayMatch.{PlayBegins, PlaysAs, PlaysPartly, TurnMeans};
-ghost use Rattle.match_net.specs.PlayMatch.{MatchMeans, HeedMeans};
+ghost use Rattle.match_net.specs.PlayMatch.{MatchMeans, HandlingMeans};
 ghost use Rattle.match_net.specs.Playing.{player_at, stage_at, round, is_over};
 ghost use Rattle.match_net.specs.Stages.{after_down, is_match, terms_by, welcomed};
 
@@ -67,7 +67,7 @@ fn act<S: Sim, O: Sink>(
 
 /// Follows a packet that begins at this place, and answers how the match ends with that, if it
 /// does.
-fn heed<S: Sim, O: Sink>(
+fn act_on<S: Sim, O: Sink>(
     player: &mut Player<S>,
     script: &[Orders],
     at: u64,
@@ -75,9 +75,9 @@ fn heed<S: Sim, O: Sink>(
     bytes: &mut Vec<u8>,
     link: &mut O,
 ) -> Result<Option<PlayEnd>, NoMemory>
-    ensures heeds { IfOk result (λ answer. (first : SinkState) (said : List ℕ) →
+    ensures handles { IfOk result (λ answer. (first : SinkState) (said : List ℕ) →
         HasSaid first (O.state link.old) said →
-        HeedMeans (record { after = S.after; hash = S.hash_of }) script.now
+        HandlingMeans (record { after = S.after; hash = S.hash_of }) script.now
         (after_down (player_at player.old.peer player.old.sealed player.old.quiet) packet.now)
         (player_at player.old.peer player.old.sealed player.old.quiet) said at
         (player_at player.new.peer player.new.sealed player.new.quiet) first (O.state link.new)
@@ -114,7 +114,7 @@ fn turn<S: Sim, I: Source, O: Sink>(
         (player_at player.new.peer player.new.sealed player.new.quiet) feeder.new result }
 {
     match next_packet(feeder, input) {
-        Ok(Next::Packet { at, packet }) => heed(player, script, at, &packet, bytes, output),
+        Ok(Next::Packet { at, packet }) => act_on(player, script, at, &packet, bytes, output),
         Ok(Next::Bad { at, cause }) => Ok(Some(PlayEnd::BadLink { at, cause })),
         Ok(Next::Lost) => Ok(Some(PlayEnd::Lost)),
         Err(error) => Err(error),

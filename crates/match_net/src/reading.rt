@@ -2,8 +2,8 @@
 ghost use Rattle.std.specs.Prelude.{◌≡◌, ◌<◌, ◌∷◌, [], length, Some};
 ghost use Rattle.frame_table.specs.Calls.{plan_of, view_of, standing, IsPassOf};
 ghost use Rattle.report_line.specs.Reports.{pushed, StaysOf};
-ghost use Rattle.match_net.specs.Heeding.{end_by_put};
-ghost use Rattle.match_net.specs.Reading.{MayPlay, PutsOrders, Heeds, PushMeans};
+ghost use Rattle.match_net.specs.Handling.{end_by_put};
+ghost use Rattle.match_net.specs.Reading.{MayPlay, PutsOrders, HandlesPacket, PushMeans};
 
 use crate::read_cause::ReadCause;
 use crate::reader_end::ReaderEnd;
@@ -15,7 +15,7 @@ use report_line::{Heard, Reports};
 use std::sync::Wait;
 
 /// Does what a packet of client `c` asks, and answers how the reading ends with it, if it does.
-pub(crate) fn heed<R: Wait>(
+pub(crate) fn handle_packet<R: Wait>(
     rt: &R,
     table: &FrameTable,
     pass: &mut Pass,
@@ -27,7 +27,7 @@ pub(crate) fn heed<R: Wait>(
     requires client { c < length (plan_of table.now) }
     requires may { MayPlay (standing pass.old c) }
     ensures pass { IsPassOf table.now pass.new }
-    ensures heeds { Heeds c (view_of pass.old) (view_of pass.new) (pushed reports.old)
+    ensures handles { HandlesPacket c (view_of pass.old) (view_of pass.new) (pushed reports.old)
         (pushed reports.new) packet result }
     ensures end { StaysOf c reports.old reports.new }
 {

@@ -15,7 +15,7 @@ use crate::limits::MAX_LINK_BYTES;
 use crate::piece::Piece;
 use crate::read_cause::ReadCause;
 use crate::reader_end::ReaderEnd;
-use crate::reading::heed;
+use crate::reading::handle_packet;
 use crate::taking::take_counted;
 use frame_table::{FrameTable, Pass};
 use game_io::Source;
@@ -72,7 +72,7 @@ fn turn<I: Source, R: Wait>(
     ensures end { StaysOf c reports.old reports.new }
 {
     match feeder.next() {
-        Ok(Some(packet)) => heed(rt, table, pass, c, packet, reports),
+        Ok(Some(packet)) => handle_packet(rt, table, pass, c, packet, reports),
         Ok(None) => take_more(feeder, link, taken),
         Err(fault) => Some(ReaderEnd::Refused(ReadCause::Feed(fault))),
     }

@@ -6,7 +6,7 @@ use Rattle.game_io.specs.NetState.{NetState, IsNewLink}
 use Rattle.frame_table.specs.declared.pass.Pass.{Pass}
 use Rattle.frame_table.specs.declared.table.FrameTable.{FrameTable}
 use Rattle.frame_table.specs.Calls.{view_of}
-use Rattle.report_line.specs.declared.hearer.Hearer.{Hearer}
+use Rattle.report_line.specs.declared.report_receiver.ReportReceiver.{ReportReceiver}
 use Rattle.report_line.specs.declared.reports.Reports.{Reports}
 use Rattle.report_line.specs.Reports.{AreNewEnds, IsNewEnd, queue_heard, queue_of, number_of, pushed}
 use Rattle.match_net.specs.declared.invite.Invite.{Invite}
@@ -15,24 +15,24 @@ use Rattle.match_serve.specs.Seats.{PieceState, IsNewSeat, IsNewPiece, AreNewPie
 use Rattle.match_serve.proofs.PieceLemmas.{one_more, shares_push}
 
 -- The ends that are left, the first of them with this number.
-abbrev pub EndsFrom : Hearer → ℕ → List Reports → Type 0
-EndsFrom hearer c [] = Unit {0}
-EndsFrom hearer c (end ∷ ends) = IsNewEnd (queue_heard hearer) c end × EndsFrom hearer (c + 1) ends
+abbrev pub EndsFrom : ReportReceiver → ℕ → List Reports → Type 0
+EndsFrom receiver c [] = Unit {0}
+EndsFrom receiver c (end ∷ ends) = IsNewEnd (queue_heard receiver) c end × EndsFrom receiver (c + 1) ends
 
-ends_from : (hearer : Hearer) (c : ℕ) (ends : List Reports) → ((k : ℕ) (d : Reports) → k < length ends → IsNewEnd (queue_heard hearer) (c + k) (get_or ends k d)) → EndsFrom hearer c ends
-ends_from hearer c [] each = tt
-ends_from hearer c (e ∷ ends) each = (
-  subst (λ k. IsNewEnd (queue_heard hearer) k e) (omega arith) (each 0 e (omega arith)),
-  ends_from hearer (c + 1) ends (λ k d below. subst (λ j. IsNewEnd (queue_heard hearer) j (get_or ends k d)) (omega arith) (each (suc k) d (omega arith))),
+ends_from : (receiver : ReportReceiver) (c : ℕ) (ends : List Reports) → ((k : ℕ) (d : Reports) → k < length ends → IsNewEnd (queue_heard receiver) (c + k) (get_or ends k d)) → EndsFrom receiver c ends
+ends_from receiver c [] each = tt
+ends_from receiver c (e ∷ ends) each = (
+  subst (λ k. IsNewEnd (queue_heard receiver) k e) (omega arith) (each 0 e (omega arith)),
+  ends_from receiver (c + 1) ends (λ k d below. subst (λ j. IsNewEnd (queue_heard receiver) j (get_or ends k d)) (omega arith) (each (suc k) d (omega arith))),
 )
 
 -- So many links were accepted.
 pub record AcceptedSoFar (table : FrameTable) (invite : Invite) (all left : List Reports) (pass : Pass) (net now : NetState) (pieces : List PieceState) (c : ℕ) : Type 0 where
   pub opening : IsOpening invite.clients table c pass
-  pub some : (hearer : Hearer) × AreNewEnds invite.clients all hearer
-  pub ends : (hearer : Hearer) → AreNewEnds invite.clients all hearer → EndsFrom hearer c left
+  pub some : (receiver : ReportReceiver) × AreNewEnds invite.clients all receiver
+  pub ends : (receiver : ReportReceiver) → AreNewEnds invite.clients all receiver → EndsFrom receiver c left
   pub few : c + length left ≡ invite.clients
-  pub pieces_are : (hearer : Hearer) → AreNewEnds invite.clients all hearer → AreNewPieces invite.clients table invite hearer net.coming 0 pieces
+  pub pieces_are : (receiver : ReportReceiver) → AreNewEnds invite.clients all receiver → AreNewPieces invite.clients table invite receiver net.coming 0 pieces
   pub count : length pieces ≡ c
   pub shares : (view_of pass).share + shares_of pieces ≡ 2 ^ 62
   pub enough : 2 ^ (62 - c) ≤ (view_of pass).share
@@ -53,14 +53,14 @@ one_dropped c (Some links) = ap Some (dropped c links ∙ ap (λ k. drop k links
     dropped (suc k) [] = refl
     dropped (suc k) (x ∷ xs) = dropped k xs
 
-pub accepted_none : (table : FrameTable) (invite : Invite) (all : List Reports) (pass : Pass) (net : NetState) → IsOpening invite.clients table 0 pass → (view_of pass).share ≡ 2 ^ 62 → net.given ≡ [] → (hearer : Hearer) × AreNewEnds invite.clients all hearer → AcceptedSoFar table invite all all pass net net [] 0
+pub accepted_none : (table : FrameTable) (invite : Invite) (all : List Reports) (pass : Pass) (net : NetState) → IsOpening invite.clients table 0 pass → (view_of pass).share ≡ 2 ^ 62 → net.given ≡ [] → (receiver : ReportReceiver) × AreNewEnds invite.clients all receiver → AcceptedSoFar table invite all all pass net net [] 0
 accepted_none table invite all pass net opening share none some =
     record {
       opening = opening;
       some = some;
-      ends = λ hearer are. ends_from hearer 0 all (λ k d below. subst (λ j. IsNewEnd (queue_heard hearer) j (get_or all k d)) (omega arith) (are.each k d below));
+      ends = λ receiver are. ends_from receiver 0 all (λ k d below. subst (λ j. IsNewEnd (queue_heard receiver) j (get_or all k d)) (omega arith) (are.each k d below));
       few = (let l = some.1.count_is in omega arith);
-      pieces_are = λ hearer are. tt;
+      pieces_are = λ receiver are. tt;
       count = refl;
       shares = omega arith;
       enough = omega arith;
@@ -107,19 +107,19 @@ accepted_more table invite all p q net now next pieces after c end left piece fe
     record {
       opening = opening;
       some = far.some;
-      ends = λ hearer are. (far.ends hearer are).1;
+      ends = λ receiver are. (far.ends receiver are).1;
       few = (let f = far.few in omega arith);
-      pieces_are = λ hearer are.
-          let new : IsNewPiece invite.clients table invite hearer net.coming c piece =
+      pieces_are = λ receiver are.
+          let new : IsNewPiece invite.clients table invite receiver net.coming c piece =
           record {
             seat = seat;
             told = told;
-            queue = subst (λ e. queue_of e ≡ queue_heard hearer) (sym reports) (far.ends hearer are).0.queue_is;
-            number = subst (λ e. number_of e ≡ c) (sym reports) (far.ends hearer are).0.number_is;
+            queue = subst (λ e. queue_of e ≡ queue_heard receiver) (sym reports) (far.ends receiver are).0.queue_is;
+            number = subst (λ e. number_of e ≡ c) (sym reports) (far.ends receiver are).0.number_is;
             link = subst (λ k. IsNewLink k piece.input piece.output) far.coming link;
           } in
-          subst (AreNewPieces invite.clients table invite hearer net.coming 0) (sym pushed)
-          (one_more invite.clients table invite hearer net.coming 0 pieces piece (far.pieces_are hearer are) (subst (λ k. IsNewPiece invite.clients table invite hearer net.coming k piece) (let l = far.count in omega arith) new));
+          subst (AreNewPieces invite.clients table invite receiver net.coming 0) (sym pushed)
+          (one_more invite.clients table invite receiver net.coming 0 pieces piece (far.pieces_are receiver are) (subst (λ k. IsNewPiece invite.clients table invite receiver net.coming k piece) (let l = far.count in omega arith) new));
       count = ap length pushed ∙ length-append pieces (piece ∷ []) ∙ ap (λ k. k + 1) far.count;
       shares = (let all_of = far.shares in let more = ap shares_of pushed ∙ shares_push pieces piece in omega arith);
       enough = half_left c (view_of p).share (view_of q).share few far.enough half;

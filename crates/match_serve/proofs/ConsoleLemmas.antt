@@ -11,7 +11,7 @@ use Rattle.std.proofs.lemmas.Bool.{false≢true}
 use Rattle.std.proofs.lemmas.Bool.Decides.{Decides-eqb}
 use Rattle.game_io.specs.SourceState.{SourceState}
 use Rattle.game_orders.specs.declared.limits.TheConstants.{MAX_CLIENTS}
-use Rattle.base.specs.Cause.{Rose}
+use Rattle.base.specs.Cause.{Increased}
 use Rattle.frame_core.specs.Column.{Column, left_column}
 use Rattle.frame_core.specs.Grows.{GrowsTo}
 use Rattle.frame_core.specs.GrowsLemmas.{GrowsTo-refl}
@@ -346,7 +346,7 @@ module _ (clients : ℕ) (table : FrameTable) where
   )
 
   -- It failed, or has none left.
-  pub takes_none : (first old new : SourceState) (start p : Pass) (kicks : Kicks) → new.left ≡ old.left → old.faults ≤ new.faults → IsServePass clients table p → Rose old.faults new.faults ⊎ NoneLeft new.left → TakenSoFar clients table first old start p kicks → AfterTake clients table first new start p kicks true
+  pub takes_none : (first old new : SourceState) (start p : Pass) (kicks : Kicks) → new.left ≡ old.left → old.faults ≤ new.faults → IsServePass clients table p → Increased old.faults new.faults ⊎ NoneLeft new.left → TakenSoFar clients table first old start p kicks → AfterTake clients table first new start p kicks true
   unfolding taken_still
   takes_none first old new start p kicks same later is (inl rose) far = (taken_still first old new start p p kicks same later is (learns_refl (view_of p)) far, inl (let before = far.later in omega (arith, rose)))
   takes_none first old new start p kicks same later is (inr none) far = (taken_still first old new start p p kicks same later is (learns_refl (view_of p)) far, inr (inr none))

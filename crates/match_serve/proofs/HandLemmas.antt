@@ -2,7 +2,7 @@
 use Rattle.std.proofs.Common.{◌≡◌, ◌≢◌, ℕ, zero, suc, ◌+◌, ◌<◌, ◌≤◌, ◌⊎◌, Bool, true, false, List, [], ◌∷◌, ◌++◌, length, get_or, Option, Some, refl, sym, ap, ap₂, ◌∙◌, subst, inl, inr, arith, length-append}
 use Rattle.std.specs.Prelude.{slice_get, slice_set, remove}
 use Rattle.game_io.specs.SourceState.{SourceState}
-use Rattle.base.specs.Cause.{Rose}
+use Rattle.base.specs.Cause.{Increased}
 use Rattle.game_io.specs.NetState.{NetState, TakenBack, TakesBack, taken_back, faults_taken_back}
 use Rattle.frame_core.specs.Column.{Column, column_of}
 use Rattle.frame_core.specs.Grows.{GrowsTo}
@@ -12,9 +12,9 @@ use Rattle.frame_table.specs.declared.table.FrameTable.{FrameTable}
 use Rattle.frame_table.specs.Part.{Part}
 use Rattle.frame_table.specs.Calls.{view_of, standing}
 use Rattle.report_line.specs.declared.heard.Heard.{Heard}
-use Rattle.report_line.specs.declared.hearer.Hearer.{Hearer}
+use Rattle.report_line.specs.declared.report_receiver.ReportReceiver.{ReportReceiver}
 use Rattle.report_line.specs.Order.{AreOf}
-use Rattle.report_line.specs.Reports.{pushed, queue_of, queue_heard, number_of, heard, joined, IsSameHearer}
+use Rattle.report_line.specs.Reports.{pushed, queue_of, queue_heard, number_of, heard, joined, IsSameReceiver}
 use Rattle.match_net.specs.declared.invite.Invite.{Invite}
 use Rattle.match_net.specs.declared.reader_end.ReaderEnd.{ReaderEnd}
 use Rattle.match_net.specs.declared.reader_end.ReaderEnd.TheVariants as reader
@@ -74,7 +74,7 @@ module _ {A : Type 0} where
   first_taken (y ∷ xs) ys x some is rest = ap₂ (λ (a : A) (b : List A). a ∷ b) (sym is) (sym rest)
 
 -- How the link ended, by its sessions.
-module _ (c here : ℕ) (bytes : List ℕ) (session : Session) (rest : List ℕ) (old new : SourceState) (before after : View) (faults : ℕ) (failed : Rose old.faults new.faults → 0 < faults) where
+module _ (c here : ℕ) (bytes : List ℕ) (session : Session) (rest : List ℕ) (old new : SourceState) (before after : View) (faults : ℕ) (failed : Increased old.faults new.faults → 0 < faults) where
   reader_tells : (read : ReaderEnd) (kicked : Bool) → SessionEnds c here bytes session rest old new before after read → ((at : ℕ) → read ≡ reader.LeftAt at → (kicked ≡ true) ⊎ (0 < faults)) → EndTells c here bytes session rest old new kicked faults (reader_end_of read kicked)
   reader_tells reader.Ended kicked ends by = ends.0
   reader_tells (reader.Refused why) kicked ends by = ends
@@ -104,7 +104,7 @@ failed_if_kicked reader.Lost sender.Sent kicked fixed faults at lost none some i
 failed_if_kicked reader.NoMemory sender.Sent kicked fixed faults at lost none some is = absurd cc
 
 -- What the passes of a link fixed.
-module _ (clients : ℕ) (table : FrameTable) (invite : Invite) (hearer : Hearer) (coming : Option (List (List ℕ))) (c : ℕ) (piece : PieceState) (done : IsDone clients table invite hearer coming c piece) where
+module _ (clients : ℕ) (table : FrameTable) (invite : Invite) (receiver : ReportReceiver) (coming : Option (List (List ℕ))) (c : ℕ) (piece : PieceState) (done : IsDone clients table invite receiver coming c piece) where
   is_own : done.before.seat.invite.client ≡ c
   is_own = ap (λ (i : Invite). i.client) done.is_new.told
 
@@ -125,15 +125,15 @@ module _ (clients : ℕ) (table : FrameTable) (invite : Invite) (hearer : Hearer
       let sent : (standing piece.seat.sending me).made ≡ 0 = so_made _ _ _ _ _ _ _ sends me ∙ done.is_new.seat.sender_fixed_none me in
       subst (λ k. made_by piece.seat k ≡ 0) is_own (omega arith)
 
-made_before : (clients : ℕ) (table : FrameTable) (invite : Invite) (hearer : Hearer) (coming : Option (List (List ℕ))) (c : ℕ) (pieces : List PieceState) → AreDone clients table invite hearer coming c pieces → (d : ℕ) → d < c → made_in pieces d ≡ 0
-made_before clients table invite hearer coming c [] are d below = refl
-made_before clients table invite hearer coming c (piece ∷ pieces) are d below =
-    let here = made_no_other clients table invite hearer coming c piece are.0 d (λ same. absurd (omega arith)) in
-    let rest = made_before clients table invite hearer coming (c + 1) pieces are.1 d (omega arith) in
+made_before : (clients : ℕ) (table : FrameTable) (invite : Invite) (receiver : ReportReceiver) (coming : Option (List (List ℕ))) (c : ℕ) (pieces : List PieceState) → AreDone clients table invite receiver coming c pieces → (d : ℕ) → d < c → made_in pieces d ≡ 0
+made_before clients table invite receiver coming c [] are d below = refl
+made_before clients table invite receiver coming c (piece ∷ pieces) are d below =
+    let here = made_no_other clients table invite receiver coming c piece are.0 d (λ same. absurd (omega arith)) in
+    let rest = made_before clients table invite receiver coming (c + 1) pieces are.1 d (omega arith) in
     omega arith
 
 -- So many links were handed back.
-pub record HandedSoFar (table : FrameTable) (invite : Invite) (all left : List PieceState) (start pass : Pass) (first hearer : Hearer) (net now : NetState) (flags : List Bool) (ends : List LinkEnd) (counts : List ℕ) (c : ℕ) : Type 0 where
+pub record HandedSoFar (table : FrameTable) (invite : Invite) (all left : List PieceState) (start pass : Pass) (first receiver : ReportReceiver) (net now : NetState) (flags : List Bool) (ends : List LinkEnd) (counts : List ℕ) (c : ℕ) : Type 0 where
   pub from : IsServePass invite.clients table start
   pub is : IsServePass invite.clients table pass
   pub known : (d : ℕ) → d < invite.clients → (standing pass d).known ≡ (standing start d).known
@@ -144,19 +144,19 @@ pub record HandedSoFar (table : FrameTable) (invite : Invite) (all left : List P
   pub some : (coming : Option (List (List ℕ))) × AreDone invite.clients table invite first coming c left
   pub done : (coming : Option (List (List ℕ))) → AreDone invite.clients table invite first coming 0 all → AreDone invite.clients table invite first coming c left
   pub few : c + length left ≡ invite.clients
-  pub count : length (joined hearer) ≡ c
-  pub heard_same : heard hearer ≡ heard first
-  pub same : IsSameHearer first hearer
+  pub count : length (joined receiver) ≡ c
+  pub heard_same : heard receiver ≡ heard first
+  pub same : IsSameReceiver first receiver
   pub given : length now.given ≡ invite.clients
   pub coming_same : now.coming ≡ net.coming
   pub ends_long : length ends ≡ invite.clients
   pub counts_long : length counts ≡ invite.clients
   pub links : (coming : Option (List (List ℕ))) → AreDone invite.clients table invite first coming 0 all → (d : ℕ) → d < c →
-      LinkClosed d invite (columns_of start) (get_or (joined hearer) d []) coming (get_or flags d false) (made_in all d) (slice_get now.given d) (get_or ends d end.Memory) (get_or counts d 0)
+      LinkClosed d invite (columns_of start) (get_or (joined receiver) d []) coming (get_or flags d false) (made_in all d) (slice_get now.given d) (get_or ends d end.Memory) (get_or counts d 0)
 
-pub handed_none : (table : FrameTable) (invite : Invite) (all : List PieceState) (pass : Pass) (hearer : Hearer) (net : NetState) (flags : List Bool) (ends : List LinkEnd) (counts : List ℕ) → IsServePass invite.clients table pass → ((d : ℕ) → d < invite.clients → (standing pass d).known.left ≡ true) →
-    (coming : Option (List (List ℕ))) × AreDone invite.clients table invite hearer coming 0 all → length all ≡ invite.clients → length net.given ≡ invite.clients → joined hearer ≡ [] → length ends ≡ invite.clients → length counts ≡ invite.clients → HandedSoFar table invite all all pass pass hearer hearer net net flags ends counts 0
-handed_none table invite all pass hearer net flags ends counts is closed some count given unjoined long counts_long =
+pub handed_none : (table : FrameTable) (invite : Invite) (all : List PieceState) (pass : Pass) (receiver : ReportReceiver) (net : NetState) (flags : List Bool) (ends : List LinkEnd) (counts : List ℕ) → IsServePass invite.clients table pass → ((d : ℕ) → d < invite.clients → (standing pass d).known.left ≡ true) →
+    (coming : Option (List (List ℕ))) × AreDone invite.clients table invite receiver coming 0 all → length all ≡ invite.clients → length net.given ≡ invite.clients → joined receiver ≡ [] → length ends ≡ invite.clients → length counts ≡ invite.clients → HandedSoFar table invite all all pass pass receiver receiver net net flags ends counts 0
+handed_none table invite all pass receiver net flags ends counts is closed some count given unjoined long counts_long =
     record {
       from = is;
       is = is;
@@ -178,9 +178,9 @@ handed_none table invite all pass hearer net flags ends counts is closed some co
       links = λ coming are d below. absurd (omega arith);
     }
 
-module _ (table : FrameTable) (invite : Invite) (all rest : List PieceState) (piece : PieceState) (start p q : Pass) (first hearer after : Hearer) (net now next : NetState) (flags : List Bool) (ends ends_after : List LinkEnd) (counts counts_after : List ℕ) (c : ℕ)
-    (below : c < invite.clients) (far : HandedSoFar table invite all (piece ∷ rest) start p first hearer net now flags ends counts c) (closes : Closes invite.clients table piece.seat p q) (back : TakesBack c piece.input piece.output now next)
-    (list : joined after ≡ joined hearer ++ pushed piece.seat.reading.reports ∷ []) (same_heard : heard after ≡ heard hearer) (same : IsSameHearer hearer after) (noted : ends_after ≡ slice_set ends c (link_end_of piece.seat.ends.reader piece.seat.ends.sender (get_or flags c false))) (told : counts_after ≡ slice_set counts c piece.seat.reading.taken) where
+module _ (table : FrameTable) (invite : Invite) (all rest : List PieceState) (piece : PieceState) (start p q : Pass) (first receiver after : ReportReceiver) (net now next : NetState) (flags : List Bool) (ends ends_after : List LinkEnd) (counts counts_after : List ℕ) (c : ℕ)
+    (below : c < invite.clients) (far : HandedSoFar table invite all (piece ∷ rest) start p first receiver net now flags ends counts c) (closes : Closes invite.clients table piece.seat p q) (back : TakesBack c piece.input piece.output now next)
+    (list : joined after ≡ joined receiver ++ pushed piece.seat.reading.reports ∷ []) (same_heard : heard after ≡ heard receiver) (same : IsSameReceiver receiver after) (noted : ends_after ≡ slice_set ends c (link_end_of piece.seat.ends.reader piece.seat.ends.sender (get_or flags c false))) (told : counts_after ≡ slice_set counts c piece.seat.reading.taken) where
   abbrev kicked : Bool
   kicked = get_or flags c false
 
@@ -222,8 +222,8 @@ module _ (table : FrameTable) (invite : Invite) (all rest : List PieceState) (pi
       let column = ap (λ (r : Part). r.known) reads.column.part in
       let whole = (closes.reads c below).closed (ap (λ (k : Column). k.left) column) ∙ column in
       let stays = subst (λ (i : Invite). AreOf i.client (pushed before.seat.reading.reports) → AreOf i.client (pushed piece.seat.reading.reports)) done.is_new.told serves.reports.own in
-      let input_failed : Rose before.input.faults piece.input.faults → 0 < faults_taken_back (Some (Some (taken_back piece.input piece.output))) = λ rose. let none = new_link.no_input_faults in omega (arith, rose) in
-      let output_failed : Rose before.output.faults piece.output.faults → 0 < faults_taken_back (Some (Some (taken_back piece.input piece.output))) = λ rose. let none = new_link.no_output_faults in omega (arith, rose) in
+      let input_failed : Increased before.input.faults piece.input.faults → 0 < faults_taken_back (Some (Some (taken_back piece.input piece.output))) = λ rose. let none = new_link.no_input_faults in omega (arith, rose) in
+      let output_failed : Increased before.output.faults piece.output.faults → 0 < faults_taken_back (Some (Some (taken_back piece.input piece.output))) = λ rose. let none = new_link.no_output_faults in omega (arith, rose) in
       let sender_failed : piece.seat.ends.sender ≡ sender.Lost → 0 < faults_taken_back (Some (Some (taken_back piece.input piece.output))) =
       λ lost. output_failed (so_lost (invite_of invite c) reads.taken before.output piece.output (view_of before.seat.sending) (view_of piece.seat.sending) piece.seat.ends.reader
       (subst (λ (s : SenderEnd). SendsSo (invite_of invite c) reads.taken before.output piece.output (view_of before.seat.sending) (view_of piece.seat.sending) piece.seat.ends.reader s) lost sends)) in
@@ -260,18 +260,18 @@ module _ (table : FrameTable) (invite : Invite) (all rest : List PieceState) (pi
 
   links_more : (coming : Option (List (List ℕ))) → AreDone invite.clients table invite first coming 0 all → (d : ℕ) → (d < c) ⊎ (d ≡ c) → LinkClosed d invite (columns_of start) (get_or (joined after) d []) coming (get_or flags d false) (made_in all d) (slice_get next.given d) (get_or ends_after d end.Memory) (get_or counts_after d 0)
   links_more coming are d (inl less) =
-      let listed : get_or (joined after) d [] ≡ get_or (joined hearer) d [] = ap (λ l. get_or l d []) list ∙ push_there (joined hearer) (pushed piece.seat.reading.reports) [] d (let k = far.count in omega arith) in
+      let listed : get_or (joined after) d [] ≡ get_or (joined receiver) d [] = ap (λ l. get_or l d []) list ∙ push_there (joined receiver) (pushed piece.seat.reading.reports) [] d (let k = far.count in omega arith) in
       let taken : slice_get next.given d ≡ slice_get now.given d = ap (λ l. slice_get l d) back.given ∙ set_there now.given c d (Some (taken_back piece.input piece.output)) less in
       let how : get_or ends_after d end.Memory ≡ get_or ends d end.Memory = ap (λ l. get_or l d end.Memory) noted ∙ read_there ends c d _ end.Memory less in
       let count : get_or counts_after d 0 ≡ get_or counts d 0 = ap (λ l. get_or l d 0) told ∙ read_there counts c d _ 0 less in
       let K : List Heard → Option (Option TakenBack) → LinkEnd → ℕ → Type 0 = λ a b e k. LinkClosed d invite (columns_of start) a coming (get_or flags d false) (made_in all d) b e k in
       subst (λ a. K a (slice_get next.given d) (get_or ends_after d end.Memory) (get_or counts_after d 0)) (sym listed)
-      (subst (λ b. K (get_or (joined hearer) d []) b (get_or ends_after d end.Memory) (get_or counts_after d 0)) (sym taken)
-      (subst (λ e. K (get_or (joined hearer) d []) (slice_get now.given d) e (get_or counts_after d 0)) (sym how)
-      (subst (λ k. K (get_or (joined hearer) d []) (slice_get now.given d) (get_or ends d end.Memory) k) (sym count) (far.links coming are d less))))
+      (subst (λ b. K (get_or (joined receiver) d []) b (get_or ends_after d end.Memory) (get_or counts_after d 0)) (sym taken)
+      (subst (λ e. K (get_or (joined receiver) d []) (slice_get now.given d) e (get_or counts_after d 0)) (sym how)
+      (subst (λ k. K (get_or (joined receiver) d []) (slice_get now.given d) (get_or ends d end.Memory) k) (sym count) (far.links coming are d less))))
   links_more coming are d (inr at) =
       let here = link_here coming (made_in all c) (fixed_here coming are) (far.done coming are).0 in
-      let listed : get_or (joined after) c [] ≡ pushed piece.seat.reading.reports = ap (λ l. get_or l c []) list ∙ ap (λ k. get_or (joined hearer ++ pushed piece.seat.reading.reports ∷ []) k []) (sym far.count) ∙ push_here (joined hearer) (pushed piece.seat.reading.reports) [] in
+      let listed : get_or (joined after) c [] ≡ pushed piece.seat.reading.reports = ap (λ l. get_or l c []) list ∙ ap (λ k. get_or (joined receiver ++ pushed piece.seat.reading.reports ∷ []) k []) (sym far.count) ∙ push_here (joined receiver) (pushed piece.seat.reading.reports) [] in
       let taken : slice_get next.given c ≡ Some (Some (taken_back piece.input piece.output)) = ap (λ l. slice_get l c) back.given ∙ set_here now.given c (Some (taken_back piece.input piece.output)) (let g = far.given in omega arith) in
       let how : get_or ends_after c end.Memory ≡ link_end_of piece.seat.ends.reader piece.seat.ends.sender kicked = ap (λ l. get_or l c end.Memory) noted ∙ read_here ends c _ end.Memory (let g = far.ends_long in omega arith) in
       let count : get_or counts_after c 0 ≡ piece.seat.reading.taken = ap (λ l. get_or l c 0) told ∙ read_here counts c _ 0 (let g = far.counts_long in omega arith) in
@@ -295,7 +295,7 @@ module _ (table : FrameTable) (invite : Invite) (all rest : List PieceState) (pi
         some = (far.some.0, far.some.1.1);
         done = λ coming are. (far.done coming are).1;
         few = (let f = far.few in omega arith);
-        count = ap length list ∙ length-append (joined hearer) (pushed piece.seat.reading.reports ∷ []) ∙ ap (λ k. k + 1) far.count;
+        count = ap length list ∙ length-append (joined receiver) (pushed piece.seat.reading.reports ∷ []) ∙ ap (λ k. k + 1) far.count;
         heard_same = same_heard ∙ far.heard_same;
         same = record { queue = same.queue ∙ far.same.queue; ends = same.ends ∙ far.same.ends };
         given = ap length back.given ∙ set_long now.given c (Some (taken_back piece.input piece.output)) ∙ far.given;
@@ -306,13 +306,13 @@ module _ (table : FrameTable) (invite : Invite) (all rest : List PieceState) (pi
       }
 
 -- The first of the links that are left.
-pub handed_first : (table : FrameTable) (invite : Invite) (all xs ys : List PieceState) (x : PieceState) (start pass : Pass) (first hearer : Hearer) (net now : NetState) (flags : List Bool) (ends : List LinkEnd) (counts : List ℕ) (c : ℕ) → HandedSoFar table invite all xs start pass first hearer net now flags ends counts c → c < invite.clients → x ≡ get_or xs 0 x → ys ≡ remove xs 0 → HandedSoFar table invite all (x ∷ ys) start pass first hearer net now flags ends counts c
-handed_first table invite all xs ys x start pass first hearer net now flags ends counts c far below is rest =
+pub handed_first : (table : FrameTable) (invite : Invite) (all xs ys : List PieceState) (x : PieceState) (start pass : Pass) (first receiver : ReportReceiver) (net now : NetState) (flags : List Bool) (ends : List LinkEnd) (counts : List ℕ) (c : ℕ) → HandedSoFar table invite all xs start pass first receiver net now flags ends counts c → c < invite.clients → x ≡ get_or xs 0 x → ys ≡ remove xs 0 → HandedSoFar table invite all (x ∷ ys) start pass first receiver net now flags ends counts c
+handed_first table invite all xs ys x start pass first receiver net now flags ends counts c far below is rest =
     let few = far.few in
-    subst (λ l. HandedSoFar table invite all l start pass first hearer net now flags ends counts c) (first_taken xs ys x (omega arith) is rest) far
+    subst (λ l. HandedSoFar table invite all l start pass first receiver net now flags ends counts c) (first_taken xs ys x (omega arith) is rest) far
 
-pub first_reads : (table : FrameTable) (invite : Invite) (all ys : List PieceState) (x : PieceState) (start pass : Pass) (first hearer : Hearer) (net now : NetState) (flags : List Bool) (ends : List LinkEnd) (counts : List ℕ) (c : ℕ) → HandedSoFar table invite all (x ∷ ys) start pass first hearer net now flags ends counts c → IsServePass invite.clients table x.seat.reading.pass × IsServePass invite.clients table x.seat.sending × (queue_of x.seat.reading.reports ≡ queue_heard hearer) × (number_of x.seat.reading.reports ≡ length (joined hearer))
-first_reads table invite all ys x start pass first hearer net now flags ends counts c far =
+pub first_reads : (table : FrameTable) (invite : Invite) (all ys : List PieceState) (x : PieceState) (start pass : Pass) (first receiver : ReportReceiver) (net now : NetState) (flags : List Bool) (ends : List LinkEnd) (counts : List ℕ) (c : ℕ) → HandedSoFar table invite all (x ∷ ys) start pass first receiver net now flags ends counts c → IsServePass invite.clients table x.seat.reading.pass × IsServePass invite.clients table x.seat.sending × (queue_of x.seat.reading.reports ≡ queue_heard receiver) × (number_of x.seat.reading.reports ≡ length (joined receiver))
+first_reads table invite all ys x start pass first receiver net now flags ends counts c far =
     let done = far.some.1.0 in (
       done.serves.reading_pass,
       done.serves.sending_pass,
@@ -320,17 +320,17 @@ first_reads table invite all ys x start pass first hearer net now flags ends cou
       done.serves.reports.same.number ∙ done.is_new.number ∙ sym far.count,
     )
 
-pub handed_more : (table : FrameTable) (invite : Invite) (all rest : List PieceState) (piece : PieceState) (start p q : Pass) (first hearer after : Hearer) (net now next : NetState) (flags : List Bool) (ends ends_after : List LinkEnd) (counts counts_after : List ℕ) (c : ℕ) → c < invite.clients → HandedSoFar table invite all (piece ∷ rest) start p first hearer net now flags ends counts c → Closes invite.clients table piece.seat p q → TakesBack c piece.input piece.output now next →
-    joined after ≡ joined hearer ++ pushed piece.seat.reading.reports ∷ [] → heard after ≡ heard hearer → IsSameHearer hearer after → ends_after ≡ slice_set ends c (link_end_of piece.seat.ends.reader piece.seat.ends.sender (get_or flags c false)) → counts_after ≡ slice_set counts c piece.seat.reading.taken → HandedSoFar table invite all rest start q first after net next flags ends_after counts_after (c + 1)
-handed_more table invite all rest piece start p q first hearer after net now next flags ends ends_after counts counts_after c below far closes back list same_heard same noted told =
-    handed_next table invite all rest piece start p q first hearer after net now next flags ends ends_after counts counts_after c below far closes back list same_heard same noted told
+pub handed_more : (table : FrameTable) (invite : Invite) (all rest : List PieceState) (piece : PieceState) (start p q : Pass) (first receiver after : ReportReceiver) (net now next : NetState) (flags : List Bool) (ends ends_after : List LinkEnd) (counts counts_after : List ℕ) (c : ℕ) → c < invite.clients → HandedSoFar table invite all (piece ∷ rest) start p first receiver net now flags ends counts c → Closes invite.clients table piece.seat p q → TakesBack c piece.input piece.output now next →
+    joined after ≡ joined receiver ++ pushed piece.seat.reading.reports ∷ [] → heard after ≡ heard receiver → IsSameReceiver receiver after → ends_after ≡ slice_set ends c (link_end_of piece.seat.ends.reader piece.seat.ends.sender (get_or flags c false)) → counts_after ≡ slice_set counts c piece.seat.reading.taken → HandedSoFar table invite all rest start q first after net next flags ends_after counts_after (c + 1)
+handed_more table invite all rest piece start p q first receiver after net now next flags ends ends_after counts counts_after c below far closes back list same_heard same noted told =
+    handed_next table invite all rest piece start p q first receiver after net now next flags ends ends_after counts counts_after c below far closes back list same_heard same noted told
 
 -- All were handed back.
-pub handed_shares : (table : FrameTable) (invite : Invite) (all left : List PieceState) (start pass : Pass) (first hearer : Hearer) (net now : NetState) (flags : List Bool) (ends : List LinkEnd) (counts : List ℕ) (c : ℕ) → HandedSoFar table invite all left start pass first hearer net now flags ends counts c → invite.clients ≤ c → (view_of pass).share ≡ (view_of start).share + shares_of all
-handed_shares table invite all [] start pass first hearer net now flags ends counts c far end = (let s = far.shares in omega arith)
-handed_shares table invite all (x ∷ left) start pass first hearer net now flags ends counts c far end = absurd (let f = far.few in omega arith)
+pub handed_shares : (table : FrameTable) (invite : Invite) (all left : List PieceState) (start pass : Pass) (first receiver : ReportReceiver) (net now : NetState) (flags : List Bool) (ends : List LinkEnd) (counts : List ℕ) (c : ℕ) → HandedSoFar table invite all left start pass first receiver net now flags ends counts c → invite.clients ≤ c → (view_of pass).share ≡ (view_of start).share + shares_of all
+handed_shares table invite all [] start pass first receiver net now flags ends counts c far end = (let s = far.shares in omega arith)
+handed_shares table invite all (x ∷ left) start pass first receiver net now flags ends counts c far end = absurd (let f = far.few in omega arith)
 
-pub handed_made : (table : FrameTable) (invite : Invite) (all left : List PieceState) (start pass : Pass) (first hearer : Hearer) (net now : NetState) (flags : List Bool) (ends : List LinkEnd) (counts : List ℕ) (c : ℕ) → HandedSoFar table invite all left start pass first hearer net now flags ends counts c → invite.clients ≤ c →
+pub handed_made : (table : FrameTable) (invite : Invite) (all left : List PieceState) (start pass : Pass) (first receiver : ReportReceiver) (net now : NetState) (flags : List Bool) (ends : List LinkEnd) (counts : List ℕ) (c : ℕ) → HandedSoFar table invite all left start pass first receiver net now flags ends counts c → invite.clients ≤ c →
     (d : ℕ) → d < invite.clients → (standing pass d).made ≡ (standing start d).made + made_in all d
-handed_made table invite all [] start pass first hearer net now flags ends counts c far end d below = (let m = far.made d below in omega arith)
-handed_made table invite all (x ∷ left) start pass first hearer net now flags ends counts c far end d below = absurd (let f = far.few in omega arith)
+handed_made table invite all [] start pass first receiver net now flags ends counts c far end d below = (let m = far.made d below in omega arith)
+handed_made table invite all (x ∷ left) start pass first receiver net now flags ends counts c far end d below = absurd (let f = far.few in omega arith)

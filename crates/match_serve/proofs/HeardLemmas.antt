@@ -5,8 +5,8 @@ use Rattle.std.proofs.lemmas.Bool.Decides.{eqb_tells}
 use Rattle.game_orders.specs.declared.limits.TheConstants.{MAX_FRAMES}
 use Rattle.std.specs.Prelude.{slice_set}
 use Rattle.server_core.specs.Board.{BoardState, board_after_report, reports_of, report_at, KeepsFirst}
-use Rattle.report_line.specs.declared.hearer.Hearer.{Hearer}
-use Rattle.report_line.specs.Reports.{heard, joined, IsSameHearer}
+use Rattle.report_line.specs.declared.report_receiver.ReportReceiver.{ReportReceiver}
+use Rattle.report_line.specs.Reports.{heard, joined, IsSameReceiver}
 use Rattle.report_line.specs.declared.heard.Heard.{Heard}
 use Rattle.report_line.specs.Order.{of_client}
 use Rattle.match_serve.specs.Heard.{first_report, HasHeard}
@@ -106,11 +106,11 @@ set_length (x ∷ xs) zero own = refl
 set_length (x ∷ xs) (suc c) own = ap suc (set_length xs c own)
 
 -- One more report was heard and told to the board.
-pub hears_more : (clients : ℕ) (first hearer after : Hearer) (start board told : BoardState) (x : Heard) → HasHeard clients board.reports (heard hearer) × (length board.reports ≡ clients) × (board.wanted ≡ start.wanted) × (joined hearer ≡ joined first) × IsSameHearer first hearer →
-    heard after ≡ heard hearer ++ x ∷ [] → joined after ≡ joined hearer → IsSameHearer hearer after → told ≡ board_after_report board x.client x.frame x.hash → KeepsFirst board.reports told.reports x.client x.frame x.hash →
-    HasHeard clients told.reports (heard after) × (length told.reports ≡ clients) × (told.wanted ≡ start.wanted) × (joined after ≡ joined first) × IsSameHearer first after
-hears_more clients first hearer after start board told x far more list same is keeps = (
-  subst (HasHeard clients told.reports) (sym more) (heard_one clients board.reports told.reports (heard hearer) x keeps far.0),
+pub hears_more : (clients : ℕ) (first receiver after : ReportReceiver) (start board told : BoardState) (x : Heard) → HasHeard clients board.reports (heard receiver) × (length board.reports ≡ clients) × (board.wanted ≡ start.wanted) × (joined receiver ≡ joined first) × IsSameReceiver first receiver →
+    heard after ≡ heard receiver ++ x ∷ [] → joined after ≡ joined receiver → IsSameReceiver receiver after → told ≡ board_after_report board x.client x.frame x.hash → KeepsFirst board.reports told.reports x.client x.frame x.hash →
+    HasHeard clients told.reports (heard after) × (length told.reports ≡ clients) × (told.wanted ≡ start.wanted) × (joined after ≡ joined first) × IsSameReceiver first after
+hears_more clients first receiver after start board told x far more list same is keeps = (
+  subst (HasHeard clients told.reports) (sym more) (heard_one clients board.reports told.reports (heard receiver) x keeps far.0),
   ap (λ (b : BoardState). length b.reports) is ∙ set_length board.reports x.client _ ∙ far.1,
   ap (λ (b : BoardState). b.wanted) is ∙ far.2,
   list ∙ far.3,

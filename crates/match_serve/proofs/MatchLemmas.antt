@@ -21,7 +21,7 @@ use Rattle.frame_table.specs.Word.{whole_of}
 use Rattle.frame_table.specs.Passes.{known_in, kept_view, given_view}
 use Rattle.frame_table.specs.Calls.{plan_of, view_of, standing}
 use Rattle.report_line.specs.declared.heard.Heard.{Heard}
-use Rattle.report_line.specs.declared.hearer.Hearer.{Hearer}
+use Rattle.report_line.specs.declared.report_receiver.ReportReceiver.{ReportReceiver}
 use Rattle.report_line.specs.Order.{AreOf, of_client, IsInterleaving}
 use Rattle.match_net.specs.declared.invite.Invite.{Invite}
 use Rattle.match_net.specs.Taking.{Took}
@@ -146,12 +146,12 @@ fixed_by clients kicks opening ticked began watched joined handed fixed none lea
     (learns.made c ∙ none c) (λ not. stays c below not ∙ none_began c) (joins c below) (hands c below) (one c below)
 
 -- Links that are new may be served.
-pub may_serve : (clients : ℕ) (table : FrameTable) (invite : Invite) (hearer : Hearer) (coming : Option (List (List ℕ))) (c : ℕ) (pieces : List PieceState) → AreNewPieces clients table invite hearer coming c pieces → All (λ piece. IsNewSeat piece.seat.invite.clients table piece.seat) pieces
-may_serve clients table invite hearer coming c [] are = All-nil (λ piece. IsNewSeat piece.seat.invite.clients table piece.seat)
-may_serve clients table invite hearer coming c (piece ∷ pieces) are =
+pub may_serve : (clients : ℕ) (table : FrameTable) (invite : Invite) (receiver : ReportReceiver) (coming : Option (List (List ℕ))) (c : ℕ) (pieces : List PieceState) → AreNewPieces clients table invite receiver coming c pieces → All (λ piece. IsNewSeat piece.seat.invite.clients table piece.seat) pieces
+may_serve clients table invite receiver coming c [] are = All-nil (λ piece. IsNewSeat piece.seat.invite.clients table piece.seat)
+may_serve clients table invite receiver coming c (piece ∷ pieces) are =
     All-cons (λ p. IsNewSeat p.seat.invite.clients table p.seat) piece pieces
     (subst (λ k. IsNewSeat k table piece.seat) (sym are.0.seat.clients_are) are.0.seat)
-    (may_serve clients table invite hearer coming (c + 1) pieces are.1)
+    (may_serve clients table invite receiver coming (c + 1) pieces are.1)
 
 -- All of it.
 pub serves : {W : Type 0} (m : Match W) (invite : Invite) (coming : Option (List (List ℕ))) (console_old console_new : SourceState) (read : ConsoleRead console_old console_new) (net : NetState) (table : FrameTable) (old : View) (ticked joined handed gone : Pass) (noted board : BoardState) (ends : List LinkEnd) (taken : List ℕ) (n : ℕ) (world : W) (heard : List Heard) (lists : List (List Heard)) (kicked : List Bool) (fixed : ℕ → ℕ) →

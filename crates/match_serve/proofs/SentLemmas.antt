@@ -1,6 +1,6 @@
 -- What was written to a link, and what its sender left of the columns.
 use Rattle.std.proofs.Common.{◌≡◌, ◌≢◌, ℕ, ◌<◌, Bool, List, [], length, Option, refl, sym, ap, ap₂, ◌∙◌, subst, inl, inr, arith}
-use Rattle.base.specs.Cause.{Rose}
+use Rattle.base.specs.Cause.{Increased}
 use Rattle.base.specs.Written.{Wrote, WrotePrefix, Wrote-nil, whole_prefix}
 use Rattle.game_io.specs.SinkState.{SinkState}
 use Rattle.frame_core.specs.Column.{Column, column_of, no_column}
@@ -39,7 +39,7 @@ refusal_prefix bytes old new sender.Lost means = means.0
 refusal_prefix bytes old new sender.NoMemory means = nothing_put old.written new.written bytes means
 
 -- A sender that was lost.
-sender_lost : (why : Greeting) (invite : Invite) (old new : SinkState) (before after : View) → SendsAs why invite old new before after sender.Lost → Rose old.faults new.faults
+sender_lost : (why : Greeting) (invite : Invite) (old new : SinkState) (before after : View) → SendsAs why invite old new before after sender.Lost → Increased old.faults new.faults
 sender_lost greeting.Welcome invite old new before after sends = sends.sends.means.1
 sender_lost (greeting.Refuse code) invite old new before after sends = sends.sends.0.means.1
 sender_lost (greeting.Fault fault) invite old new before after sends = absurd (let never = sends.sends.0.is in cc)
@@ -113,7 +113,7 @@ module _ (invite : Invite) (columns : List Column) (old new : SinkState) (before
   so_by bytes read answer (inr (same, view, lost, none)) =
       subst (λ (s : SinkState). SendsBy (greeting_in invite.rules bytes) invite columns old.written s.written) (sym same) (sends_none (greeting_in invite.rules bytes) old.written)
 
-  pub so_all : (bytes : List ℕ) (read : ReaderEnd) (answer : SenderEnd) (kicked : Bool) (faults : ℕ) → SendsSo invite bytes old new before after read answer → (Rose old.faults new.faults → 0 < faults) →
+  pub so_all : (bytes : List ℕ) (read : ReaderEnd) (answer : SenderEnd) (kicked : Bool) (faults : ℕ) → SendsSo invite bytes old new before after read answer → (Increased old.faults new.faults → 0 < faults) →
       link_end_of read answer kicked ≢ end.Memory → faults ≡ 0 → SendsAllBy (greeting_in invite.rules bytes) invite columns old.written new.written
   so_all bytes read sender.Sent kicked faults (inl sends) failed other none = sends_all (greeting_in invite.rules bytes) sends
   so_all bytes read sender.Lost kicked faults (inl sends) failed other none =
@@ -124,7 +124,7 @@ module _ (invite : Invite) (columns : List Column) (old new : SinkState) (before
 
 -- What the sender of a link says of its sink and of the columns.
 module _ (invite : Invite) (bytes : List ℕ) (old new : SinkState) (before after : View) (read : ReaderEnd) where
-  pub so_lost : SendsSo invite bytes old new before after read sender.Lost → Rose old.faults new.faults
+  pub so_lost : SendsSo invite bytes old new before after read sender.Lost → Increased old.faults new.faults
   so_lost (inl sends) = sender_lost (greeting_in invite.rules bytes) invite old new before after sends
   so_lost (inr (same, view, lost, none)) = absurd cc
 

@@ -8,7 +8,7 @@ use Rattle.wire_bytes.specs.Read.{field_at}
 use Rattle.wire_bytes.specs.Field.{field_number}
 use Rattle.order_packets.specs.declared.limits.TheConstants.{MAX_PAYLOAD}
 use Rattle.std.specs.Option.{option_map}
-use Rattle.base.specs.Cause.{Rose}
+use Rattle.base.specs.Cause.{Increased}
 use Rattle.game_io.specs.SourceState.{SourceState}
 use Rattle.order_packets.specs.declared.up.Up.{Up}
 use Rattle.order_packets.specs.declared.up.Up.TheVariants.{Hello}
@@ -41,7 +41,7 @@ pub took_more : (old mid new : Option (List ℕ)) (xs ys : List ℕ) → Took ol
 took_more old mid new xs ys first second = first ∙ ap (option_map (λ left. xs ++ left)) second ∙ both new xs ys
 
 -- A count that rose since rose from the beginning.
-pub rose_since : (a b c : ℕ) → a ≤ b → Rose b c → Rose a c
+pub rose_since : (a b c : ℕ) → a ≤ b → Increased b c → Increased a c
 rose_since a b c less rose = grind (arith, less, rose)
 
 module _ (c here : ℕ) (bytes : List ℕ) (session : Session) (rest : List ℕ) (old mid new : SourceState) (later : old.faults ≤ mid.faults) where
@@ -253,7 +253,7 @@ module _ (c here : ℕ) (old mid new : SourceState) (count total : ℕ) (fed : F
       (subst (SessionEnds c here g.taken no_session g.taken old new before after) (sym r.ends) (
         open_end c here (packet_at up_at g.taken) g.decides,
         (let few = few_undecided g.taken (undecided here (packet_at up_at g.taken) g.decides) in omega (arith, few)),
-        subst (λ (s : SourceState). Rose old.faults s.faults) (sym r.untouched) (g.lost refl),
+        subst (λ (s : SourceState). Increased old.faults s.faults) (sym r.untouched) (g.lost refl),
       )) in
       (whole, inr (refl, ap (said_by here) same ∙ ap greeting_by g.decides), none_since g.taken whole.taken counted still same)
 

@@ -25,8 +25,8 @@ use Rattle.frame_table.specs.Word.{whole_of}
 use Rattle.frame_table.specs.Rule.{IsReach}
 use Rattle.frame_table.specs.Calls.{view_of, standing, IsPassOf, HasSeen, Acted, TakesSo, IsLater, MeansReadySeen}
 use Rattle.match_serve.specs.Passes.{IsServePass, Learns, columns_known}
-use Rattle.report_line.specs.declared.hearer.Hearer.{Hearer}
-use Rattle.report_line.specs.Reports.{heard, joined, IsSameHearer}
+use Rattle.report_line.specs.declared.report_receiver.ReportReceiver.{ReportReceiver}
+use Rattle.report_line.specs.Reports.{heard, joined, IsSameReceiver}
 use Rattle.match_serve.specs.Heard.{HasHeard}
 use Rattle.match_serve.specs.Ticks.{EntryTaken, FrameTaken, IsTicked, Reached, TicksOnce, TicksAll}
 use Rattle.match_serve.proofs.PassLemmas.{learns_refl, learns_trans, learned_pass, acted_learns, later_learns, learns_grow}
@@ -291,12 +291,12 @@ told m clients_of steps clients table start pass board after n world far same lo
     }
 
 -- What was heard so far.
-abbrev pub HeardSoFar : ℕ → BoardState → Hearer → Hearer → Type 0
-HeardSoFar clients board first hearer = HasHeard clients board.reports (heard hearer) × (joined hearer ≡ joined first) × IsSameHearer first hearer
+abbrev pub HeardSoFar : ℕ → BoardState → ReportReceiver → ReportReceiver → Type 0
+HeardSoFar clients board first receiver = HasHeard clients board.reports (heard receiver) × (joined receiver ≡ joined first) × IsSameReceiver first receiver
 
-pub heard_more : (clients count : ℕ) (board after : BoardState) (first hearer next : Hearer) → HeardSoFar clients board first hearer → count ≡ clients → HasHeard count after.reports (heard next) → joined next ≡ joined hearer → IsSameHearer hearer next → HeardSoFar clients after first next
-heard_more clients count board after first hearer next far is has list same =
+pub heard_more : (clients count : ℕ) (board after : BoardState) (first receiver next : ReportReceiver) → HeardSoFar clients board first receiver → count ≡ clients → HasHeard count after.reports (heard next) → joined next ≡ joined receiver → IsSameReceiver receiver next → HeardSoFar clients after first next
+heard_more clients count board after first receiver next far is has list same =
     (subst (λ k. HasHeard k after.reports (heard next)) is has, list ∙ far.1, record { queue = same.queue ∙ far.2.queue; ends = same.ends ∙ far.2.ends })
 
-pub marked : {W : Type 0} (after : W → List Entry → W) (hash : W → ℕ) (clients n count : ℕ) (old new : View) (board noted : BoardState) (world next : W) (first hearer : Hearer) → TicksOnce after hash clients n old new board noted world next → HeardSoFar count board first hearer → HeardSoFar count noted first hearer
-marked after hash clients n count old new board noted world next first hearer once far = (subst (λ r. HasHeard count r (heard hearer)) (sym (ap (λ (b : BoardState). b.reports) once.noted)) far.0, far.1, far.2)
+pub marked : {W : Type 0} (after : W → List Entry → W) (hash : W → ℕ) (clients n count : ℕ) (old new : View) (board noted : BoardState) (world next : W) (first receiver : ReportReceiver) → TicksOnce after hash clients n old new board noted world next → HeardSoFar count board first receiver → HeardSoFar count noted first receiver
+marked after hash clients n count old new board noted world next first receiver once far = (subst (λ r. HasHeard count r (heard receiver)) (sym (ap (λ (b : BoardState). b.reports) once.noted)) far.0, far.1, far.2)

@@ -4,7 +4,7 @@ use Rattle.std.specs.Prelude.{slice_index_or, length}
 use Rattle.std.specs.List.{list_any, slice_split}
 use Rattle.std.specs.Str.{bytes_eq}
 use Rattle.std.specs.Fmt.{decimal}
-use Rattle.base.specs.Cause.{Rose}
+use Rattle.base.specs.Cause.{Increased}
 use Rattle.game_io.specs.SourceState.{SourceState}
 use Rattle.match_net.specs.Taking.{Took, NoneLeft}
 use Rattle.match_serve.specs.declared.kicks.TheConstants.{LINE_END}
@@ -51,4 +51,4 @@ pub record ConsoleRead (old new : SourceState) : Type 0 where
   pub took : Took old.left new.left bytes
   pub later : old.faults ≤ new.faults
   pub done :
-      Rose old.faults new.faults ⊎ ((EndsLine bytes × HaveEnded since) ⊎ NoneLeft new.left)
+      Increased old.faults new.faults ⊎ ((EndsLine bytes × HaveEnded since) ⊎ NoneLeft new.left)

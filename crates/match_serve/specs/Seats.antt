@@ -11,7 +11,7 @@ use Rattle.frame_table.specs.declared.view.View.{View}
 use Rattle.frame_table.specs.declared.pass.Pass.{Pass}
 use Rattle.frame_table.specs.declared.table.FrameTable.{FrameTable}
 use Rattle.frame_table.specs.Calls.{plan_of, view_of, standing, IsPassOf}
-use Rattle.report_line.specs.declared.hearer.Hearer.{Hearer}
+use Rattle.report_line.specs.declared.report_receiver.ReportReceiver.{ReportReceiver}
 use Rattle.report_line.specs.Reports.{pushed, queue_of, queue_heard, number_of, StaysOf}
 use Rattle.match_net.specs.declared.limits.TheConstants.{MAX_LINK_BYTES}
 use Rattle.match_net.specs.declared.invite.Invite.{Invite}
@@ -122,21 +122,21 @@ pub record PieceState : Type 0 where
   pub output : SinkState
 
 -- The link of client c before it is served, as the net gave it.
-pub record IsNewPiece (clients : ℕ) (table : FrameTable) (invite : Invite) (hearer : Hearer)
+pub record IsNewPiece (clients : ℕ) (table : FrameTable) (invite : Invite) (receiver : ReportReceiver)
     (coming : Option (List (List ℕ))) (c : ℕ) (piece : PieceState) : Type 0 where
   pub seat : IsNewSeat clients table piece.seat
   pub told : piece.seat.invite ≡ invite_of invite c
-  pub queue : queue_of piece.seat.reading.reports ≡ queue_heard hearer
+  pub queue : queue_of piece.seat.reading.reports ≡ queue_heard receiver
   pub number : number_of piece.seat.reading.reports ≡ c
   pub link : IsNewLink (option_map (drop c) coming) piece.input piece.output
 
 -- These are the links of client c and the next ones.
 abbrev pub AreNewPieces :
-    ℕ → FrameTable → Invite → Hearer → Option (List (List ℕ)) → ℕ → List PieceState → Type 0
-AreNewPieces clients table invite hearer coming c [] = Unit {0}
-AreNewPieces clients table invite hearer coming c (piece ∷ pieces) =
-    IsNewPiece clients table invite hearer coming c piece
-    × AreNewPieces clients table invite hearer coming (c + 1) pieces
+    ℕ → FrameTable → Invite → ReportReceiver → Option (List (List ℕ)) → ℕ → List PieceState → Type 0
+AreNewPieces clients table invite receiver coming c [] = Unit {0}
+AreNewPieces clients table invite receiver coming c (piece ∷ pieces) =
+    IsNewPiece clients table invite receiver coming c piece
+    × AreNewPieces clients table invite receiver coming (c + 1) pieces
 
 -- Each of the links was served.
 abbrev pub AreServed : FrameTable → List PieceState → List PieceState → Type 0
@@ -148,19 +148,19 @@ AreServed table (old ∷ olds) (new ∷ news) =
     × AreServed table olds news
 
 -- The link of client c since it was served.
-pub record IsDone (clients : ℕ) (table : FrameTable) (invite : Invite) (hearer : Hearer)
+pub record IsDone (clients : ℕ) (table : FrameTable) (invite : Invite) (receiver : ReportReceiver)
     (coming : Option (List (List ℕ))) (c : ℕ) (piece : PieceState) : Type 0 where
   pub before : PieceState
-  pub is_new : IsNewPiece clients table invite hearer coming c before
+  pub is_new : IsNewPiece clients table invite receiver coming c before
   pub serves :
       ServesSeat clients table before.seat piece.seat before.input piece.input before.output piece.output
 
 abbrev pub AreDone :
-    ℕ → FrameTable → Invite → Hearer → Option (List (List ℕ)) → ℕ → List PieceState → Type 0
-AreDone clients table invite hearer coming c [] = Unit {0}
-AreDone clients table invite hearer coming c (piece ∷ pieces) =
-    IsDone clients table invite hearer coming c piece
-    × AreDone clients table invite hearer coming (c + 1) pieces
+    ℕ → FrameTable → Invite → ReportReceiver → Option (List (List ℕ)) → ℕ → List PieceState → Type 0
+AreDone clients table invite receiver coming c [] = Unit {0}
+AreDone clients table invite receiver coming c (piece ∷ pieces) =
+    IsDone clients table invite receiver coming c piece
+    × AreDone clients table invite receiver coming (c + 1) pieces
 
 abbrev pub shares_of : List PieceState → ℕ
 shares_of [] = 0

@@ -3,7 +3,7 @@ use Rattle.std.specs.Prelude.{◌≡◌, ℕ, ◌<◌, ◌≤◌, ◌==◌, ◌�
 use Rattle.std.specs.Prelude.{List, [], ◌∷◌, ◌++◌, length, take, replicate, slice_index_or}
 use Rattle.std.specs.Prelude.{Option, Some, None}
 use Rattle.std.specs.List.{list_any}
-use Rattle.base.specs.Cause.{Rose}
+use Rattle.base.specs.Cause.{Increased}
 use Rattle.game_io.specs.SourceState.{SourceState}
 use Rattle.frame_table.specs.declared.view.View.{View}
 use Rattle.frame_table.specs.declared.pass.Pass.{Pass}
@@ -99,7 +99,7 @@ abbrev pub IsAllIf :
     ℕ → List ℕ → SourceState → SourceState → Pass → Pass → Bool → Type 0
 IsAllIf clients bytes first now start pass false = Unit {0}
 IsAllIf clients bytes first now start pass true =
-    Rose first.faults now.faults ⊎ (EndsAfterAll clients bytes start pass ⊎ NoneLeft now.left)
+    Increased first.faults now.faults ⊎ (EndsAfterAll clients bytes start pass ⊎ NoneLeft now.left)
 
 -- A call took from the console what came next.
 abbrev pub AfterTake :

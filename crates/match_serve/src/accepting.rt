@@ -2,19 +2,19 @@
 ghost use Rattle.std.specs.Prelude.{◌≡◌, ◌+◌, ◌*◌, ◌^◌, ◌<◌, ◌≤◌, ◌++◌, ◌∷◌, [], None, length, drop};
 ghost use Rattle.std.specs.Prelude.{IfOk, IfErr, OnOk};
 ghost use Rattle.std.specs.Option.{option_map};
-ghost use Rattle.base.specs.Cause.{Rose};
+ghost use Rattle.base.specs.Cause.{Increased};
 ghost use Rattle.game_orders.specs.declared.limits.TheConstants.{MAX_CLIENTS};
 ghost use Rattle.game_io.specs.NetState.{IsNewLink};
 ghost use Rattle.frame_table.specs.Calls.{view_of};
-ghost use Rattle.report_line.specs.declared.hearer.Hearer.{Hearer};
+ghost use Rattle.report_line.specs.declared.report_receiver.ReportReceiver.{ReportReceiver};
 ghost use Rattle.report_line.specs.Reports.{AreNewEnds, pushed};
 ghost use Rattle.match_serve.specs.Passes.{IsOpening};
 ghost use Rattle.match_serve.specs.Seats.{IsNewSeat, IsNewPiece, AreNewPieces, seat_share, shares_of};
 ghost use Rattle.match_serve.specs.Seats.{invite_of};
 
-use crate::link_piece::LinkPiece;
 use crate::opening::new_seat;
 use crate::serve_fault::ServeFault;
+use crate::served_link::ServedLink;
 use base::List;
 use frame_table::{FrameTable, Pass};
 use game_io::Net;
@@ -31,7 +31,7 @@ fn accept_link<N: Net>(
     invite: &Invite,
     client: u8,
     reports: Reports,
-) -> Result<LinkPiece<N::In, N::Out>, ServeFault>
+) -> Result<ServedLink<N::In, N::Out>, ServeFault>
     requires opening { IsOpening invite.now.clients table.now client pass.old }
     requires client { client < invite.now.clients }
     requires most { invite.now.clients ≤ MAX_CLIENTS }
@@ -53,14 +53,14 @@ fn accept_link<N: Net>(
         ((N.state net.new).coming ≡ option_map (drop 1) (N.state net.old).coming) }
     ensures later { (N.state net.old).faults ≤ (N.state net.new).faults }
     ensures err { IfErr result (λ fault. fault ≡ ServeFault.Net →
-        Rose (N.state net.old).faults (N.state net.new).faults) }
+        Increased (N.state net.old).faults (N.state net.new).faults) }
 {
     let feeder = UpFeeder::create(alloc)?;
     let Ok((input, output)) = net.accept() else {
         return Err(ServeFault::Net);
     };
     let seat = new_seat(table, pass, invite, client, feeder, reports);
-    Ok(LinkPiece {
+    Ok(ServedLink {
         input,
         output,
         seat,
@@ -76,17 +76,17 @@ pub(crate) fn accept_links<N: Net>(
     pass: &mut Pass,
     invite: &Invite,
     ends: Vec<Reports>,
-) -> Result<List<LinkPiece<N::In, N::Out>>, ServeFault>
+) -> Result<List<ServedLink<N::In, N::Out>>, ServeFault>
     requires opening { IsOpening invite.now.clients table.now 0 pass.old }
     requires most { invite.now.clients ≤ MAX_CLIENTS }
     requires share { (view_of pass.old).share ≡ 2 ^ 62 }
     requires none_given { (N.state net.old).given ≡ [] }
-    requires ends { (hearer : Hearer) × AreNewEnds invite.now.clients ends.items hearer }
+    requires ends { (receiver : ReportReceiver) × AreNewEnds invite.now.clients ends.items receiver }
     ensures opening { OnOk result
         (IsOpening invite.now.clients table.now invite.now.clients pass.new) }
-    ensures pieces { IfOk result (λ pieces. (hearer : Hearer) →
-        AreNewEnds invite.now.clients ends.items hearer →
-        AreNewPieces invite.now.clients table.now invite.now hearer (N.state net.old).coming 0
+    ensures pieces { IfOk result (λ pieces. (receiver : ReportReceiver) →
+        AreNewEnds invite.now.clients ends.items receiver →
+        AreNewPieces invite.now.clients table.now invite.now receiver (N.state net.old).coming 0
         pieces) }
     ensures count { IfOk result (λ pieces. length pieces ≡ invite.now.clients) }
     ensures shares { IfOk result (λ pieces.
@@ -97,7 +97,7 @@ pub(crate) fn accept_links<N: Net>(
         ≡ option_map (drop invite.now.clients) (N.state net.old).coming) }
     ensures later { (N.state net.old).faults ≤ (N.state net.new).faults }
     ensures err { IfErr result (λ fault. fault ≡ ServeFault.Net →
-        Rose (N.state net.old).faults (N.state net.new).faults) }
+        Increased (N.state net.old).faults (N.state net.new).faults) }
 {
     let mut ends = ends;
     let mut pieces = List::new(alloc);

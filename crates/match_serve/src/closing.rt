@@ -4,61 +4,67 @@ ghost use Rattle.game_io.specs.NetState.{TakesBack};
 ghost use Rattle.frame_core.specs.Grows.{GrowsTo};
 ghost use Rattle.frame_table.specs.Calls.{view_of, standing};
 ghost use Rattle.report_line.specs.Reports.{pushed, queue_of, queue_heard, number_of};
-ghost use Rattle.report_line.specs.Reports.{heard, joined, IsSameHearer};
+ghost use Rattle.report_line.specs.Reports.{heard, joined, IsSameReceiver};
 ghost use Rattle.match_serve.specs.Passes.{IsServePass};
 ghost use Rattle.match_serve.specs.Seats.{seat_share};
 ghost use Rattle.match_serve.specs.Closed.{link_end_of, reader_end_of, left_end_of, Closes};
 
 use crate::link_end::LinkEnd;
-use crate::link_piece::LinkPiece;
 use crate::link_seat::{LinkSeat, ReadSeat, SessionEnds};
+use crate::served_link::ServedLink;
 use frame_table::{FrameTable, Pass};
 use game_io::Net;
-use match_net::{Hearer, ReaderEnd, SenderEnd};
+use match_net::{ReaderEnd, ReportReceiver, SenderEnd};
 
 /// Joins the passes and the end of the queue of one link, and hands its halves back.
 pub(crate) fn close_link<N: Net>(
     net: &mut N,
     table: &FrameTable,
     pass: &mut Pass,
-    hearer: &mut Hearer,
+    receiver: &mut ReportReceiver,
     number: u32,
     clients: u8,
-    piece: LinkPiece<N::In, N::Out>,
+    piece: ServedLink<N::In, N::Out>,
 )
     requires pass { IsServePass clients table.now pass.old }
     requires reads { IsServePass clients table.now piece.seat.reading.pass }
     requires sends { IsServePass clients table.now piece.seat.sending }
     requires number { number < length (N.state net.old).given }
-    requires queue { queue_of piece.seat.reading.reports ≡ queue_heard hearer.old }
-    requires next { number_of piece.seat.reading.reports ≡ length (joined hearer.old) }
+    requires queue { queue_of piece.seat.reading.reports ≡ queue_heard receiver.old }
+    requires next { number_of piece.seat.reading.reports ≡ length (joined receiver.old) }
     ensures closes { Closes clients table.now piece.seat pass.old pass.new }
     ensures net { TakesBack number piece.input piece.output (N.state net.old) (N.state net.new) }
-    ensures joined { joined hearer.new
-        ≡ joined hearer.old ++ pushed piece.seat.reading.reports ∷ [] }
-    ensures heard { heard hearer.new ≡ heard hearer.old }
-    ensures same { IsSameHearer hearer.old hearer.new }
+    ensures joined { joined receiver.new
+        ≡ joined receiver.old ++ pushed piece.seat.reading.reports ∷ [] }
+    ensures heard { heard receiver.new ≡ heard receiver.old }
+    ensures same { IsSameReceiver receiver.old receiver.new }
 {
-    let LinkPiece {
+    let ServedLink {
         input,
         output,
         seat,
     } = piece;
-    join_seat(table, pass, hearer, clients, seat);
+    join_seat(table, pass, receiver, clients, seat);
     net.take_back(number, input, output);
 }
 
 /// Joins the passes and the end of the queue of one link.
-fn join_seat(table: &FrameTable, pass: &mut Pass, hearer: &mut Hearer, clients: u8, seat: LinkSeat)
+fn join_seat(
+    table: &FrameTable,
+    pass: &mut Pass,
+    receiver: &mut ReportReceiver,
+    clients: u8,
+    seat: LinkSeat,
+)
     requires pass { IsServePass clients table.now pass.old }
     requires reads { IsServePass clients table.now seat.reading.pass }
     requires sends { IsServePass clients table.now seat.sending }
-    requires queue { queue_of seat.reading.reports ≡ queue_heard hearer.old }
-    requires next { number_of seat.reading.reports ≡ length (joined hearer.old) }
+    requires queue { queue_of seat.reading.reports ≡ queue_heard receiver.old }
+    requires next { number_of seat.reading.reports ≡ length (joined receiver.old) }
     ensures closes { Closes clients table.now seat pass.old pass.new }
-    ensures joined { joined hearer.new ≡ joined hearer.old ++ pushed seat.reading.reports ∷ [] }
-    ensures heard { heard hearer.new ≡ heard hearer.old }
-    ensures same { IsSameHearer hearer.old hearer.new }
+    ensures joined { joined receiver.new ≡ joined receiver.old ++ pushed seat.reading.reports ∷ [] }
+    ensures heard { heard receiver.new ≡ heard receiver.old }
+    ensures same { IsSameReceiver receiver.old receiver.new }
 {
     let LinkSeat {
         invite: _,
@@ -74,7 +80,7 @@ fn join_seat(table: &FrameTable, pass: &mut Pass, hearer: &mut Hearer, clients: 
     } = reading;
     table.join(pass, reads);
     table.join(pass, sending);
-    hearer.join(reports);
+    receiver.join(reports);
 }
 
 /// How a link ended, by how its sessions did and by whether the console kicked its client.

@@ -1,11 +1,11 @@
 //! How reports go from the queue to the board.
 ghost use Rattle.std.specs.Prelude.{◌≡◌, length, OnOk};
 ghost use Rattle.report_line.specs.Order.{IsInterleaving};
-ghost use Rattle.report_line.specs.Reports.{heard, joined, ends_of, IsSameHearer};
+ghost use Rattle.report_line.specs.Reports.{heard, joined, ends_of, IsSameReceiver};
 ghost use Rattle.match_serve.specs.Heard.{HasHeard};
 
 use base::NoMemory;
-use match_net::Hearer;
+use match_net::ReportReceiver;
 use server_core::Board;
 use std::sync::Wait;
 
@@ -13,21 +13,21 @@ use std::sync::Wait;
 /// frame of all that were heard.
 pub(crate) fn take_reports<R: Wait>(
     rt: &R,
-    hearer: &mut Hearer,
+    receiver: &mut ReportReceiver,
     board: &mut Board,
 ) -> Result<(), NoMemory>
-    requires { HasHeard (length board.old.reports) board.old.reports (heard hearer.old) }
+    requires { HasHeard (length board.old.reports) board.old.reports (heard receiver.old) }
     ensures board { OnOk result
-        (HasHeard (length board.old.reports) board.new.reports (heard hearer.new)) }
-    ensures all { OnOk result (length (joined hearer.new) ≡ ends_of hearer.new →
-        IsInterleaving (heard hearer.new) (joined hearer.new)) }
+        (HasHeard (length board.old.reports) board.new.reports (heard receiver.new)) }
+    ensures all { OnOk result (length (joined receiver.new) ≡ ends_of receiver.new →
+        IsInterleaving (heard receiver.new) (joined receiver.new)) }
     ensures boards { length board.new.reports ≡ length board.old.reports }
     ensures wanted { board.new.wanted ≡ board.old.wanted }
-    ensures joined { joined hearer.new ≡ joined hearer.old }
-    ensures same { IsSameHearer hearer.old hearer.new }
+    ensures joined { joined receiver.new ≡ joined receiver.old }
+    ensures same { IsSameReceiver receiver.old receiver.new }
 {
     for _turn in rt.forever() {
-        let Some(report) = hearer.hear(rt) else {
+        let Some(report) = receiver.receive(rt) else {
             return Ok(());
         };
         if report.client < board.clients() {

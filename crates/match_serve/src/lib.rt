@@ -19,13 +19,13 @@ mod hearing;
 mod kicks;
 mod leaving;
 mod link_end;
-mod link_piece;
 mod link_seat;
 mod opening;
 mod running;
 mod serve;
 mod serve_fault;
 mod served;
+mod served_link;
 mod serving;
 mod ticking;
 

@@ -1,10 +1,10 @@
 //! The match as a whole: it is opened, run on threads, and closed.
 ghost use Rattle.std.specs.Prelude.{◌≡◌, ◌+◌, ◌^◌, ◌<◌, ◌≤◌, [], length, All, OnOk, IfOk, IfErr};
 ghost use denote.Param.Send.{IsSync, IsSend};
-ghost use Rattle.base.specs.Cause.{Rose};
+ghost use Rattle.base.specs.Cause.{Increased};
 ghost use Rattle.game_orders.specs.declared.limits.TheConstants.{MAX_CLIENTS};
 ghost use Rattle.frame_table.specs.Calls.{view_of};
-ghost use Rattle.report_line.specs.Reports.{heard, joined, IsSameHearer};
+ghost use Rattle.report_line.specs.Reports.{heard, joined, IsSameReceiver};
 ghost use Rattle.match_serve.specs.Passes.{IsServePass};
 ghost use Rattle.match_serve.specs.Watching.{AreNewKicks, WatchesConsole};
 ghost use Rattle.match_serve.specs.Heard.{HasHeard};
@@ -13,14 +13,14 @@ ghost use Rattle.match_serve.specs.Ticks.{TicksAll};
 
 use crate::console::watch_console;
 use crate::kicks::Kicks;
-use crate::link_piece::LinkPiece;
+use crate::served_link::ServedLink;
 use crate::serving::serve_links;
 use crate::ticking::tick_all;
 use base::NoMemory;
 use frame_core::Sim;
 use frame_table::{FrameTable, Pass};
 use game_io::{Sink, Source};
-use match_net::Hearer;
+use match_net::ReportReceiver;
 use server_core::Board;
 use std::alloc::Global;
 use std::sync::Wait;
@@ -35,7 +35,7 @@ fn watch_and_tick<S: Sim, C: Source + Send, R: Threads + Wait + Sync>(
     console: &mut C,
     kicks: &mut Kicks,
     pass: &mut Pass,
-    hearer: &mut Hearer,
+    receiver: &mut ReportReceiver,
     board: &mut Board,
     sim: &mut S,
 ) -> Result<(), NoMemory>
@@ -47,7 +47,7 @@ fn watch_and_tick<S: Sim, C: Source + Send, R: Threads + Wait + Sync>(
     requires clients { S.clients_of sim.old ≡ clients }
     requires most { clients ≤ MAX_CLIENTS }
     requires fresh { S.steps sim.old ≡ 0 }
-    requires heard { HasHeard clients board.old.reports (heard hearer.old) }
+    requires heard { HasHeard clients board.old.reports (heard receiver.old) }
     ensures pass { IsServePass clients table.now pass.new }
     ensures share { (view_of pass.new).share ≡ (view_of pass.old).share }
     ensures boards { length board.new.reports ≡ clients }
@@ -61,9 +61,9 @@ fn watch_and_tick<S: Sim, C: Source + Send, R: Threads + Wait + Sync>(
     }) clients (view_of pass.old) (view_of pass.new) board.new.wanted
         (S.steps sim.new) sim.new) }
     ensures clients { OnOk result (S.clients_of sim.new ≡ S.clients_of sim.old) }
-    ensures heard { OnOk result (HasHeard clients board.new.reports (heard hearer.new)) }
-    ensures joined { joined hearer.new ≡ joined hearer.old }
-    ensures same { IsSameHearer hearer.old hearer.new }
+    ensures heard { OnOk result (HasHeard clients board.new.reports (heard receiver.new)) }
+    ensures joined { joined receiver.new ≡ joined receiver.old }
+    ensures same { IsSameReceiver receiver.old receiver.new }
     ensures watches { WatchesConsole clients table.now (C.state console.old) (C.state console.new)
         watching.old watching.new kicks.new.kicked.items }
 {
@@ -74,7 +74,7 @@ fn watch_and_tick<S: Sim, C: Source + Send, R: Threads + Wait + Sync>(
             (C.state console.exit.now) watching.entry.now watching.exit.now
             kicks.exit.now.kicked.items }
     { watch_console(rt, table, watching, clients, console, kicks) };
-    let mut tick = || tick_all(rt, table, pass, clients, hearer, board, sim);
+    let mut tick = || tick_all(rt, table, pass, clients, receiver, board, sim);
     let (_watched, ticked) = join_mut(rt, &mut watch, &mut tick);
     ticked
 }
@@ -91,12 +91,12 @@ pub(crate) fn run_threads<
     alloc: Global,
     table: &FrameTable,
     clients: u8,
-    pieces: &mut [LinkPiece<I, O>],
+    pieces: &mut [ServedLink<I, O>],
     watching: &mut Pass,
     console: &mut C,
     kicks: &mut Kicks,
     pass: &mut Pass,
-    hearer: &mut Hearer,
+    receiver: &mut ReportReceiver,
     board: &mut Board,
     sim: &mut S,
 ) -> Result<(), NoMemory>
@@ -110,7 +110,7 @@ pub(crate) fn run_threads<
     requires clients { S.clients_of sim.old ≡ clients }
     requires most { clients ≤ MAX_CLIENTS }
     requires fresh { S.steps sim.old ≡ 0 }
-    requires heard { HasHeard clients board.old.reports (heard hearer.old) }
+    requires heard { HasHeard clients board.old.reports (heard receiver.old) }
     ensures pass { IsServePass clients table.now pass.new }
     ensures share { (view_of pass.new).share ≡ (view_of pass.old).share }
     ensures boards { length board.new.reports ≡ clients }
@@ -124,9 +124,9 @@ pub(crate) fn run_threads<
     }) clients (view_of pass.old) (view_of pass.new) board.new.wanted
         (S.steps sim.new) sim.new) }
     ensures clients { OnOk result (S.clients_of sim.new ≡ S.clients_of sim.old) }
-    ensures heard { OnOk result (HasHeard clients board.new.reports (heard hearer.new)) }
-    ensures joined { joined hearer.new ≡ joined hearer.old }
-    ensures same { IsSameHearer hearer.old hearer.new }
+    ensures heard { OnOk result (HasHeard clients board.new.reports (heard receiver.new)) }
+    ensures joined { joined receiver.new ≡ joined receiver.old }
+    ensures same { IsSameReceiver receiver.old receiver.new }
     ensures pieces { AreServed table.now pieces.old pieces.new }
     ensures watches { WatchesConsole clients table.now (C.state console.old) (C.state console.new)
         watching.old watching.new kicks.new.kicked.items }
@@ -141,7 +141,7 @@ pub(crate) fn run_threads<
             × AreNewKicks clients kicks.now × IsServePass clients table.now pass.now
             × (board.now.wanted ≡ []) × (length board.now.reports ≡ clients)
             × (S.clients_of sim.now ≡ clients) × (clients ≤ MAX_CLIENTS)
-            × (S.steps sim.now ≡ 0) × HasHeard clients board.now.reports (heard hearer.now) }
+            × (S.steps sim.now ≡ 0) × HasHeard clients board.now.reports (heard receiver.now) }
         ensures { IsServePass clients table.entry.now pass.exit.now
             × ((view_of pass.exit.now).share ≡ (view_of pass.entry.now).share)
             × (length board.exit.now.reports ≡ clients)
@@ -156,15 +156,15 @@ pub(crate) fn run_threads<
             (view_of pass.entry.now) (view_of pass.exit.now) board.exit.now.wanted
             (S.steps sim.exit.now) sim.exit.now)
             × OnOk result (S.clients_of sim.exit.now ≡ S.clients_of sim.entry.now)
-            × OnOk result (HasHeard clients board.exit.now.reports (heard hearer.exit.now))
-            × (joined hearer.exit.now ≡ joined hearer.entry.now)
-            × IsSameHearer hearer.entry.now hearer.exit.now
+            × OnOk result (HasHeard clients board.exit.now.reports (heard receiver.exit.now))
+            × (joined receiver.exit.now ≡ joined receiver.entry.now)
+            × IsSameReceiver receiver.entry.now receiver.exit.now
             × WatchesConsole clients table.entry.now (C.state console.entry.now)
             (C.state console.exit.now) watching.entry.now watching.exit.now
             kicks.exit.now.kicked.items }
     {
         watch_and_tick(
-            rt, table, clients, watching, console, kicks, pass, hearer, board, sim,
+            rt, table, clients, watching, console, kicks, pass, receiver, board, sim,
         )
     };
     let (_served, ticked) = join_mut(rt, &mut serve, &mut run);

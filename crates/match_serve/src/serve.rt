@@ -2,7 +2,7 @@
 ghost use Rattle.std.specs.Prelude.{◌≡◌, ◌+◌, ◌^◌, ◌<◌, ◌≤◌, ℕ, List, Option, [], length, replicate, drop};
 ghost use Rattle.std.specs.Prelude.{IfOk, IfErr};
 ghost use Rattle.std.specs.Option.{option_map};
-ghost use Rattle.base.specs.Cause.{Rose};
+ghost use Rattle.base.specs.Cause.{Increased};
 ghost use Rattle.game_orders.specs.declared.limits.TheConstants.{MAX_CLIENTS};
 ghost use Rattle.frame_table.specs.Calls.{view_of};
 ghost use Rattle.report_line.specs.Reports.{heard, joined, ends_of};
@@ -18,17 +18,19 @@ use crate::hearing::take_reports;
 use crate::kicks::Kicks;
 use crate::leaving::leave_all;
 use crate::link_end::LinkEnd;
-use crate::link_piece::LinkPiece;
 use crate::opening::free_table;
 use crate::running::run_threads;
 use crate::serve_fault::ServeFault;
 use crate::served::Served;
+use crate::served_link::ServedLink;
 use arrayvec::ArrayVec;
 use base::{List, NoMemory};
 use frame_core::Sim;
 use frame_table::{FrameTable, Pass};
 use game_io::{Net, Source};
-use match_net::{Hearer, Invite, ReportEnds, report_queue, reports_of_each_client_are_heard};
+use match_net::{
+    Invite, ReportEnds, ReportReceiver, report_queue, reports_of_each_client_are_heard,
+};
 use server_core::Board;
 use std::alloc::Global;
 use std::sync::Wait;
@@ -85,7 +87,7 @@ pub fn serve_match<S: Sim, N: Net, C: Source + Send, R: Threads + Wait + Sync>(
         served.table served.pass served.board served.ends served.taken) }
     ensures clients { IfOk result (λ served. S.clients_of served.sim ≡ S.clients_of sim) }
     ensures net { IfErr result (λ fault. fault ≡ ServeFault.Net →
-        Rose (N.state net.old).faults (N.state net.new).faults) }
+        Increased (N.state net.old).faults (N.state net.new).faults) }
 {
     let board = Board::create(alloc, invite.clients)?;
     let kicks = no_kicks(alloc, invite.clients)?;
@@ -94,7 +96,7 @@ pub fn serve_match<S: Sim, N: Net, C: Source + Send, R: Threads + Wait + Sync>(
     let (table, mut pass) = free_table(alloc, invite.clients)?;
     let ReportEnds {
         ends: reports,
-        hearer,
+        receiver,
     } = report_queue(alloc, invite.clients)?;
     if net.listen(at).is_err() {
         return Err(ServeFault::Net);
@@ -106,7 +108,7 @@ pub fn serve_match<S: Sim, N: Net, C: Source + Send, R: Threads + Wait + Sync>(
         invite,
         table,
         pass,
-        hearer,
+        receiver,
         pieces.into_vec(),
         board,
         kicks,
@@ -162,8 +164,8 @@ fn serve_opened<S: Sim, N: Net, C: Source + Send, R: Threads + Wait + Sync>(
     invite: &Invite,
     table: FrameTable,
     pass: Pass,
-    hearer: Hearer,
-    pieces: Vec<LinkPiece<N::In, N::Out>>,
+    receiver: ReportReceiver,
+    pieces: Vec<ServedLink<N::In, N::Out>>,
     board: Board,
     kicks: Kicks,
     ends: Vec<LinkEnd>,
@@ -177,12 +179,12 @@ fn serve_opened<S: Sim, N: Net, C: Source + Send, R: Threads + Wait + Sync>(
     requires enough { 2 ≤ (view_of pass).share }
     requires shares { (view_of pass).share + shares_of pieces.items ≡ 2 ^ 62 }
     requires pieces { (coming : Option (List (List ℕ))) × AreNewPieces invite.now.clients table
-        invite.now hearer coming 0 pieces.items }
+        invite.now receiver coming 0 pieces.items }
     requires count { length pieces.items ≡ invite.now.clients }
     requires given { length (N.state net.old).given ≡ invite.now.clients }
-    requires ends_of { ends_of hearer ≡ invite.now.clients }
-    requires unheard { heard hearer ≡ [] }
-    requires unjoined { joined hearer ≡ [] }
+    requires ends_of { ends_of receiver ≡ invite.now.clients }
+    requires unheard { heard receiver ≡ [] }
+    requires unjoined { joined receiver ≡ [] }
     requires board { board.reports ≡ replicate invite.now.clients [] }
     requires unwanted { board.wanted ≡ [] }
     requires kicks { AreNewKicks invite.now.clients kicks }
@@ -191,7 +193,7 @@ fn serve_opened<S: Sim, N: Net, C: Source + Send, R: Threads + Wait + Sync>(
     requires clients { S.clients_of sim ≡ invite.now.clients }
     requires fresh { S.steps sim ≡ 0 }
     ensures served { IfOk result (λ served. (coming : Option (List (List ℕ))) →
-        AreNewPieces invite.now.clients table invite.now hearer coming 0 pieces.items →
+        AreNewPieces invite.now.clients table invite.now receiver coming 0 pieces.items →
         (N.state net.old).coming ≡ option_map (drop invite.now.clients) coming →
         ServesMatch (record {
           start = sim;
@@ -205,7 +207,7 @@ fn serve_opened<S: Sim, N: Net, C: Source + Send, R: Threads + Wait + Sync>(
         served.ends served.taken) }
     ensures clients { IfOk result (λ served. S.clients_of served.sim ≡ S.clients_of sim) }
 {
-    let (mut pass, mut hearer, mut pieces) = (pass, hearer, pieces);
+    let (mut pass, mut receiver, mut pieces) = (pass, receiver, pieces);
     let (mut board, mut kicks, mut ends, mut sim) = (board, kicks, ends, sim);
     let mut taken = taken;
     let mut watching = table.split(&mut pass);
@@ -219,7 +221,7 @@ fn serve_opened<S: Sim, N: Net, C: Source + Send, R: Threads + Wait + Sync>(
         console,
         &mut kicks,
         &mut pass,
-        &mut hearer,
+        &mut receiver,
         &mut board,
         &mut sim,
     )?;
@@ -228,14 +230,14 @@ fn serve_opened<S: Sim, N: Net, C: Source + Send, R: Threads + Wait + Sync>(
         net,
         &table,
         &mut pass,
-        &mut hearer,
+        &mut receiver,
         invite,
         pieces,
         kicks.kicked.as_slice(),
         ends.as_mut_slice(),
         taken.as_mut_slice(),
     );
-    take_reports(rt, &mut hearer, &mut board)?;
+    take_reports(rt, &mut receiver, &mut board)?;
     leave_all(rt, &table, &mut pass, invite.clients);
     reports_of_each_client_are_heard();
     Ok(Served {

@@ -6,8 +6,8 @@ ghost use Rattle.match_serve.specs.Passes.{IsTakenOut};
 ghost use Rattle.match_serve.specs.Seats.{IsNewSeat, MayRead, HasRead, MaySend, HasSent};
 ghost use Rattle.match_serve.specs.Seats.{ServesSeat, AreServed};
 
-use crate::link_piece::LinkPiece;
 use crate::link_seat::{LinkSeat, ReadSeat, SessionEnds};
+use crate::served_link::ServedLink;
 use frame_table::{FrameTable, Pass};
 use game_io::{Sink, Source};
 use game_orders::MAX_CLIENTS;
@@ -174,13 +174,13 @@ fn serve_link<R: Threads + Wait + Sync, I: Source + Send + Drop, O: Sink + Send 
     rt: &R,
     alloc: Global,
     table: &FrameTable,
-    piece: &mut LinkPiece<I, O>,
+    piece: &mut ServedLink<I, O>,
 )
     requires { IsNewSeat piece.old.seat.invite.clients table.now piece.old.seat }
     ensures { ServesSeat piece.old.seat.invite.clients table.now piece.old.seat piece.new.seat
         piece.old.input piece.new.input piece.old.output piece.new.output }
 {
-    let LinkPiece {
+    let ServedLink {
         input,
         output,
         seat,
@@ -193,13 +193,13 @@ pub(crate) fn serve_links<R: Threads + Wait + Sync, I: Source + Send + Drop, O: 
     rt: &R,
     alloc: Global,
     table: &FrameTable,
-    pieces: &mut [LinkPiece<I, O>],
+    pieces: &mut [ServedLink<I, O>],
 )
     requires { All (λ piece. IsNewSeat piece.seat.invite.clients table.now piece.seat)
         pieces.old }
     ensures { AreServed table.now pieces.old pieces.new }
 {
-    let each = |_: usize, piece: &mut LinkPiece<I, O>|
+    let each = |_: usize, piece: &mut ServedLink<I, O>|
         requires { IsNewSeat piece.now.seat.invite.clients table.now piece.now.seat }
         ensures { ServesSeat piece.entry.now.seat.invite.clients table.entry.now
             piece.entry.now.seat piece.exit.now.seat piece.entry.now.input piece.exit.now.input

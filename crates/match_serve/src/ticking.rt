@@ -4,7 +4,7 @@ ghost use Rattle.game_orders.specs.declared.entry.Entry.{Entry};
 ghost use Rattle.game_orders.specs.declared.limits.TheConstants.{MAX_CLIENTS, MAX_FRAMES};
 ghost use Rattle.frame_core.specs.Match.{Match};
 ghost use Rattle.frame_table.specs.Calls.{view_of, standing, HasSeen};
-ghost use Rattle.report_line.specs.Reports.{heard, joined, IsSameHearer};
+ghost use Rattle.report_line.specs.Reports.{heard, joined, IsSameReceiver};
 ghost use Rattle.match_serve.specs.Heard.{HasHeard};
 ghost use Rattle.match_serve.specs.Passes.{IsServePass};
 ghost use Rattle.match_serve.specs.Ticks.{FrameTaken, TicksOnce, TicksAll};
@@ -16,7 +16,7 @@ use frame_core::{Ready, Sim};
 use frame_table::{FrameTable, Pass};
 use game_orders::Frame;
 use idle_pause::Pause;
-use match_net::Hearer;
+use match_net::ReportReceiver;
 use server_core::Board;
 use std::sync::Wait;
 
@@ -27,7 +27,7 @@ pub(crate) fn tick_all<S: Sim, R: Wait>(
     table: &FrameTable,
     pass: &mut Pass,
     clients: u8,
-    hearer: &mut Hearer,
+    receiver: &mut ReportReceiver,
     board: &mut Board,
     sim: &mut S,
 ) -> Result<(), NoMemory>
@@ -37,7 +37,7 @@ pub(crate) fn tick_all<S: Sim, R: Wait>(
     requires clients { S.clients_of sim.old ≡ clients }
     requires most { clients ≤ MAX_CLIENTS }
     requires fresh { S.steps sim.old ≡ 0 }
-    requires heard { HasHeard clients board.old.reports (heard hearer.old) }
+    requires heard { HasHeard clients board.old.reports (heard receiver.old) }
     ensures pass { IsServePass clients table.now pass.new }
     ensures share { (view_of pass.new).share ≡ (view_of pass.old).share }
     ensures boards { length board.new.reports ≡ clients }
@@ -51,13 +51,13 @@ pub(crate) fn tick_all<S: Sim, R: Wait>(
     }) clients (view_of pass.old) (view_of pass.new) board.new.wanted
         (S.steps sim.new) sim.new) }
     ensures clients { OnOk result (S.clients_of sim.new ≡ S.clients_of sim.old) }
-    ensures heard { OnOk result (HasHeard clients board.new.reports (heard hearer.new)) }
+    ensures heard { OnOk result (HasHeard clients board.new.reports (heard receiver.new)) }
     ensures gone { OnErr result ((c : ℕ) → c < clients →
         (standing pass.new c).known.left ≡ true) }
-    ensures joined { joined hearer.new ≡ joined hearer.old }
-    ensures same { IsSameHearer hearer.old hearer.new }
+    ensures joined { joined receiver.new ≡ joined receiver.old }
+    ensures same { IsSameReceiver receiver.old receiver.new }
 {
-    let ticked = tick_ready(rt, table, pass, clients, hearer, board, sim);
+    let ticked = tick_ready(rt, table, pass, clients, receiver, board, sim);
     if ticked.is_err() {
         leave_all(rt, table, pass, clients);
     }
@@ -70,7 +70,7 @@ fn tick_ready<S: Sim, R: Wait>(
     table: &FrameTable,
     pass: &mut Pass,
     clients: u8,
-    hearer: &mut Hearer,
+    receiver: &mut ReportReceiver,
     board: &mut Board,
     sim: &mut S,
 ) -> Result<(), NoMemory>
@@ -80,7 +80,7 @@ fn tick_ready<S: Sim, R: Wait>(
     requires clients { S.clients_of sim.old ≡ clients }
     requires most { clients ≤ MAX_CLIENTS }
     requires fresh { S.steps sim.old ≡ 0 }
-    requires heard { HasHeard clients board.old.reports (heard hearer.old) }
+    requires heard { HasHeard clients board.old.reports (heard receiver.old) }
     ensures pass { IsServePass clients table.now pass.new }
     ensures share { (view_of pass.new).share ≡ (view_of pass.old).share }
     ensures boards { length board.new.reports ≡ clients }
@@ -94,14 +94,14 @@ fn tick_ready<S: Sim, R: Wait>(
     }) clients (view_of pass.old) (view_of pass.new) board.new.wanted
         (S.steps sim.new) sim.new) }
     ensures clients { OnOk result (S.clients_of sim.new ≡ S.clients_of sim.old) }
-    ensures heard { OnOk result (HasHeard clients board.new.reports (heard hearer.new)) }
-    ensures joined { joined hearer.new ≡ joined hearer.old }
-    ensures same { IsSameHearer hearer.old hearer.new }
+    ensures heard { OnOk result (HasHeard clients board.new.reports (heard receiver.new)) }
+    ensures joined { joined receiver.new ≡ joined receiver.old }
+    ensures same { IsSameReceiver receiver.old receiver.new }
 {
     let mut n: u32 = 0;
     let mut pause = Pause::new();
     for _turn in rt.forever() {
-        take_reports(rt, hearer, board)?;
+        take_reports(rt, receiver, board)?;
         match table.ready(pass, n) {
             Ready::Yes => {
                 tick(rt, table, pass, n, clients, board, sim)?;

@@ -15,7 +15,7 @@ use Rattle.game_model.specs.ActorChanges.{changed_at, with_body}
 use Rattle.game_model.specs.BestDirection.{best_dir_of}
 use Rattle.game_model.specs.Grid.{Grid, IsOn, is_on}
 use Rattle.game_model.specs.Setup.{Setup}
-use Rattle.game_model.specs.Walks.{land_of, toll_of, fare_of, IsBestDirection}
+use Rattle.game_model.specs.Walks.{land_of, entry_cost_of, step_cost_of, IsBestDirection}
 use Rattle.game_model.specs.World.{actor_of}
 use Rattle.game_model.specs.declared.map.Map.{Map}
 use Rattle.game_model.specs.Kinds.{kind_of, turning_in, costs_in}
@@ -26,7 +26,7 @@ use Rattle.game_tick.specs.Acts.{popped}
 use Rattle.game_model.specs.FoundLemmas.{changed_none, found_id}
 use Rattle.actor_table.specs.Table.{Table}
 use Rattle.grid_routes.specs.Routing.{Routing}
-use Rattle.grid_routes.specs.Tolls.{land_over}
+use Rattle.grid_routes.specs.EntryCosts.{land_over}
 use Rattle.motion.specs.Ground.{SeesMap}
 use Rattle.motion.specs.Steps.{IsMoved, waits_of, with_waits, gone_by_id, after_move_by_id}
 
@@ -50,12 +50,12 @@ faces t new kind a id waits d next ended same enters named moved = elim (eqb_tel
 ]
 
 -- The best step enters a cell of the map.
-fare_on : (even free on : Bool) (toll : ℕ) → 0 < cond even (5 * cond on toll 0) (cond free (7 * cond on toll 0) 0) → on ≡ true
-fare_on true free true toll some = refl
-fare_on true free false toll some = absurd (omega arith)
-fare_on false free true toll some = refl
-fare_on false true false toll some = absurd (omega arith)
-fare_on false false false toll some = absurd (omega arith)
+step_cost_on : (even free on : Bool) (entry_cost : ℕ) → 0 < cond even (5 * cond on entry_cost 0) (cond free (7 * cond on entry_cost 0) 0) → on ≡ true
+step_cost_on true free true entry_cost some = refl
+step_cost_on true free false entry_cost some = absurd (omega arith)
+step_cost_on false free true entry_cost some = refl
+step_cost_on false true false entry_cost some = absurd (omega arith)
+step_cost_on false false false entry_cost some = absurd (omega arith)
 
 and_first : (x y : Bool) → (x && y) ≡ true → x ≡ true
 and_first true y both = refl
@@ -65,13 +65,13 @@ on_map : (w h : ℕ) (p : CPos) → is_on w h p ≡ true → IsOn w h p
 on_map w h p on = record { column = grind (arith, nat_tests); row = grind (arith, nat_tests) }
 
 entered_on : (map : Map) (built : Grid Bool) (costs : Costs) (goal from next : CPos) (d : ℕ) → IsBestDirection (land_of map built costs goal) from (Some d) → Some next ≡ step_of from d → IsOn map.terrain.width map.terrain.height next
-unfolding fare_of toll_of
+unfolding step_cost_of entry_cost_of
 entered_on map built costs goal from next d best enters =
     let step = best.leads.step in
     let same : Some best.leads.entered ≡ Some next = sym step.enters ∙ sym enters in
     let is : best.leads.entered ≡ next = cc in
-    let some : 0 < fare_of (toll_of map.terrain built costs goal) from d best.leads.entered = rw step.cost step.allowed in
-    let on = and_first (is_on map.terrain.width map.terrain.height best.leads.entered) _ (fare_on _ _ _ _ some) in
+    let some : 0 < step_cost_of (entry_cost_of map.terrain built costs goal) from d best.leads.entered = rw step.cost step.allowed in
+    let on = and_first (is_on map.terrain.width map.terrain.height best.leads.entered) _ (step_cost_on _ _ _ _ some) in
     rw (← is) (on_map map.terrain.width map.terrain.height best.leads.entered on)
 
 pub entered_on_table : (map : Map) (built : Grid Bool) (t : Table) (r : Routing) (costs : Costs) (goal from next : CPos) (d : ℕ) → SeesMap map built t r → IsBestDirection (land_over r.terrain r.built costs goal) from (Some d) → Some next ≡ step_of from d → IsOn t.width t.height next

@@ -1,6 +1,6 @@
 ghost use Rattle.std.specs.Prelude.{◌≡◌};
 ghost use Rattle.game_model.specs.Kinds.{kind_of, speed_in, turning_in, costs_in};
-ghost use Rattle.grid_routes.specs.Tolls.{IsCheap};
+ghost use Rattle.grid_routes.specs.EntryCosts.{IsCheap};
 
 use rule_traits::{Costs, Rules};
 

@@ -5,18 +5,18 @@ use Rattle.std.proofs.lemmas.List.{get_or_append_left}
 use Rattle.std.proofs.Math.Seq.{get_or-append_seam}
 use Rattle.std.specs.declared.alloc.Global.{Global}
 use Rattle.crossbeam_queue.specs.SegTies.{SegId}
-use Rattle.report_line.specs.declared.hearer.Hearer.{Hearer}
+use Rattle.report_line.specs.declared.report_receiver.ReportReceiver.{ReportReceiver}
 use Rattle.report_line.specs.declared.reports.Reports.{Reports}
 use Rattle.report_line.specs.Reports.{heard, joined, ends_of, queue_heard, IsNewEnd, AreNewEnds}
 
 pub ends_none :
-    (hearer : Hearer) → ends_of hearer ≡ 0 → heard hearer ≡ [] → joined hearer ≡ [] →
-    AreNewEnds 0 [] hearer
-ends_none hearer none unheard unjoined =
+    (receiver : ReportReceiver) → ends_of receiver ≡ 0 → heard receiver ≡ [] → joined receiver ≡ [] →
+    AreNewEnds 0 [] receiver
+ends_none receiver none unheard unjoined =
     record { count_is = refl; each = λ k d low. absurd (omega arith); ends_are = none; unheard = unheard; unjoined = unjoined }
 
 pub ends_more :
-    (count : ℕ) (ends more : List Reports) (end : Reports) (old new : Hearer) →
+    (count : ℕ) (ends more : List Reports) (end : Reports) (old new : ReportReceiver) →
     AreNewEnds count ends old → queue_heard new ≡ queue_heard old → heard new ≡ heard old →
     joined new ≡ joined old → ends_of new ≡ ends_of old + 1 →
     IsNewEnd (queue_heard old) (ends_of old) end → more ≡ ends ++ end ∷ [] →
@@ -39,6 +39,6 @@ ends_more count ends more end old new are queue same_heard same_joined one_more 
     last_or_less k n less = grind arith
 
 pub ends_all :
-    (count all : ℕ) (ends : List Reports) (hearer : Hearer) → AreNewEnds count ends hearer →
-    count ≡ all → AreNewEnds all ends hearer
-ends_all count all ends hearer are is = subst (λ n. AreNewEnds n ends hearer) is are
+    (count all : ℕ) (ends : List Reports) (receiver : ReportReceiver) → AreNewEnds count ends receiver →
+    count ≡ all → AreNewEnds all ends receiver
+ends_all count all ends receiver are is = subst (λ n. AreNewEnds n ends receiver) is are

@@ -1,4 +1,4 @@
--- Each step of an end and of the hearer keeps the rule of the queue.
+-- Each step of an end and of the receiver keeps the rule of the queue.
 use Rattle.std.proofs.Common.{◌≡◌, ◌≢◌, ◌⊎◌, ℕ, zero, suc, ◌+◌, ◌<◌, ◌≤◌, true, true≢false, List, [], ◌∷◌, ◌++◌, length, map, set, drop, get_or, refl, sym, ap, ◌∙◌, subst, inl, inr, ⊎_elim, arith, append_assoc, append-nil, length-append}
 use Rattle.std.specs.Prelude.{slice_index_or}
 use Rattle.std.proofs.lemmas.List.{map-append, length-set, get_or_append_left}
@@ -10,7 +10,7 @@ use Rattle.crossbeam_queue.proofs.Lists.{at_set}
 use Rattle.report_line.specs.declared.heard.Heard.{Heard}
 use Rattle.report_line.specs.declared.known.Known.{Known}
 use Rattle.report_line.specs.Order.{Numbered, report_of, of_end}
-use Rattle.report_line.specs.Rule.{new_hearer, with_end, new_end, after_push, after_pop, after_join, spent, AgreesAsEnd, AgreesAsHearer, Agrees, IsKept, HasHeardAll}
+use Rattle.report_line.specs.Rule.{new_receiver, with_end, new_end, after_push, after_pop, after_join, spent, AgreesAsEnd, AgreesAsReceiver, Agrees, IsKept, HasHeardAll}
 use Rattle.report_line.proofs.OrderLemmas.{of_end_append, of_end_own, of_end_other}
 
 -- What holds of each pass.
@@ -46,13 +46,13 @@ beyond [] k past = refl
 beyond (first ∷ lists) zero past = absurd (omega arith)
 beyond (first ∷ lists) (suc k) past = beyond lists k (omega arith)
 
--- Neither an end nor a hearer.
+-- Neither an end nor a receiver.
 idle : (ends : ℕ) (joined : List (List Heard)) (out all : List Numbered) (n : ℕ) →
     Agrees ends joined out all n spent
 idle ends joined out all n =
-    record { as_end = λ no. absurd (true≢false (sym no)); as_hearer = λ no. absurd (true≢false (sym no)) }
+    record { as_end = λ no. absurd (true≢false (sym no)); as_receiver = λ no. absurd (true≢false (sym no)) }
 
-pub begins : IsKept [] (new_hearer ∷ [])
+pub begins : IsKept [] (new_receiver ∷ [])
 begins =
     record {
       ends = 0;
@@ -67,11 +67,11 @@ begins =
       agrees = only;
     }
   where
-    only : All (Agrees 0 [] [] []) (new_hearer ∷ [])
+    only : All (Agrees 0 [] [] []) (new_receiver ∷ [])
     only zero known at =
-        subst (Agrees 0 [] [] [] 0) (some-injective new_hearer known at) (record {
+        subst (Agrees 0 [] [] [] 0) (some-injective new_receiver known at) (record {
           as_end = λ no. absurd (true≢false (sym no));
-          as_hearer = λ yes. record { first = refl; heard_are = refl; ends_are = refl; joined_are = refl };
+          as_receiver = λ yes. record { first = refl; heard_are = refl; ends_are = refl; joined_are = refl };
         })
     only (suc n) known at = absurd (some-ne-none known (sym at))
 
@@ -120,7 +120,7 @@ pushes n id v report may items views room kept at = (
             pushed_are = ap (λ xs. xs ++ report ∷ []) mine.pushed_are
                 ∙ sym (of_more v.number ∙ ap (λ xs. of_end v.number (kept.out ++ kept.queued) ++ xs) (of_end_own v.number report));
           };
-          as_hearer = λ no. absurd (true≢false (sym no));
+          as_receiver = λ no. absurd (true≢false (sym no));
         }
 
     old_agrees :
@@ -135,7 +135,7 @@ pushes n id v report may items views room kept at = (
             pushed_are = was.pushed_are
                 ∙ sym (others u.number (λ same. apart (let p = was.place in let q = mine.place in omega arith)));
           };
-          as_hearer = old.as_hearer;
+          as_receiver = old.as_receiver;
         }
 
 -- The first of the reports that the queue holds has a number.
@@ -179,14 +179,14 @@ pops id v may report items views kept at = (
     same : out ++ rest ≡ kept.out ++ kept.queued
     same = append_assoc kept.out (first.0 ∷ []) rest ∙ ap (λ xs. kept.out ++ xs) (sym first.2)
 
-    mine : AgreesAsHearer kept.ends kept.joined kept.out id v
-    mine = (kept.agrees id v at).as_hearer may
+    mine : AgreesAsReceiver kept.ends kept.joined kept.out id v
+    mine = (kept.agrees id v at).as_receiver may
 
     new_agrees : Agrees kept.ends kept.joined out (out ++ rest) id (after_pop v report)
     new_agrees =
         record {
           as_end = λ no. absurd (true≢false (sym no));
-          as_hearer = λ yes. record {
+          as_receiver = λ yes. record {
             first = mine.first;
             heard_are = ap (λ xs. xs ++ report ∷ []) mine.heard_are ∙ ap (λ x. map report_of kept.out ++ x ∷ []) (sym first.3)
                 ∙ sym (map-append report_of kept.out (first.0 ∷ []));
@@ -206,7 +206,7 @@ pops id v may report items views kept at = (
             unjoined = was.unjoined;
             pushed_are = was.pushed_are ∙ ap (of_end u.number) (sym same);
           };
-          as_hearer = λ yes. absurd (apart ((old.as_hearer yes).first ∙ sym mine.first));
+          as_receiver = λ yes. absurd (apart ((old.as_receiver yes).first ∙ sym mine.first));
         }
 
 pub forks :
@@ -223,24 +223,24 @@ forks id v may items views kept at =
       joined_are = kept.joined_are;
       unmade = λ k high. kept.unmade k (omega arith);
       agrees = λ n known there. ⊎_elim
-          (λ old. all_set (Agrees (kept.ends + 1) kept.joined kept.out (kept.out ++ kept.queued)) views id (with_end v) hearer_agrees
+          (λ old. all_set (Agrees (kept.ends + 1) kept.joined kept.out (kept.out ++ kept.queued)) views id (with_end v) receiver_agrees
           (λ j u apart is. old_agrees j u apart (kept.agrees j u is)) n known old)
           (λ (new : (n ≡ length (set views id (with_end v))) × (new_end v ≡ known)).
           subst (Agrees (kept.ends + 1) kept.joined kept.out (kept.out ++ kept.queued) n) new.1 (end_agrees n (new.0 ∙ long)))
           (at_end (set views id (with_end v)) (new_end v) known n there);
     }
   where
-    mine : AgreesAsHearer kept.ends kept.joined kept.out id v
-    mine = (kept.agrees id v at).as_hearer may
+    mine : AgreesAsReceiver kept.ends kept.joined kept.out id v
+    mine = (kept.agrees id v at).as_receiver may
 
     long : length (set views id (with_end v)) ≡ kept.ends + 1
     long = length-set views id (with_end v) ∙ kept.passes
 
-    hearer_agrees : Agrees (kept.ends + 1) kept.joined kept.out (kept.out ++ kept.queued) id (with_end v)
-    hearer_agrees =
+    receiver_agrees : Agrees (kept.ends + 1) kept.joined kept.out (kept.out ++ kept.queued) id (with_end v)
+    receiver_agrees =
         record {
           as_end = λ no. absurd (true≢false (sym no));
-          as_hearer = λ yes. record {
+          as_receiver = λ yes. record {
             first = mine.first;
             heard_are = mine.heard_are;
             ends_are = ap (λ n. n + 1) mine.ends_are;
@@ -256,7 +256,7 @@ forks id v may items views kept at =
             unjoined = let f = kept.fewer in let e = mine.ends_are in omega arith;
             pushed_are = sym (kept.unmade v.ends (let e = mine.ends_are in omega arith));
           };
-          as_hearer = λ no. absurd (true≢false (sym no));
+          as_receiver = λ no. absurd (true≢false (sym no));
         }
 
     old_agrees :
@@ -266,7 +266,7 @@ forks id v may items views kept at =
     old_agrees j u apart old =
         record {
           as_end = old.as_end;
-          as_hearer = λ yes. absurd (apart ((old.as_hearer yes).first ∙ sym mine.first));
+          as_receiver = λ yes. absurd (apart ((old.as_receiver yes).first ∙ sym mine.first));
         }
 
 pub merges :
@@ -301,8 +301,8 @@ merges id v other end may theirs next items views kept at two there =
     longer : length joined ≡ length kept.joined + 1
     longer = length-append kept.joined (end.pushed ∷ [])
 
-    mine : AgreesAsHearer kept.ends kept.joined kept.out id v
-    mine = (kept.agrees id v at).as_hearer may
+    mine : AgreesAsReceiver kept.ends kept.joined kept.out id v
+    mine = (kept.agrees id v at).as_receiver may
 
     was : get_elem? views other ≡ some end
     was = ⊎_elim (λ x. absurd (two x.0)) (λ x. x.1) (at_set views id other both end there)
@@ -325,7 +325,7 @@ merges id v other end may theirs next items views kept at two there =
     new_agrees =
         record {
           as_end = λ no. absurd (true≢false (sym no));
-          as_hearer = λ yes. record {
+          as_receiver = λ yes. record {
             first = mine.first;
             heard_are = mine.heard_are;
             ends_are = mine.ends_are;
@@ -344,7 +344,7 @@ merges id v other end may theirs next items views kept at two there =
             unjoined = later u.number p.unjoined (λ same. not (let a = p.place in let b = end_was.place in let c = number_is in omega arith));
             pushed_are = p.pushed_are;
           };
-          as_hearer = λ yes. absurd (apart ((old.as_hearer yes).first ∙ sym mine.first));
+          as_receiver = λ yes. absurd (apart ((old.as_receiver yes).first ∙ sym mine.first));
         }
       where
         later : (k : ℕ) → length kept.joined ≤ k → k ≢ length kept.joined → length joined ≤ k
@@ -362,8 +362,8 @@ learns id v may items views kept at empty all =
           (less_or_past k (length kept.joined));
     }
   where
-    mine : AgreesAsHearer kept.ends kept.joined kept.out id v
-    mine = (kept.agrees id v at).as_hearer may
+    mine : AgreesAsReceiver kept.ends kept.joined kept.out id v
+    mine = (kept.agrees id v at).as_receiver may
 
     none : (queued : List Numbered) → map report_of queued ≡ [] → queued ≡ []
     none [] is = refl

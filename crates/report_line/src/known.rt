@@ -1,7 +1,7 @@
 use crate::heard::Heard;
 use std::collections::LinkedList;
 
-/// What an end of the queue knows, or the hearer. No value of it is made: contracts alone speak of
+/// What an end of the queue knows, or the receiver. No value of it is made: contracts alone speak of
 /// it.
 pub struct Known {
     /// It is an end, and may push.
@@ -10,7 +10,7 @@ pub struct Known {
     pub number: u64,
     /// What the end pushed, in order.
     pub pushed: LinkedList<Heard>,
-    /// It is the hearer, and may pop.
+    /// It is the receiver, and may pop.
     pub hears: bool,
     /// What was popped, in order.
     pub heard: LinkedList<Heard>,

@@ -3,7 +3,7 @@ use crate::known::Known;
 use crate::queue_rule::HeardInOrder;
 use crossbeam_queue::RuledSegQueue;
 
-/// The queue of reports, which the ends and the hearer share.
+/// The queue of reports, which the ends and the receiver share.
 pub struct Line {
     pub(crate) queue: RuledSegQueue<Heard, Known, HeardInOrder>,
 }

@@ -7,11 +7,11 @@ use crossbeam_queue::protocol::{Join, Lesson, Outcome, Protocol, Split};
 pub struct HeardInOrder;
 
 impl Protocol<Heard, Known> for HeardInOrder {
-    ghost use Rattle.report_line.specs.Rule.{IsKept, new_hearer};
+    ghost use Rattle.report_line.specs.Rule.{IsKept, new_receiver};
 
     ghost holds = { IsKept };
 
-    ghost first = { new_hearer };
+    ghost first = { new_receiver };
 }
 
 /// An end pushed a report.
@@ -24,7 +24,7 @@ impl Outcome<Heard, Known> for Pushed {
     ghost then = { λ old report new. new ≡ after_push old report };
 }
 
-/// The hearer popped a report, or the queue was empty.
+/// The receiver popped a report, or the queue was empty.
 pub struct Popped;
 
 impl Outcome<Heard, Known> for Popped {
@@ -40,7 +40,7 @@ impl Lesson<Heard, Known> for Popped {
     ghost fact = { HasHeardAll };
 }
 
-/// One more end is made, or an end is joined to the hearer.
+/// One more end is made, or an end is joined to the receiver.
 pub struct Ends;
 
 impl Split<Known> for Ends {

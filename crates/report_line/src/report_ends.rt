@@ -1,4 +1,4 @@
-use crate::hearer::Hearer;
+use crate::report_receiver::ReportReceiver;
 use crate::reports::Reports;
 use base::List;
 
@@ -8,5 +8,5 @@ pub struct ReportEnds {
     /// Its ends by number: one for each thread that pushes.
     pub ends: List<Reports>,
     /// The one that pops, for the thread that hears.
-    pub hearer: Hearer,
+    pub receiver: ReportReceiver,
 }

@@ -4,33 +4,36 @@ ghost use Rattle.std.specs.Prelude.{IfOk, IfSome, IfNone, OnOk, OnErr};
 ghost use Rattle.report_line.specs.Order.{IsInterleaving};
 ghost use Rattle.report_line.specs.Reports.{pushed, number_of, queue_of};
 ghost use Rattle.report_line.specs.Reports.{heard, joined, ends_of, queue_heard};
-ghost use Rattle.report_line.specs.Reports.{IsSameEnd, IsSameHearer, IsNewEnd, AreNewEnds};
+ghost use Rattle.report_line.specs.Reports.{IsSameEnd, IsSameReceiver, IsNewEnd, AreNewEnds};
 
 use crate::heard::Heard;
-use crate::hearer::Hearer;
 use crate::line::Line;
 use crate::queue_rule::{Ends, Popped, Pushed};
 use crate::report_ends::ReportEnds;
+use crate::report_receiver::ReportReceiver;
 use crate::reports::Reports;
 use base::{List, NoMemory};
 use crossbeam_queue::RuledSegQueue;
 use std::alloc::{AllocError, Global};
 use std::sync::{Arc, Wait};
 
-/// A new queue with so many ends, numbered from 0 on, and its hearer: nothing was pushed, and
+/// A new queue with so many ends, numbered from 0 on, and its receiver: nothing was pushed, and
 /// nothing heard. It fails only where it is out of memory.
 #[tactic(auto, using(crate::proofs::EndLemmas::ends_none, crate::proofs::EndLemmas::ends_more, crate::proofs::EndLemmas::ends_all))]
 pub fn report_queue(alloc: Global, ends: u8) -> Result<ReportEnds, NoMemory>
-    ensures { IfOk result (λ made. AreNewEnds ends made.ends made.hearer) }
+    ensures { IfOk result (λ made. AreNewEnds ends made.ends made.receiver) }
 {
     let (queue, pass) = RuledSegQueue::with_rule(alloc)?;
     let line = Arc::new(alloc, Line { queue })?;
-    let mut hearer = Hearer { line, pass };
+    let mut receiver = ReportReceiver { line, pass };
     let mut made = List::new(alloc);
     for _end in 0..ends {
-        made.push(hearer.new_end()?)?;
+        made.push(receiver.new_end()?)?;
     }
-    Ok(ReportEnds { ends: made, hearer })
+    Ok(ReportEnds {
+        ends: made,
+        receiver,
+    })
 }
 
 impl Reports {
@@ -51,7 +54,7 @@ impl Reports {
     }
 }
 
-impl Hearer {
+impl ReportReceiver {
     /// One more end of the queue, with the next number and nothing pushed. It fails only where it is
     /// out of memory.
     #[tactic(auto, using(crate::proofs::RuleLemmas::forks))]
@@ -69,13 +72,13 @@ impl Hearer {
 
     /// The next report, or `None` where the queue was empty at one moment of the call. If all ends
     /// were joined before, all that they pushed was then heard.
-    pub fn hear<R: Wait>(&mut self, rt: &R) -> Option<Heard>
+    pub fn receive<R: Wait>(&mut self, rt: &R) -> Option<Heard>
         ensures some { IfSome result (λ report. heard self.new ≡ heard self.old ++ report ∷ []) }
         ensures none { IfNone result (heard self.new ≡ heard self.old) }
         ensures all { IfNone result (length (joined self.new) ≡ ends_of self.new →
             IsInterleaving (heard self.new) (joined self.new)) }
         ensures joined { joined self.new ≡ joined self.old }
-        ensures same { IsSameHearer self.old self.new }
+        ensures same { IsSameReceiver self.old self.new }
     {
         self.line.queue.pop_as::<Popped, R>(rt, &mut self.pass)
     }
@@ -88,7 +91,7 @@ impl Hearer {
         requires next { number_of end ≡ length (joined self.old) }
         ensures heard { heard self.new ≡ heard self.old }
         ensures joined { joined self.new ≡ joined self.old ++ pushed end ∷ [] }
-        ensures same { IsSameHearer self.old self.new }
+        ensures same { IsSameReceiver self.old self.new }
     {
         let Reports { line: _line, pass } = end;
         self.line.queue.absorb::<Ends>(&mut self.pass, pass);

@@ -7,7 +7,7 @@ use Rattle.std.specs.Option.{option_copied}
 use Rattle.rule_traits.specs.declared.kind.Kind.{Kind}
 use Rattle.rule_traits.specs.declared.trait_fields.Mobile.{Mobile}
 use Rattle.rule_traits.specs.ValidRules.{AreValidRules, IsValidKind, IsValidMobile}
-use Rattle.grid_routes.specs.Tolls.{IsCheap}
+use Rattle.grid_routes.specs.EntryCosts.{IsCheap}
 
 found_first : {A : Type 0} (b : Bool) (y x : A) (rest : Option A) → cond b (Some y) rest ≡ Some x → (y ≡ x) ⊎ (rest ≡ Some x)
 found_first true y x rest is = inl cc

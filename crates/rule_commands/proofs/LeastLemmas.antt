@@ -7,8 +7,8 @@ use Rattle.world_units.specs.declared.cell.CPos.{CPos}
 use Rattle.world_units.specs.Cells.{same_cell}
 use Rattle.world_units.specs.CellLemmas.{cell_decides}
 use Rattle.world_units.specs.Directions.{step_of}
-use Rattle.game_model.specs.Walks.{Land, IsStep, IsWalk, IsDistance, HasNoWalk, fare_of}
-use Rattle.game_model.specs.BestDirection.{directions, lesser, least_of, by_fare, by_step, by_direction, least_within}
+use Rattle.game_model.specs.Walks.{Land, IsStep, IsWalk, IsDistance, HasNoWalk, step_cost_of}
+use Rattle.game_model.specs.BestDirection.{directions, lesser, least_of, by_step_cost, by_step, by_direction, least_within}
 
 -- ---- the least of some costs
 
@@ -107,21 +107,21 @@ pub record IsWayOn (land : Land) (rest : CPos → Option ℕ) (p : CPos) (d n : 
   pub entered : CPos
   pub cost : ℕ
   pub left : ℕ
-  pub step : IsStep land.toll p d entered cost
+  pub step : IsStep land.entry_cost p d entered cost
   pub there : rest entered ≡ Some left
   pub sum : n ≡ cost + left
 
-way_by_fare :
+way_by_step_cost :
     (land : Land) (rest : CPos → Option ℕ) (p q : CPos) (d n : ℕ) → d < 8 → step_of p d ≡ Some q →
-    (cost : ℕ) (left : Option ℕ) → fare_of land.toll p d q ≡ cost → rest q ≡ left → by_fare cost left ≡ Some n →
+    (cost : ℕ) (left : Option ℕ) → step_cost_of land.entry_cost p d q ≡ cost → rest q ≡ left → by_step_cost cost left ≡ Some n →
     IsWayOn land rest p d n
-way_by_fare land rest p q d n low enters zero left fare there is = absurd cc
-way_by_fare land rest p q d n low enters (suc less) None fare there is = absurd cc
-way_by_fare land rest p q d n low enters (suc less) (Some left) fare there is = record {
+way_by_step_cost land rest p q d n low enters zero left step_cost there is = absurd cc
+way_by_step_cost land rest p q d n low enters (suc less) None step_cost there is = absurd cc
+way_by_step_cost land rest p q d n low enters (suc less) (Some left) step_cost there is = record {
   entered = q;
   cost = suc less;
   left = left;
-  step = record { direction = low; enters = enters; cost = fare; allowed = omega arith };
+  step = record { direction = low; enters = enters; cost = step_cost; allowed = omega arith };
   there = there;
   sum = cc;
 }
@@ -131,22 +131,22 @@ way_by_step :
     by_step land rest p d to ≡ Some n → IsWayOn land rest p d n
 way_by_step land rest p d n low None enters is = absurd cc
 way_by_step land rest p d n low (Some q) enters is =
-    way_by_fare land rest p q d n low enters (fare_of land.toll p d q) (rest q) refl refl is
+    way_by_step_cost land rest p q d n low enters (step_cost_of land.entry_cost p d q) (rest q) refl refl is
 
 pub way_on :
     (land : Land) (rest : CPos → Option ℕ) (p : CPos) (d n : ℕ) → d < 8 → by_direction land rest p d ≡ Some n →
     IsWayOn land rest p d n
 way_on land rest p d n low is = way_by_step land rest p d n low (step_of p d) refl is
 
-fare_sum : (cost left : ℕ) → 0 < cost → by_fare cost (Some left) ≡ Some (cost + left)
-fare_sum zero left some = absurd (omega arith)
-fare_sum (suc less) left some = refl
+step_cost_sum : (cost left : ℕ) → 0 < cost → by_step_cost cost (Some left) ≡ Some (cost + left)
+step_cost_sum zero left some = absurd (omega arith)
+step_cost_sum (suc less) left some = refl
 
 pub direction_cost :
-    (land : Land) (rest : CPos → Option ℕ) (p q : CPos) (d cost left : ℕ) → IsStep land.toll p d q cost → rest q ≡ Some left →
+    (land : Land) (rest : CPos → Option ℕ) (p q : CPos) (d cost left : ℕ) → IsStep land.entry_cost p d q cost → rest q ≡ Some left →
     by_direction land rest p d ≡ Some (cost + left)
 direction_cost land rest p q d cost left step there =
-    ap (by_step land rest p d) step.enters ∙ ap₂ by_fare step.cost there ∙ fare_sum cost left step.allowed
+    ap (by_step land rest p d) step.enters ∙ ap₂ by_step_cost step.cost there ∙ step_cost_sum cost left step.allowed
 
 -- ---- what is found is the cost of a walk
 
@@ -194,7 +194,7 @@ low_later other m true low = record { cost = 0; is = refl; low = omega arith }
 low_later other m false low = low
 
 low_step :
-    (land : Land) (rest : CPos → Option ℕ) (p q : CPos) (d k m n : ℕ) → IsStep land.toll p d q k → n ≡ k + m → IsLow (rest q) m →
+    (land : Land) (rest : CPos → Option ℕ) (p q : CPos) (d k m n : ℕ) → IsStep land.entry_cost p d q k → n ≡ k + m → IsLow (rest q) m →
     IsLow (least_of (map (by_direction land rest p) directions)) n
 low_step land rest p q d k m n step sum low =
     lower (least_of (map (by_direction land rest p) directions)) (k + low.cost) n (omega (arith, sum, low.low))

@@ -14,7 +14,7 @@ use Rattle.world_units.specs.Directions.{step_of}
 use Rattle.game_model.specs.declared.map.Map.{Map}
 use Rattle.rule_traits.specs.declared.trait_fields.Costs.{Costs}
 use Rattle.game_model.specs.Grid.{Grid, HasSize, IsOn, is_on, place_of}
-use Rattle.game_model.specs.Walks.{Land, IsStep, IsWalk, IsDistance, HasNoWalk, LeadsOn, IsBest, FollowsBest, IsRouteOver, fare_of, toll_of, land_of}
+use Rattle.game_model.specs.Walks.{Land, IsStep, IsWalk, IsDistance, HasNoWalk, LeadsOn, IsBest, FollowsBest, IsRouteOver, step_cost_of, entry_cost_of, land_of}
 use Rattle.game_model.specs.BestDirection.{directions, by_direction, enough_steps, distance_of, is_cost, leads_on, best_dir_of}
 use Rattle.grid_routes.specs.declared.route.Route.{Route}
 use Rattle.grid_routes.specs.Steps.{IsRoute}
@@ -119,7 +119,7 @@ same_distance land p a b first second =
 record Goes (land : Land) (p q : CPos) (d n : ℕ) : Type 0 where
   cost : ℕ
   left : ℕ
-  step : IsStep land.toll p d q cost
+  step : IsStep land.entry_cost p d q cost
   sum : n ≡ cost + left
   there : IsDistance land q left
 
@@ -130,7 +130,7 @@ goes land p q d n distance leads enters =
     record {
       cost = leads.cost;
       left = leads.left;
-      step = subst (λ (x : CPos). IsStep land.toll p d x leads.cost) one leads.step;
+      step = subst (λ (x : CPos). IsStep land.entry_cost p d x leads.cost) one leads.step;
       sum = same_distance land p n (leads.cost + leads.left) distance leads.here;
       there = subst (λ (x : CPos). IsDistance land x leads.left) one leads.there;
     }
@@ -184,21 +184,21 @@ entered_is m land (q ∷ cells) (suc more) p n distance follows within short =
 
 -- Only cells of a map of this size can be entered.
 pub record IsInside (land : Land) (width height : ℕ) : Type 0 where
-  pub each : (q : CPos) → 0 < land.toll q → IsOn width height q
+  pub each : (q : CPos) → 0 < land.entry_cost q → IsOn width height q
 
 zero_either : (b c : Bool) → ◌≡◌ {A = ℕ} (cond b (5 * 0) (cond c (7 * 0) 0)) 0
 zero_either true c = refl
 zero_either false true = refl
 zero_either false false = refl
 
-no_fare : (toll : CPos → ℕ) (p : CPos) (d : ℕ) (q : CPos) → toll q ≡ 0 → fare_of toll p d q ≡ 0
-unfolding fare_of
-no_fare toll p d q free = rw free (zero_either _ _)
+no_step_cost : (entry_cost : CPos → ℕ) (p : CPos) (d : ℕ) (q : CPos) → entry_cost q ≡ 0 → step_cost_of entry_cost p d q ≡ 0
+unfolding step_cost_of
+no_step_cost entry_cost p d q free = rw free (zero_either _ _)
 
-on_map : (land : Land) (w h : ℕ) → IsInside land w h → (p q : CPos) (d k : ℕ) → IsStep land.toll p d q k → IsOn w h q
+on_map : (land : Land) (w h : ℕ) → IsInside land w h → (p q : CPos) (d k : ℕ) → IsStep land.entry_cost p d q k → IsOn w h q
 on_map land w h inside p q d k step =
-    elim (cases_eq (land.toll q) 0) [
-      | inl none ↦ let free = no_fare land.toll p d q none in absurd (omega (arith, free, step.cost, step.allowed))
+    elim (cases_eq (land.entry_cost q) 0) [
+      | inl none ↦ let free = no_step_cost land.entry_cost p d q none in absurd (omega (arith, free, step.cost, step.allowed))
       | inr some ↦ inside.each q (omega arith)
     ]
 
@@ -328,7 +328,7 @@ and_first false b is = is
 
 pub inside_of :
     (m : Map) (built : Grid Bool) (costs : Costs) (goal : CPos) → HasSize m.width m.height m.terrain → IsInside (land_of m built costs goal) m.width m.height
-unfolding toll_of
+unfolding entry_cost_of
 inside_of m built costs goal size = record {
   each = λ q some.
       let all = chosen_some _ _ some in

@@ -9,7 +9,7 @@ ghost use Rattle.game_model.specs.Buildings.{building_in};
 ghost use Rattle.game_model.specs.Grid.{HasSize, IsOn, is_on, with_cell};
 ghost use Rattle.game_model.specs.ValidMap.{IsMapFor};
 ghost use Rattle.game_model.specs.Walks.{land_of};
-ghost use Rattle.grid_routes.specs.Tolls.{IsCheap};
+ghost use Rattle.grid_routes.specs.EntryCosts.{IsCheap};
 ghost use Rattle.command_words.specs.RequestPlain.{plain_route};
 ghost use Rattle.rule_commands.specs.FoundRoute.{found_route};
 ghost use Rattle.command_answers.specs.Given.{given_contents};

@@ -1,7 +1,7 @@
 -- What is known of a match that was served, over plain values.
 use Rattle.std.proofs.Common.{◌≡◌, ◌⊎◌, ℕ, Bool, true, false, if◌then◌else◌, List, refl, inl, inr, ◌∙◌}
 use Rattle.std.specs.List.{list_any}
-use Rattle.base.specs.Cause.{Rose}
+use Rattle.base.specs.Cause.{Increased}
 use Rattle.frame_core.specs.Match.{Match}
 use Rattle.game_io.specs.NetState.{NetState}
 use Rattle.game_io.specs.SinkState.{SinkState}
@@ -30,7 +30,7 @@ two_causes status R S (inr e) = at_memory status R S e
 served_of : (ends : List LinkEnd) (status : ℕ) → status ≡ served_status ends → (status ≡ DONE) ⊎ (status ≡ OUT_OF_MEMORY)
 served_of ends status e = by_memory (list_any is_memory ends) status e
 
-printed_of : (reply : Reply) (status : ℕ) (s s' : SinkState) → (Rose s.faults s'.faults → ⊥) →
+printed_of : (reply : Reply) (status : ℕ) (s s' : SinkState) → (Increased s.faults s'.faults → ⊥) →
     (status ≡ reply.status → (status ≡ DONE) ⊎ (status ≡ OUT_OF_MEMORY)) → MayPrintReply reply status s s' → (status ≡ DONE) ⊎ (status ≡ OUT_OF_MEMORY)
 printed_of reply status s s' quiet own (inl (inl wrote)) = own wrote.0
 printed_of reply status s s' quiet own (inl (inr cut)) = absurd (quiet cut.1)

@@ -1,6 +1,6 @@
 -- A match that is served over the links of a net, and what is printed of it.
 use Rattle.std.specs.Prelude.{◌≡◌, ℕ, ◌⊎◌, List}
-use Rattle.base.specs.Cause.{Rose}
+use Rattle.base.specs.Cause.{Increased}
 use Rattle.frame_core.specs.Match.{Match}
 use Rattle.frame_table.specs.declared.pass.Pass.{Pass}
 use Rattle.frame_table.specs.declared.table.FrameTable.{FrameTable}
@@ -45,11 +45,11 @@ abbrev pub ServesBy :
 ServesBy of_match invite status old new console_old console_new before after =
     ServesOut of_match invite status old new console_old console_new before after
     ⊎ (((status ≡ OUT_OF_MEMORY) × (after.written ≡ before.written))
-    ⊎ (Rose old.faults new.faults × MayPrintReply link_fault status before after))
+    ⊎ (Increased old.faults new.faults × MayPrintReply link_fault status before after))
 
 -- The net's count of faults rose. The faults of links change no status.
 abbrev pub NetFailed : (old new : NetState) → Type 0
-NetFailed old new = Rose old.faults new.faults
+NetFailed old new = Increased old.faults new.faults
 
 abbrev pub IsServeDone : ℕ → Type 0
 IsServeDone status = status ≡ DONE

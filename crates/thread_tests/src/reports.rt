@@ -6,7 +6,7 @@ ghost use Rattle.report_line.specs.Reports.{pushed, heard, joined, ends_of, queu
 ghost use Rattle.report_line.specs.Reports.{IsSameEnd, IsNewEnd};
 
 use base::NoMemory;
-use report_line::{Heard, Hearer, ReportEnds, Reports, report_queue};
+use report_line::{Heard, ReportEnds, ReportReceiver, Reports, report_queue};
 use std::alloc::Global;
 use std::process::Abort;
 use std::sync::Wait;
@@ -15,17 +15,17 @@ use std::thread;
 use std::thread::Threads;
 
 /// A new queue of two ends, and these.
-fn two_ends(rt: &impl Abort, alloc: Global) -> Result<(Hearer, Reports, Reports), NoMemory>
-    ensures hearer { IfOk result (λ made. (heard made.0 ≡ []) × (joined made.0 ≡ []) ×
+fn two_ends(rt: &impl Abort, alloc: Global) -> Result<(ReportReceiver, Reports, Reports), NoMemory>
+    ensures receiver { IfOk result (λ made. (heard made.0 ≡ []) × (joined made.0 ≡ []) ×
         (ends_of made.0 ≡ 2)) }
     ensures first { IfOk result (λ made. IsNewEnd (queue_heard made.0) 0 made.1) }
     ensures second { IfOk result (λ made. IsNewEnd (queue_heard made.0) 1 made.2) }
 {
-    let ReportEnds { ends, hearer } = report_queue(alloc, 2)?;
+    let ReportEnds { ends, receiver } = report_queue(alloc, 2)?;
     let mut ends = ends.into_vec();
     let second = ends.pop().expect(rt, "two ends");
     let first = ends.pop().expect(rt, "one end");
-    Ok((hearer, first, second))
+    Ok((receiver, first, second))
 }
 
 /// Pushes these reports in order, and answers the end and whether there was memory for all.
@@ -42,16 +42,20 @@ fn push_all<R: Wait>(rt: &R, end: Reports, reports: &[Heard]) -> (Reports, bool)
     (own, true)
 }
 
-/// What a hearer hears that has heard nothing, and that all ends of its queue were joined to.
-fn hear_all<R: Wait>(rt: &R, alloc: Global, hearer: Hearer) -> Result<Vec<Heard>, NoMemory>
-    requires unheard { heard hearer ≡ [] }
-    requires all { length (joined hearer) ≡ ends_of hearer }
-    ensures { IfOk result (λ all. IsInterleaving all.items (joined hearer)) }
+/// What a receiver hears that has heard nothing, and that all ends of its queue were joined to.
+fn hear_all<R: Wait>(
+    rt: &R,
+    alloc: Global,
+    receiver: ReportReceiver,
+) -> Result<Vec<Heard>, NoMemory>
+    requires unheard { heard receiver ≡ [] }
+    requires all { length (joined receiver) ≡ ends_of receiver }
+    ensures { IfOk result (λ all. IsInterleaving all.items (joined receiver)) }
 {
-    let mut own = hearer;
+    let mut own = receiver;
     let mut all = Vec::new(alloc);
     for _ in rt.forever() {
-        match own.hear(rt) {
+        match own.receive(rt) {
             Some(report) => all.push(report)?,
             None => return Ok(all),
         }
@@ -70,7 +74,7 @@ fn hear_two<R: Abort + Threads + Wait + Sync>(
     ensures { IfOk result (λ all.
         IsInterleaving all.items (first.now ∷ second.now ∷ [])) }
 {
-    let (mut hearer, one, other) = two_ends(rt, alloc)?;
+    let (mut receiver, one, other) = two_ends(rt, alloc)?;
     let ((one, whole), (other, all)) = thread::join(
         rt,
         move || -> (Reports, bool)
@@ -85,9 +89,9 @@ fn hear_two<R: Abort + Threads + Wait + Sync>(
     );
     assert!(rt; whole);
     assert!(rt; all);
-    hearer.join(one);
-    hearer.join(other);
-    hear_all(rt, alloc, hearer)
+    receiver.join(one);
+    receiver.join(other);
+    hear_all(rt, alloc, receiver)
 }
 
 /// The report of a client on a frame.
@@ -120,10 +124,10 @@ fn two_threads(rt: HostRuntime) -> Result<(), Fail> {
 #[test]
 fn an_empty_queue(rt: HostRuntime) -> Result<(), Fail> {
     let mut queue = report_queue(rt.alloc(), 1)?;
-    assert_eq!(rt; queue.hearer.hear(&rt), None);
+    assert_eq!(rt; queue.receiver.receive(&rt), None);
     let mut end = queue.ends.into_vec().pop().expect(&rt, "one end");
     end.push(&rt, report(0, 7))?;
-    assert_eq!(rt; queue.hearer.hear(&rt), Some(report(0, 7)));
-    assert_eq!(rt; queue.hearer.hear(&rt), None);
+    assert_eq!(rt; queue.receiver.receive(&rt), Some(report(0, 7)));
+    assert_eq!(rt; queue.receiver.receive(&rt), None);
     Ok(())
 }

@@ -24,7 +24,7 @@ use world_units::CPos;
 
 /// What a step of an actor may change beside the actor itself.
 #[derive(Clone, Copy, Drop)]
-pub(crate) struct Aim {
+pub(crate) struct StepEffects {
     /// The actor that it may hit.
     pub(crate) target: Option<u32>,
     /// The cell whose ore it may load.
@@ -53,11 +53,11 @@ fn lives_at(table: &ActorTable, i: usize, id: u32) -> bool
 }
 
 /// What the first activity of the actor of an id, if it lives, may change beside the actor itself.
-fn aim_of(table: &ActorTable, id: u32) -> Aim
+fn effects_of(table: &ActorTable, id: u32) -> StepEffects
     ensures target { result.target ≡ target_of (living_of table.now.actors id) }
     ensures cell { result.cell ≡ cell_of (living_of table.now.actors id) }
 {
-    let none = Aim {
+    let none = StepEffects {
         target: None,
         cell: None,
     };
@@ -65,11 +65,11 @@ fn aim_of(table: &ActorTable, id: u32) -> Aim
         return none;
     };
     match a.body.acts.head() {
-        Some(Activity::Attack { target, .. }) => Aim {
+        Some(Activity::Attack { target, .. }) => StepEffects {
             target: Some(*target),
             cell: None,
         },
-        Some(Activity::Harvest { cell, .. }) => Aim {
+        Some(Activity::Harvest { cell, .. }) => StepEffects {
             target: None,
             cell: Some(*cell),
         },
@@ -203,11 +203,11 @@ impl Scene {
     }
 
     /// What the last part of the step of the actor of an id may change beside the actor itself.
-    fn aim(&self, id: u32) -> Aim
+    fn effects(&self, id: u32) -> StepEffects
         ensures target { result.target ≡ target_of (living_of self.now.world.actors id) }
         ensures cell { result.cell ≡ cell_of (living_of self.now.world.actors id) }
     {
-        aim_of(&self.table, id)
+        effects_of(&self.table, id)
     }
 
     /// Whether it is known that a step leaves the actor at a place as it is. It takes no look at the
@@ -332,15 +332,15 @@ impl LiveWorld {
         let waited = self.scene.is_waiting(id);
         self.scene.prepare(id);
         self.scene.known();
-        let aim = self.scene.aim(id);
+        let effects = self.scene.effects(id);
         self.scene.go_on(id);
-        let target = if_changed(drawn, self.scene.drawn(), aim.target);
+        let target = if_changed(drawn, self.scene.drawn(), effects.target);
         let new_id = self.scene.next_id();
         let added = if_changed(u64::from(next_id), u64::from(new_id), Some(next_id));
         self.scene.known();
         let stepped = if_stepped(waited, added, id);
         let died = self.scene.tell(&mut self.hasher, stepped, target, added);
         self.deaths = either(self.deaths, died);
-        self.scene.tell_ore(&mut self.hasher, aim.cell);
+        self.scene.tell_ore(&mut self.hasher, effects.cell);
     }
 }

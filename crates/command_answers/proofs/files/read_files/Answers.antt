@@ -1,6 +1,6 @@
 -- A file that was not read, among rule files and a map.
 use Rattle.std.proofs.Common.{map, option_map}
-use Rattle.base.specs.Cause.{Rose}
+use Rattle.base.specs.Cause.{Increased}
 use Rattle.command_answers.proofs.FilesLemmas.{rules_stop_untold, map_stop_told, map_stop_untold, rose_later}
 use Rattle.command_answers.proofs.files.read_files.Goals as goal
 
@@ -14,7 +14,7 @@ returns-in-Err-read_named-clause-told g c =
     let d1 = g.D.Disk.state c.read_rules.new.disk in
     let d2 = g.D.Disk.state c.read_named.new.disk in
     map_stop_told (map (λ name. name.now) c.args.names.now) (map (λ bytes. bytes.items) c.in-Ok.rules.items) (option_map (λ name. name.now) c.args.map_file) c.in-Err-read_named.stop
-    (Rose d1.faults d2.faults) (Rose d.faults d2.faults) d.files d1.files (rose_later d.faults d1.faults d2.faults c.in-Ok.ensures.later)
+    (Increased d1.faults d2.faults) (Increased d.faults d2.faults) d.files d1.files (rose_later d.faults d1.faults d2.faults c.in-Ok.ensures.later)
     c.in-Ok.ensures.files c.in-Ok.ensures.told c.in-Err-read_named.ensures.told
 
 pub returns-in-Err-read_named-clause-untold : goal.returns-in-Err-read_named-clause-untold
@@ -23,5 +23,5 @@ returns-in-Err-read_named-clause-untold g c =
     let d1 = g.D.Disk.state c.read_rules.new.disk in
     let d2 = g.D.Disk.state c.read_named.new.disk in
     map_stop_untold (map (λ name. name.now) c.args.names.now) (option_map (λ name. name.now) c.args.map_file) c.in-Err-read_named.stop
-    (Rose d1.faults d2.faults) (Rose d.faults d2.faults) d.files d1.files (rose_later d.faults d1.faults d2.faults c.in-Ok.ensures.later)
+    (Increased d1.faults d2.faults) (Increased d.faults d2.faults) d.files d1.files (rose_later d.faults d1.faults d2.faults c.in-Ok.ensures.later)
     c.in-Ok.ensures.files c.in-Err-read_named.ensures.untold

@@ -3,7 +3,7 @@ use Rattle.grid_routes.proofs.findings.take_step.Goals as goal
 
 pub returns-in-Some-clause-walk : goal.returns-in-Some-clause-walk
 returns-in-Some-clause-walk c =
-    added_best c.args.search.now.tolls.terrain c.args.search.now.tolls.built c.args.walk.now c.add.new.self
+    added_best c.args.search.now.entry_costs.terrain c.args.search.now.entry_costs.built c.args.walk.now c.add.new.self
     c.args.ask.now (record { cell = c.args.at; direction = c.in-Some.direction }) c.requires.walk c.requires.asked
     c.add.ensures.asked c.in-Some.ensures c.add.ensures.added
 

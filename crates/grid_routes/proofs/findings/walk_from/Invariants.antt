@@ -5,7 +5,7 @@ use Rattle.grid_routes.proofs.findings.walk_from.Given as goal
 
 abbrev pub invariant-loop-taken : goal.invariant-loop-taken
 invariant-loop-taken l = record {
-  walk : IsBestWalk l.search.tolls.terrain l.search.tolls.built l.walk;
+  walk : IsBestWalk l.search.entry_costs.terrain l.search.entry_costs.built l.walk;
   asked : l.walk.ask ≡ l.ask;
   settled : IsSettled l.search l.at;
 }

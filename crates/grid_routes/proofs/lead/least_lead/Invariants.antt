@@ -1,8 +1,8 @@
 use Rattle.std.proofs.Common.{ℕ, ◌<◌}
-use Rattle.grid_routes.specs.Tolls.{toll_in}
+use Rattle.grid_routes.specs.EntryCosts.{entry_cost_in}
 use Rattle.grid_routes.specs.Steps.{IsLead}
 use Rattle.grid_routes.proofs.lead.least_lead.Given as goal
 
 abbrev pub invariant-loop-d : goal.invariant-loop-d
 invariant-loop-d l =
-    (e : ℕ) → e < l.d → IsLead (toll_in l.tolls) l.field.labels l.from l.distance e → ⊥
+    (e : ℕ) → e < l.d → IsLead (entry_cost_in l.entry_costs) l.field.labels l.from l.distance e → ⊥

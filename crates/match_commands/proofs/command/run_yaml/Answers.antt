@@ -1,7 +1,7 @@
 use Rattle.std.proofs.Common.{None, refl, map, subst}
 use Rattle.command_words.specs.RequestPlain.{Yaml}
 use Rattle.command_answers.specs.Causes.{causes_of}
-use Rattle.command_answers.specs.Outside.{outside}
+use Rattle.command_answers.specs.Environment.{environment}
 use Rattle.match_commands.specs.Run.{RunsRequest}
 use Rattle.match_commands.proofs.RequestLemmas.{rules_given, rules_stopped}
 use Rattle.match_commands.proofs.command.run_yaml.Goals as goal
@@ -15,7 +15,7 @@ returns-in-Ok g c =
     let d' = g.D.Disk.state c.read_rules.new.disk in
     let s = g.K.Sink.state c.args.out.now in
     let s' = g.K.Sink.state c.print_text.new.out in
-    subst (λ names. RunsRequest (Yaml names) c.print_text.result (causes_of None (outside d s) (outside d' s')) (outside d s) (outside d' s'))
+    subst (λ names. RunsRequest (Yaml names) c.print_text.result (causes_of None (environment d s) (environment d' s')) (environment d s) (environment d' s'))
     c.as_slice-names.ensures
     (rules_given (Yaml names) names contents c.yaml_text.result _ c.print_text.result d d' s s' refl
     c.in-Ok.ensures.files c.in-Ok.ensures.later c.print_text.ensures.later c.in-Ok.ensures.told c.in-Ok.ensures.untold
@@ -29,7 +29,7 @@ returns-in-Err g c =
     let d' = g.D.Disk.state c.read_rules.new.disk in
     let s = g.K.Sink.state c.args.out.now in
     let s' = g.K.Sink.state c.print_stop.new.out in
-    subst (λ names. RunsRequest (Yaml names) c.print_stop.result (causes_of None (outside d s) (outside d' s')) (outside d s) (outside d' s'))
+    subst (λ names. RunsRequest (Yaml names) c.print_stop.result (causes_of None (environment d s) (environment d' s')) (environment d s) (environment d' s'))
     c.as_slice-names.ensures
     (rules_stopped (Yaml names) names c.in-Err.stop c.print_stop.result d d' s s' refl
     c.in-Err.ensures.files c.in-Err.ensures.later c.print_stop.ensures.later c.in-Err.ensures.told c.in-Err.ensures.untold

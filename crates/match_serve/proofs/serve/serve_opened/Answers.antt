@@ -60,8 +60,8 @@ returns-clause-served g c = λ coming are still.
     let gone = c.leave_all.ensures in
     let done = done_back _ _ _ _ _ _ _ _ _ _ c.as_mut_slice.ensures.value c.as_mut_slice.ensures.len ran.same.queue are ran.pieces in
     let full = ap length told.joined ∙ handed.joined ∙ sym (told.same.ends ∙ handed.same.ends ∙ ran.same.ends ∙ c.requires.ends_of) in
-    let between = subst (λ (l : List (List Heard)). IsInterleaving (heard c.take_reports.new.hearer) l) told.joined (told.all full) in
-    let has = subst (λ k. HasHeard k c.take_reports.new.board.reports (heard c.take_reports.new.hearer)) ran.boards told.board in
+    let between = subst (λ (l : List (List Heard)). IsInterleaving (heard c.take_reports.new.receiver) l) told.joined (told.all full) in
+    let has = subst (λ k. HasHeard k c.take_reports.new.board.reports (heard c.take_reports.new.receiver)) ran.boards told.board in
     let of_match : Match g.row.S.Denot = record { start = c.args.sim; after = g.S.Sim.after; hash = g.S.Sim.hash_of; summary = g.S.Sim.summary_of; clients = c.args.invite.now.clients; lag = 0 } in
     let ends = c.from_vec.ensures ∙ written_back c.args.ends.items c.close_links.new.ends c.args.ends.len (sym c.as_mut_slice-2.ensures.len ∙ ap length c.as_mut_slice-2.ensures.value) (handed.ends ∙ sym c.requires.ends) in
     let counts = c.from_vec-2.ensures ∙ written_back c.args.taken.items c.close_links.new.taken c.args.taken.len (sym c.as_mut_slice-3.ensures.len ∙ ap length c.as_mut_slice-3.ensures.value) (handed.taken ∙ sym c.requires.taken) in
@@ -81,6 +81,6 @@ returns-clause-served g c = λ coming are still.
     none_made ran.ticked.learns none_given watches.by made handed.made once in
     subst (λ (e : List LinkEnd). ServesMatch of_match c.args.invite.now coming (g.C.Source.state c.args.console.now) (g.C.Source.state c.run_threads.new.console) (g.N.Net.state c.close_links.new.net) c.run_threads.new.sim (g.S.Sim.steps c.run_threads.new.sim) c.args.table c.leave_all.new.pass c.take_reports.new.board e c.from_vec-2.result) (sym ends)
     (subst (λ (k : List ℕ). ServesMatch of_match c.args.invite.now coming (g.C.Source.state c.args.console.now) (g.C.Source.state c.run_threads.new.console) (g.N.Net.state c.close_links.new.net) c.run_threads.new.sim (g.S.Sim.steps c.run_threads.new.sim) c.args.table c.leave_all.new.pass c.take_reports.new.board c.close_links.new.ends k) (sym counts)
-    (serves of_match c.args.invite.now coming (g.C.Source.state c.args.console.now) (g.C.Source.state c.run_threads.new.console) watches.read (g.N.Net.state c.close_links.new.net) c.args.table (view_of c.split-watching.new.pass) c.run_threads.new.pass c.join.new.pass c.close_links.new.pass c.leave_all.new.pass c.run_threads.new.board c.take_reports.new.board c.close_links.new.ends c.close_links.new.taken (g.S.Sim.steps c.run_threads.new.sim) c.run_threads.new.sim (heard c.take_reports.new.hearer) (joined c.close_links.new.hearer) _ _
+    (serves of_match c.args.invite.now coming (g.C.Source.state c.args.console.now) (g.C.Source.state c.run_threads.new.console) watches.read (g.N.Net.state c.close_links.new.net) c.args.table (view_of c.split-watching.new.pass) c.run_threads.new.pass c.join.new.pass c.close_links.new.pass c.leave_all.new.pass c.run_threads.new.board c.take_reports.new.board c.close_links.new.ends c.close_links.new.taken (g.S.Sim.steps c.run_threads.new.sim) c.run_threads.new.sim (heard c.take_reports.new.receiver) (joined c.close_links.new.receiver) _ _
     ran.pass of_joined gone.pass ran.ticked (joined_grows _ _ c.run_threads.new.pass c.join.new.pass ran.pass c.join.ensures.mine) handed.known gone.gone share
     told.wanted (told.boards ∙ ran.boards) handed.given (handed.coming ∙ still) handed.ends handed.taken (handed.links coming done.0) watches.kicked_are by by_before has handed.joined between c.reports_of_each_client_are_heard.ensures))

@@ -1,6 +1,6 @@
 use Rattle.std.specs.Prelude.{IsErr}
 use Rattle.std.proofs.Common.{rules, ℕ, List, ◌≤◌, Some, Err, arith}
-use Rattle.base.specs.Cause.{Rose}
+use Rattle.base.specs.Cause.{Increased}
 use Rattle.base.specs.Written.{WrotePrefix}
 use Rattle.game_io.specs.SinkState.{WritesBytes}
 use Rattle.game_io.specs.Plan.{faults_of}
@@ -12,14 +12,14 @@ use Rattle.game_io.proofs.mem_sink.MemSinkSink.put.Goals as goal
 not_fallen : (before between now : ℕ) → before ≤ between → between ≤ now → before ≤ now
 not_fallen before between now first second = omega arith
 
-risen : (before between now : ℕ) → Rose before between → between ≤ now → Rose before now
+risen : (before between now : ℕ) → Increased before between → between ≤ now → Increased before now
 risen before between now first second = omega arith
 
 -- A put that fails by its plan, from what the call's beginning and the addition of what remains
 -- did.
 failed_put :
     {E : Type 0} (error : E) (old new : PlannedBytes) (between : ℕ) (remains : Remains) (piece : List ℕ) →
-    WrotePrefix (Some old.bytes) (Some new.bytes) (remaining remains piece) → Rose (faults_of old.plan) between →
+    WrotePrefix (Some old.bytes) (Some new.bytes) (remaining remains piece) → Increased (faults_of old.plan) between →
     faults_of old.plan ≤ between → between ≤ faults_of new.plan →
     WritesBytes {T = Unit {0}} (sink_state old) (sink_state new) piece (Err error) (IsErr {T = Unit {0}} (Err error))
 failed_put error old new between remains piece prefix rose first second =

@@ -7,8 +7,8 @@ pub returns-clause-fields : goal.returns-clause-fields
 returns-clause-fields c =
     let f = c.requires.fields in
     let old = c.args.self.now in
-    let w = old.search.tolls.terrain.width in
-    let h = old.search.tolls.terrain.height in
+    let w = old.search.entry_costs.terrain.width in
+    let h = old.search.entry_costs.terrain.height in
     let widened : IsWidened w h old.kept.items c.widen.new.kept.items =
     rw (c.width-w.ensures, c.height-h.ensures, f.size.width, f.size.height) at c.widen.ensures in
     record {
@@ -16,7 +16,7 @@ returns-clause-fields c =
       size = f.size;
       room = f.room;
       search = f.search;
-      kept = widened-kept w h old.search.tolls.terrain old.search.tolls.built old.kept.items c.widen.new.kept.items widened f.kept;
+      kept = widened-kept w h old.search.entry_costs.terrain old.search.entry_costs.built old.kept.items c.widen.new.kept.items widened f.kept;
       place = widened-place w h old.place old.kept.items c.widen.new.kept.items widened f.place;
     }
 

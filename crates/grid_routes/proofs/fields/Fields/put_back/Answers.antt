@@ -10,8 +10,8 @@ pub returns-clause-fields : goal.returns-clause-fields
 returns-clause-fields c =
     let f = c.requires.fields in
     let old = c.args.self.now in
-    let w = old.search.tolls.terrain.width in
-    let h = old.search.tolls.terrain.height in
+    let w = old.search.entry_costs.terrain.width in
+    let h = old.search.entry_costs.terrain.height in
     let mine : Kept = record { ask = old.ask; field = old.search.field } in
     let there = f.kept old.place mine f.place in
     record {
@@ -19,7 +19,7 @@ returns-clause-fields c =
       size = subst (λ (d : Distances). HasSize w h d.labels) (sym (c.exchange-self.ensures.field mine)) there.size;
       room = f.room;
       search = tt;
-      kept = kept-set w h old.search.tolls.terrain old.search.tolls.built old.kept.items c.exchange-self.new.kept.items
+      kept = kept-set w h old.search.entry_costs.terrain old.search.entry_costs.built old.kept.items c.exchange-self.new.kept.items
           old.place mine f.kept (record { size = f.size; going = own-going old.search old.ask f.search })
           c.exchange-self.ensures.kept;
       place = rw (c.exchange-self.ensures.kept, length-set old.kept.items old.place mine) f.place;

@@ -1,7 +1,7 @@
 use Rattle.std.proofs.Common.{refl, sym, subst, ◌∙◌, None, length-set}
 use Rattle.std.specs.List.{All}
 use Rattle.game_model.specs.Grid.{HasSize}
-use Rattle.grid_routes.specs.Tolls.{Ground}
+use Rattle.grid_routes.specs.EntryCosts.{Ground}
 use Rattle.grid_routes.specs.Labels.{Distances}
 use Rattle.grid_routes.specs.Kept.{IsKept}
 use Rattle.grid_routes.specs.declared.fields.Kept.{Kept}
@@ -15,7 +15,7 @@ set_out-requires-clause-size c =
     let old = c.args.self.now in
     let mine : Kept = record { ask = old.ask; field = old.search.field } in
     let there = f.kept c.args.place mine c.requires.place in
-    subst (λ (d : Distances). HasSize old.search.tolls.terrain.width old.search.tolls.terrain.height d.labels)
+    subst (λ (d : Distances). HasSize old.search.entry_costs.terrain.width old.search.entry_costs.terrain.height d.labels)
     (sym (c.exchange-found.ensures.field mine)) there.size
 
 pub set_out-requires-clause-going : goal.set_out-requires-clause-going
@@ -24,7 +24,7 @@ set_out-requires-clause-going c = λ known.
     let old = c.args.self.now in
     let mine : Kept = record { ask = old.ask; field = old.search.field } in
     let there = f.kept c.args.place mine c.requires.place in
-    found-going old.search.tolls.terrain.width old.search.tolls.terrain.height old.search.tolls.terrain old.search.tolls.built _
+    found-going old.search.entry_costs.terrain.width old.search.entry_costs.terrain.height old.search.entry_costs.terrain old.search.entry_costs.built _
     c.exchange-found.result c.exchange-found.new.field c.args.ask.now there (c.exchange-found.ensures.found mine)
     (c.exchange-found.ensures.field mine) (c.is_known-known.ensures known)
 
@@ -32,28 +32,28 @@ pub returns-clause-fields : goal.returns-clause-fields
 returns-clause-fields c =
     let f = c.requires.fields in
     let old = c.args.self.now in
-    let w = old.search.tolls.terrain.width in
-    let h = old.search.tolls.terrain.height in
+    let w = old.search.entry_costs.terrain.width in
+    let h = old.search.entry_costs.terrain.height in
     let new = c.set_out.new.self in
     let room : Kept = record { ask = None; field = old.search.field } in
     record {
-      terrain = subst (λ (g : Ground). HasSize w h g.terrain) (sym c.set_out.ensures.tolls) f.terrain;
+      terrain = subst (λ (g : Ground). HasSize w h g.terrain) (sym c.set_out.ensures.entry_costs) f.terrain;
       size = c.set_out.ensures.size;
       room = c.set_out.ensures.room ∙ f.room;
       search = for-own new c.args.ask.now (record {
-        tolls = turned new.tolls old.search.tolls c.args.ask.now.costs c.args.ask.now.goal c.set_out.ensures.tolls;
+        entry_costs = turned new.entry_costs old.search.entry_costs c.args.ask.now.costs c.args.ask.now.goal c.set_out.ensures.entry_costs;
         going = c.set_out.ensures.search;
       });
-      kept = subst (λ (g : Ground). All (IsKept w h g.terrain g.built) c.exchange-found.new.kept.items) (sym c.set_out.ensures.tolls)
-          (kept-set w h old.search.tolls.terrain old.search.tolls.built old.kept.items c.exchange-found.new.kept.items
+      kept = subst (λ (g : Ground). All (IsKept w h g.terrain g.built) c.exchange-found.new.kept.items) (sym c.set_out.ensures.entry_costs)
+          (kept-set w h old.search.entry_costs.terrain old.search.entry_costs.built old.kept.items c.exchange-found.new.kept.items
           c.args.place room f.kept (record { size = f.size; going = tt }) c.exchange-found.ensures.kept);
       place = rw (c.exchange-found.ensures.kept, length-set old.kept.items c.args.place room) c.requires.place;
     }
 
 pub returns-clause-search : goal.returns-clause-search
 returns-clause-search c = record {
-  tolls = turned c.set_out.new.self.tolls c.args.self.now.search.tolls c.args.ask.now.costs c.args.ask.now.goal
-      c.set_out.ensures.tolls;
+  entry_costs = turned c.set_out.new.self.entry_costs c.args.self.now.search.entry_costs c.args.ask.now.costs c.args.ask.now.goal
+      c.set_out.ensures.entry_costs;
   going = c.set_out.ensures.search;
 }
 

@@ -9,7 +9,7 @@ returns-clause-found c =
     let found = c.requires.found in
     record {
       fields = found.fields;
-      known = put_best search.tolls.terrain search.tolls.built c.args.self.now.known.walks.items c.put.new.self.walks.items
+      known = put_best search.entry_costs.terrain search.entry_costs.built c.args.self.now.known.walks.items c.put.new.self.walks.items
           c.walk_from-walk.result found.known c.walk_from-walk.ensures.best c.put.ensures;
     }
 

@@ -1,7 +1,7 @@
 use Rattle.std.proofs.Common.{◌<◌, arith}
 use Rattle.grid_routes.specs.declared.field.TheConstants.{NONE}
 use Rattle.grid_routes.specs.Labels.{label_of}
-use Rattle.grid_routes.specs.Tolls.{toll_in}
+use Rattle.grid_routes.specs.EntryCosts.{entry_cost_in}
 use Rattle.grid_routes.proofs.Expanding.{expanded-free}
 use Rattle.grid_routes.proofs.Lowering.{lowers-refl}
 use Rattle.grid_routes.proofs.Filling.{labelled-on}
@@ -30,12 +30,12 @@ spread-requires-clause-here c =
     rw (c.width-width.ensures, c.height-height.ensures)
     (record { on = labelled-on c.args.self.now.field.labels c.args.q less; at = c.place-at.ensures })
 
-pub returns-else-toll-gt0-clause-lowers : goal.returns-else-toll-gt0-clause-lowers
-returns-else-toll-gt0-clause-lowers c =
-    lowers-refl (toll_in c.args.self.now.tolls) c.args.level c.args.self.now.field.labels
+pub returns-else-entry_cost-gt0-clause-lowers : goal.returns-else-entry_cost-gt0-clause-lowers
+returns-else-entry_cost-gt0-clause-lowers c =
+    lowers-refl (entry_cost_in c.args.self.now.entry_costs) c.args.level c.args.self.now.field.labels
     c.args.self.now.buckets
 
-pub returns-else-toll-gt0-clause-done : goal.returns-else-toll-gt0-clause-done
-returns-else-toll-gt0-clause-done c =
-    expanded-free (toll_in c.args.self.now.tolls) c.args.self.now.field.labels c.args.level c.args.q
-    (omega (arith, c.toll.ensures.value))
+pub returns-else-entry_cost-gt0-clause-done : goal.returns-else-entry_cost-gt0-clause-done
+returns-else-entry_cost-gt0-clause-done c =
+    expanded-free (entry_cost_in c.args.self.now.entry_costs) c.args.self.now.field.labels c.args.level c.args.q
+    (omega (arith, c.entry_cost.ensures.value))

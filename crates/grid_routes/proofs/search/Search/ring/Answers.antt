@@ -12,7 +12,7 @@ loop-i-preserved c =
       | then-label-level w ↦
           rw w.self-is
           (ringed-step _ _ _ _ _ _ _ _ _ c.loop-i.invariant c.get-q.ensures.whole c.get-q.ensures.here _ _ _
-          w.expand.ensures.tolls w.expand.ensures.level w.expand.ensures.lowers w.expand.ensures.done)
+          w.expand.ensures.entry_costs w.expand.ensures.level w.expand.ensures.lowers w.expand.ensures.done)
       | else-label-level w ↦
           rw w.self-is
           (ringed-skip _ _ _ _ _ _ _ _ _ c.loop-i.invariant c.get-q.ensures.whole c.get-q.ensures.here

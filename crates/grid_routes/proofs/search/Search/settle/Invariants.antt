@@ -1,13 +1,13 @@
 use Rattle.std.proofs.Common.{◌≡◌}
 use Rattle.game_model.specs.Grid.{HasSize}
-use Rattle.grid_routes.specs.Tolls.{toll_in}
+use Rattle.grid_routes.specs.EntryCosts.{entry_cost_in}
 use Rattle.grid_routes.specs.Steps.{IsSearch, rings_left}
 use Rattle.grid_routes.proofs.search.Search.settle.Given as goal
 
 abbrev pub invariant-loop-from : goal.invariant-loop-from
 invariant-loop-from l =
-    (l.self.tolls ≡ l.fn.self.tolls)
-    × IsSearch (record { toll = toll_in l.self.tolls; goal = l.goal }) l.self.field l.self.buckets
+    (l.self.entry_costs ≡ l.fn.self.entry_costs)
+    × IsSearch (record { entry_cost = entry_cost_in l.self.entry_costs; goal = l.goal }) l.self.field l.self.buckets
     × HasSize l.fn.self.field.labels.width l.fn.self.field.labels.height l.self.field.labels
 
 abbrev pub decreases-loop-from : goal.decreases-loop-from

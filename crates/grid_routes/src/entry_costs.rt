@@ -2,14 +2,14 @@ ghost use Rattle.std.specs.Prelude.{◌≡◌, ◌↔◌, ◌<◌, ◌≤◌, �
 ghost use Rattle.std.specs.Prelude.{nat_lt, slice_index_or};
 ghost use Rattle.world_units.specs.Directions.{step_of};
 ghost use Rattle.game_model.specs.Grid.{HasSize};
-ghost use Rattle.game_model.specs.Walks.{fare_of, is_free};
+ghost use Rattle.game_model.specs.Walks.{step_cost_of, is_free};
 ghost use Rattle.grid_routes.specs.Beside.{IsPlaced};
-ghost use Rattle.grid_routes.specs.Fares.{AreFares, fares_by};
+ghost use Rattle.grid_routes.specs.StepCosts.{AreStepCosts, step_costs_by};
 ghost use Rattle.grid_routes.specs.Footing.{charges_of};
-ghost use Rattle.grid_routes.specs.Tolls.{IsCheap, IsGround, toll_in};
+ghost use Rattle.grid_routes.specs.EntryCosts.{IsCheap, IsGround, entry_cost_in};
 
 use crate::beside::Placed;
-use crate::fares::{Corners, Fares};
+use crate::step_costs::{Corners, StepCosts};
 use crate::surface::Surface;
 use base::NoMemory;
 use game_model::{Blocks, Map, Tiles};
@@ -30,7 +30,7 @@ const TERRAINS: usize = 5;
 /// What it costs to enter each cell of a map on the way to a goal, 0 to 10: 0 where it can't be
 /// entered.
 #[derive(Drop)]
-pub(crate) struct Tolls {
+pub(crate) struct EntryCosts {
     /// The terrain of the map, which is kept from one question to the next.
     terrain: Tiles,
     /// Its buildings, likewise.
@@ -45,8 +45,8 @@ pub(crate) struct Tolls {
     charges: [u8; TERRAINS],
 }
 
-impl Model for Tolls {
-    ghost use Rattle.grid_routes.specs.Tolls.{AreTolls, Ground};
+impl Model for EntryCosts {
+    ghost use Rattle.grid_routes.specs.EntryCosts.{AreEntryCosts, Ground};
 
     ghost Value = { Ground };
 
@@ -58,14 +58,14 @@ impl Model for Tolls {
           t.goal;
     } };
 
-    ghost invariant = { λ t. AreTolls (record
+    ghost invariant = { λ t. AreEntryCosts (record
         { terrain = t.terrain; built = t.blocks; costs = t.costs; goal = t.goal }) t.surface t.charges };
 }
 
-impl Tolls {
-    /// The tolls of clear ground that can't be entered. Out of memory is its only error.
-    pub(crate) fn create(alloc: Global, w: u8, h: u8) -> Result<Tolls, NoMemory>
-        ensures { IfOk result (λ tolls. HasSize w h tolls.terrain) }
+impl EntryCosts {
+    /// The entry costs of clear ground that can't be entered. Out of memory is its only error.
+    pub(crate) fn create(alloc: Global, w: u8, h: u8) -> Result<EntryCosts, NoMemory>
+        ensures { IfOk result (λ entry_costs. HasSize w h entry_costs.terrain) }
     {
         let terrain = Tiles::create(alloc, w, h)?;
         let blocks = Blocks::create(alloc, w, h)?;
@@ -78,7 +78,7 @@ impl Tolls {
             rough: 0,
             water: 0,
         };
-        Ok(Tolls {
+        Ok(EntryCosts {
             terrain,
             blocks,
             costs,
@@ -130,8 +130,8 @@ impl Tolls {
 
     /// What it costs to enter a cell, 0 where it can't be entered or isn't on the map.
     #[inline(always)]
-    pub(crate) fn toll(&self, p: CPos) -> u8
-        ensures value { result ≡ toll_in self.now p }
+    pub(crate) fn entry_cost(&self, p: CPos) -> u8
+        ensures value { result ≡ entry_cost_in self.now p }
         ensures cheap { result ≤ 10 }
     {
         charge(&self.charges, self.surface.at(p))
@@ -141,25 +141,25 @@ impl Tolls {
     #[inline(always)]
     fn is_free(&self, p: CPos, d: u8) -> bool
         requires { d < 8 }
-        ensures { result ≡ is_free (toll_in self.now) (step_of p d) }
+        ensures { result ≡ is_free (entry_cost_in self.now) (step_of p d) }
     {
         match step(p, d) {
-            Some(q) => self.toll(q) > 0,
+            Some(q) => self.entry_cost(q) > 0,
             None => false,
         }
     }
 
     /// What the step from a cell in direction `d` costs that enters `q`, 0 where it isn't allowed.
-    #[tactic(auto, unfolding(game_model::specs::Walks::fare_of))]
-    pub(crate) fn fare(&self, p: CPos, d: u8, q: CPos) -> u32
+    #[tactic(auto, unfolding(game_model::specs::Walks::step_cost_of))]
+    pub(crate) fn step_cost(&self, p: CPos, d: u8, q: CPos) -> u32
         requires { d < 8 }
-        ensures value { result ≡ fare_of (toll_in self.now) p d q }
+        ensures value { result ≡ step_cost_of (entry_cost_in self.now) p d q }
         ensures cheap { result ≤ 70 }
     {
         if d % 2 == 0 {
-            STRAIGHT * u32::from(self.toll(q))
+            STRAIGHT * u32::from(self.entry_cost(q))
         } else if self.is_free(p, (d + 1) % DIRECTIONS) && self.is_free(p, (d + 7) % DIRECTIONS) {
-            ACROSS * u32::from(self.toll(q))
+            ACROSS * u32::from(self.entry_cost(q))
         } else {
             0
         }
@@ -175,23 +175,23 @@ impl Tolls {
 
     /// What it costs to enter a cell at its place on the map, 0 where it can't be entered.
     #[inline(always)]
-    pub(crate) fn toll_at(&self, q: Placed, width: u8, height: u8) -> u8
+    pub(crate) fn entry_cost_at(&self, q: Placed, width: u8, height: u8) -> u8
         requires size { HasSize width height self.now.terrain }
         requires here { IsPlaced width height q }
-        ensures value { result ≡ toll_in self.now q.cell }
+        ensures value { result ≡ entry_cost_in self.now q.cell }
         ensures cheap { result ≤ 10 }
     {
         charge(&self.charges, self.surface.at_placed(q, width, height))
     }
 
-    /// Across which corners the cell at a place of the map, of this toll, can be entered.
+    /// Across which corners the cell at a place of the map, of this entry cost, can be entered.
     #[inline(always)]
-    pub(crate) fn corners(&self, q: Placed, toll: u32, width: u8, height: u8) -> Corners
+    pub(crate) fn corners(&self, q: Placed, entry_cost: u32, width: u8, height: u8) -> Corners
         requires size { HasSize width height self.now.terrain }
         requires here { IsPlaced width height q }
-        requires toll { toll ≡ toll_in self.now q.cell }
-        requires cheap { toll ≤ 10 }
-        ensures { AreFares (toll_in self.now) q.cell (fares_by toll result) }
+        requires entry_cost { entry_cost ≡ entry_cost_in self.now q.cell }
+        requires cheap { entry_cost ≤ 10 }
+        ensures { AreStepCosts (entry_cost_in self.now) q.cell (step_costs_by entry_cost result) }
     {
         let around = self.surface.around_placed(q, width, height);
         let north = is_open(&self.charges, around.north);
@@ -208,22 +208,22 @@ impl Tolls {
 
     /// What the steps into a cell cost from its neighbours.
     #[inline(always)]
-    pub(crate) fn fares(&self, q: CPos) -> Fares
-        ensures { AreFares (toll_in self.now) q result }
+    pub(crate) fn step_costs(&self, q: CPos) -> StepCosts
+        ensures { AreStepCosts (entry_cost_in self.now) q result }
     {
-        let toll = u32::from(self.toll(q));
-        let across = ACROSS * toll;
+        let entry_cost = u32::from(self.entry_cost(q));
+        let across = ACROSS * entry_cost;
         let around = self.surface.around(q);
         let north = is_open(&self.charges, around.north);
         let east = is_open(&self.charges, around.east);
         let south = is_open(&self.charges, around.south);
         let west = is_open(&self.charges, around.west);
-        Fares {
-            straight: STRAIGHT * toll,
-            north_east: fare_between(north, east, across),
-            south_east: fare_between(east, south, across),
-            south_west: fare_between(south, west, across),
-            north_west: fare_between(west, north, across),
+        StepCosts {
+            straight: STRAIGHT * entry_cost,
+            north_east: step_cost_between(north, east, across),
+            south_east: step_cost_between(east, south, across),
+            south_west: step_cost_between(south, west, across),
+            north_west: step_cost_between(west, north, across),
         }
     }
 }
@@ -237,10 +237,10 @@ fn are_both(left: bool, right: bool) -> bool
 }
 
 /// What a step across a corner costs, 0 where a cell beside it isn't free.
-fn fare_between(left: bool, right: bool, fare: u32) -> u32
-    ensures { result ≡ if left && right then fare else 0 }
+fn step_cost_between(left: bool, right: bool, step_cost: u32) -> u32
+    ensures { result ≡ if left && right then step_cost else 0 }
 {
-    if left && right { fare } else { 0 }
+    if left && right { step_cost } else { 0 }
 }
 
 /// What entering each terrain costs, by its number.

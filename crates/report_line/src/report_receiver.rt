@@ -11,7 +11,7 @@ use std::sync::Arc;
 /// The one that hears what the ends of its queue push. Contracts see it as the list of what it
 /// heard, with the lists that the ends pushed that were joined to it (`specs/Reports.antt`).
 #[derive(Drop)]
-pub struct Hearer {
+pub struct ReportReceiver {
     pub(crate) line: Arc<Line>,
     pub(crate) pass: SegPass<Heard, Known>,
     ghost of_line: { IsSegPassOf (arc_value line).queue pass },

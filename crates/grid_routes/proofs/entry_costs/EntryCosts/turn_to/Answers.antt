@@ -1,6 +1,6 @@
 use Rattle.std.proofs.Common.{◌∙◌}
 use Rattle.grid_routes.proofs.Entering.{turned-footing}
-use Rattle.grid_routes.proofs.tolls.Tolls.turn_to.Goals as goal
+use Rattle.grid_routes.proofs.entry_costs.EntryCosts.turn_to.Goals as goal
 
 pub invariant_of-self : goal.invariant_of-self
 invariant_of-self c =

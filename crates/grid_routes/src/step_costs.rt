@@ -1,6 +1,6 @@
 /// What it costs to enter a cell from its neighbours, 0 to 70: 0 where it can't be entered so.
 #[derive(Clone, Copy)]
-pub(crate) struct Fares {
+pub(crate) struct StepCosts {
     /// From each neighbour that shares a side.
     pub(crate) straight: u32,
     /// From the neighbour in the north-east, and so on.

@@ -44,12 +44,12 @@ pub record IsLate (session : Session) (packet : Up) (at : ℕ) : Type 0 where
 
 -- What an answer to a packet says of the client's session before it and after it: it goes on with
 -- the packet; or it ends there, as its own packets have it; or the packet is late; or memory ran out.
-abbrev pub HeedMeans : ℕ → Session → Up → Session → Option ReaderEnd → Type 0
-HeedMeans client old packet new None = after_up client old packet ≡ Ok new
-HeedMeans client old packet new (Some end.Ended) =
+abbrev pub HandlingMeans : ℕ → Session → Up → Session → Option ReaderEnd → Type 0
+HandlingMeans client old packet new None = after_up client old packet ≡ Ok new
+HandlingMeans client old packet new (Some end.Ended) =
     (new ≡ old) × (after_up client old packet ≡ Err ending.Bye)
-HeedMeans client old packet new (Some (end.Refused cause)) =
+HandlingMeans client old packet new (Some (end.Refused cause)) =
     (new ≡ old) × (after_up client old packet ≡ Err (ending.Refused cause))
-HeedMeans client old packet new (Some (end.LeftAt at)) = (new ≡ old) × IsLate old packet at
-HeedMeans client old packet new (Some end.Lost) = ⊥
-HeedMeans client old packet new (Some end.NoMemory) = new ≡ old
+HandlingMeans client old packet new (Some (end.LeftAt at)) = (new ≡ old) × IsLate old packet at
+HandlingMeans client old packet new (Some end.Lost) = ⊥
+HandlingMeans client old packet new (Some end.NoMemory) = new ≡ old

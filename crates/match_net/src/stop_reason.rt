@@ -1,7 +1,7 @@
 use crate::play_cause::PlayCause;
 
 /// How what comes down to a player ends its match. It stands in contracts alone.
-pub enum Halt {
+pub enum StopReason {
     /// The match is over.
     Over,
     /// The server refused the player with this code.

@@ -4,13 +4,13 @@ use std::marker::Model;
 
 /// A link that is served: its halves, and what it is served with.
 #[derive(Drop)]
-pub(crate) struct LinkPiece<I: Source + Drop, O: Sink + Drop> {
+pub(crate) struct ServedLink<I: Source + Drop, O: Sink + Drop> {
     pub input: I,
     pub output: O,
     pub seat: LinkSeat,
 }
 
-impl<I: Source + Drop, O: Sink + Drop> Model for LinkPiece<I, O> {
+impl<I: Source + Drop, O: Sink + Drop> Model for ServedLink<I, O> {
     ghost use Rattle.match_serve.specs.Seats.{PieceState};
 
     ghost Value = { PieceState };

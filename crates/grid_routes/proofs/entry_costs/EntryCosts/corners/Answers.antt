@@ -1,0 +1,27 @@
+use Rattle.std.proofs.Common.{◌≡◌, ℕ, ◌*◌, Bool, cond, nat_lt, get_or, Option, ap, refl, subst, arith}
+use Rattle.world_units.specs.declared.cell.CPos.{CPos}
+use Rattle.world_units.specs.Directions.{step_of}
+use Rattle.game_model.specs.Walks.{is_free}
+use Rattle.grid_routes.specs.EntryCosts.{Ground, entry_cost_in}
+use Rattle.grid_routes.specs.Around.{number_in}
+use Rattle.grid_routes.proofs.Entering.{all-step_costs, open-read}
+use Rattle.grid_routes.proofs.entry_costs.EntryCosts.corners.Goals as goal
+
+pub returns : goal.returns
+returns c =
+    let entry_costs = c.self.inside in
+    let free : (o : Option CPos) (n : ℕ) (b : Bool) → b ≡ nat_lt 0 (get_or entry_costs.charges n 0) →
+    n ≡ number_in entry_costs.surface o → b ≡ is_free (entry_cost_in c.args.self.now) o =
+    λ o n b is at.
+    subst (λ (g : Ground). b ≡ is_free (entry_cost_in g) o) c.self.view_is
+    (open-read _ entry_costs.surface entry_costs.charges o n b c.self.invariant is at) in
+    let around = c.around_placed-around.ensures in
+    let across : Bool → ℕ = λ b. cond b (7 * c.args.entry_cost) 0 in
+    all-step_costs (entry_cost_in c.args.self.now) c.args.q.cell (omega arith) (omega arith) c.args.entry_cost c.is_open-north.result
+    c.is_open-east.result c.is_open-south.result c.is_open-west.result
+    (free (step_of c.args.q.cell 0) _ _ c.is_open-north.ensures around.north)
+    (free (step_of c.args.q.cell 2) _ _ c.is_open-east.ensures around.east)
+    (free (step_of c.args.q.cell 4) _ _ c.is_open-south.ensures around.south)
+    (free (step_of c.args.q.cell 6) _ _ c.is_open-west.ensures around.west) c.requires.entry_cost c.requires.cheap _ refl
+    (ap across c.are_both.ensures) (ap across c.are_both-2.ensures) (ap across c.are_both-3.ensures)
+    (ap across c.are_both-4.ensures)
