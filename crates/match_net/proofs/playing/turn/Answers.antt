@@ -6,7 +6,7 @@ returns-in-Ok-Packet-clause-means g c =
     λ made rules first before so_far.
     turn_packet _ first _ _ before _ _ _ _ _ _ _ _ _ _ c.in-Ok-Packet.field-0-is
     (λ packets stream. c.in-Ok-Packet.ensures.means first packets stream)
-    c.handle_packet.ensures.handles c.handle_packet.ensures.err so_far
+    c.act_on.ensures.handles c.act_on.ensures.err so_far
 
 pub returns-in-Ok-Bad-clause-means : goal.returns-in-Ok-Bad-clause-means
 returns-in-Ok-Bad-clause-means g c =
