@@ -11,6 +11,7 @@ pub mod BestDirection
 pub mod ActorChanges
 pub mod ValidMap
 pub mod ValidWorld
+pub mod NearestActor
 pub mod Buildings
 pub mod StartLemmas
 pub mod FoundLemmas

@@ -11,6 +11,7 @@ use Rattle.activities.specs.declared.activity.Activity.TheVariants.{Move, Attack
 use Rattle.activities.specs.declared.queue.TheConstants.{MAX_ACTIVITIES}
 use Rattle.rule_traits.specs.declared.kind.Kind.{Kind}
 use Rattle.rule_traits.specs.Rules.{kind_at, hp_of, moves}
+use Rattle.game_orders.specs.declared.limits.TheConstants.{MAX_FRAMES}
 use Rattle.game_model.specs.declared.actor.Actor.{Actor}
 use Rattle.game_model.specs.declared.actor.Body.{Body}
 use Rattle.game_model.specs.declared.actor.Leg.{Leg}
@@ -121,3 +122,8 @@ pub record IsWorldWithin (setup : Setup) (least most draws : ℕ) (w : World) : 
 abbrev pub IsValidWorld : Setup → (frames : ℕ) → World → Type 0
 IsValidWorld setup frames w =
     IsWorldWithin setup frames (MAX_PACE * frames) (MAX_DRAWS * frames) w
+
+-- A valid world of a match, which has at most `MAX_FRAMES` frames: one that can be saved.
+pub record IsSavedWorld (setup : Setup) (frames : ℕ) (w : World) : Type 0 where
+  pub count : frames ≤ MAX_FRAMES
+  pub valid : IsValidWorld setup frames w
