@@ -43,8 +43,9 @@ impl Pause {
         self.looks = 0;
     }
 
-    /// A look has found nothing: other threads may run before the next one, and from the look
-    /// [`SPINS_BEFORE_SLEEP`] on the thread sleeps.
+    /// Call it after a look that found nothing. It yields the processor to other threads, or, once
+    /// [`SPINS_BEFORE_SLEEP`] looks in a row had found nothing before, sleeps [`NAP_MICROS`]
+    /// millionths of a second.
     pub fn rest<R: Wait>(&mut self, rt: &R)
         ensures count { self.new ≡ min (self.old + 1) SPINS_BEFORE_SLEEP }
     {

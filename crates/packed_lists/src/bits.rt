@@ -46,7 +46,7 @@ impl Bits {
         Ok(Bits { len, words })
     }
 
-    /// The i-th flag, which is there.
+    /// The flag at `i`, which is below the length.
     pub fn get(&self, i: usize) -> bool
         requires { i < length self.now }
         ensures { slice_get self.now i ≡ Some result }
@@ -54,7 +54,7 @@ impl Bits {
         digit(self.words[i / PER_WORD], 1, (i % PER_WORD) as u32) == 1
     }
 
-    /// Sets the i-th flag, which is there. The others stay.
+    /// Sets the flag at `i`, which is below the length. The others stay.
     pub fn set(&mut self, i: usize, on: bool)
         requires { i < length self.old }
         ensures { self.new ≡ slice_set self.old i on }

@@ -43,7 +43,7 @@ impl Nibbles {
         Ok(Nibbles { len, words })
     }
 
-    /// The i-th number, which is there.
+    /// The number at `i`, which is below the length.
     pub fn get(&self, i: usize) -> u8
         requires { i < length self.now }
         ensures value { slice_get self.now i ≡ Some result }
@@ -52,7 +52,7 @@ impl Nibbles {
         digit(self.words[i / PER_WORD], BITS, (i % PER_WORD) as u32) as u8
     }
 
-    /// Sets the i-th number, which is there. The others stay.
+    /// Sets the number at `i`, which is below the length. The others stay.
     pub fn set(&mut self, i: usize, value: u8)
         requires within { i < length self.old }
         requires small { value ≤ MAX_NIBBLE }

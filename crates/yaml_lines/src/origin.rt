@@ -18,7 +18,7 @@ pub struct Origin<'a> {
 }
 
 impl<'a> Origin<'a> {
-    /// Where the rest of a part begins, of which only its end is left.
+    /// Where `rest` begins, which is the end of `part`, where `part` begins here.
     pub fn of_rest(self, part: &[u8], rest: &[u8]) -> Origin<'a> {
         let cut = part.len().saturating_sub(rest.len());
         Origin {

@@ -35,7 +35,8 @@ pub struct Walked {
 }
 
 impl Walked {
-    /// None of so many.
+    /// The places of a tree with so many top-level nodes, before any is walked over. Out of memory
+    /// is its only error.
     pub fn none(alloc: Global, nodes: usize) -> Result<Walked, NoMemory> {
         let mut entered: Vec<bool> = Vec::new(alloc);
         entered.resize(nodes, false)?;
