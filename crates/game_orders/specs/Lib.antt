@@ -1,6 +1,7 @@
 pub mod Order
 pub mod OrderLemmas
 pub mod Entry
+pub mod HeldOrders
 pub mod EntryLemmas
 pub mod OrderBytes
 pub mod OrderReading

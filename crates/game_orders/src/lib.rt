@@ -13,6 +13,7 @@
 
 mod entry;
 mod frame;
+mod held_orders;
 mod law;
 mod limits;
 mod order;

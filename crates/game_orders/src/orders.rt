@@ -2,7 +2,9 @@ ghost use Rattle.std.specs.Prelude.{◌≡◌, ◌+◌, ◌<◌, ◌≤◌, ◌�
 ghost use Rattle.std.specs.Prelude.{slice_get};
 ghost use Rattle.std.specs.Option.{option_copied};
 ghost use Rattle.std.specs.Bool.{OnTrue, OnFalse};
+ghost use Rattle.game_orders.specs.HeldOrders.{orders_of};
 
+use crate::held_orders::HeldOrders;
 use crate::limits::{MAX_ORDERS, ORDERS_ROOM};
 use crate::order::Order;
 use arrayvec::ArrayVec;
@@ -12,19 +14,20 @@ use std::marker::Model;
 /// applied.
 #[derive(Debug, Drop)]
 pub struct Orders {
-    held: ArrayVec<Order, ORDERS_ROOM>,
+    held: HeldOrders,
 }
 
 impl Model for Orders {
     ghost use Rattle.std.specs.Prelude.{List, ◌≤◌, length};
     ghost use Rattle.game_orders.specs.declared.order.Order.{Order};
     ghost use Rattle.game_orders.specs.declared.limits.TheConstants.{MAX_ORDERS};
+    ghost use Rattle.game_orders.specs.HeldOrders.{orders_of};
 
     ghost Value = { List Order };
 
-    ghost view = { λ orders. orders.held.items };
+    ghost view = { λ orders. orders_of orders.held };
 
-    ghost invariant = { λ orders. length orders.held.items ≤ MAX_ORDERS };
+    ghost invariant = { λ orders. length (orders_of orders.held) ≤ MAX_ORDERS };
 }
 
 impl Orders {
@@ -33,7 +36,7 @@ impl Orders {
         ensures { result ≡ [] }
     {
         Orders {
-            held: ArrayVec::new(),
+            held: HeldOrders::Nothing,
         }
     }
 
@@ -43,8 +46,8 @@ impl Orders {
         ensures added { OnTrue result (self.new ≡ self.old ++ o ∷ []) }
         ensures full { OnFalse result (self.new ≡ self.old) }
     {
-        if self.held.len() < ORDERS_ROOM {
-            self.held.push(o);
+        if self.len() < ORDERS_ROOM {
+            self.push(o);
             true
         } else {
             false
@@ -56,7 +59,7 @@ impl Orders {
         requires { length self.old < MAX_ORDERS }
         ensures { self.new ≡ self.old ++ o ∷ [] }
     {
-        self.held.push(o);
+        add(&mut self.held, o);
     }
 
     /// Puts these orders, at most [`MAX_ORDERS`], in the place of those that are there.
@@ -64,10 +67,7 @@ impl Orders {
         requires { length orders.now ≤ MAX_ORDERS }
         ensures { self.new ≡ orders.now }
     {
-        self.held.clear();
-        let Ok(()) = self.held.try_extend_from_slice(orders) else {
-            unreachable!()
-        };
+        put(&mut self.held, orders);
     }
 
     /// The number of orders, at most [`MAX_ORDERS`].
@@ -75,15 +75,14 @@ impl Orders {
         ensures value { result ≡ length self.now }
         ensures limit { result ≤ MAX_ORDERS }
     {
-        let _held = &self.held;
-        self.held.len()
+        self.as_slice().len()
     }
 
     /// True where there is none.
     pub fn is_empty(&self) -> bool
         ensures { IsTrue result ↔ (self.now ≡ []) }
     {
-        self.held.is_empty()
+        self.as_slice().is_empty()
     }
 
     /// The i-th order, from 0. None exactly where `i` is the length or more.
@@ -91,7 +90,7 @@ impl Orders {
         ensures value { option_copied result ≡ slice_get self.now i }
         ensures past { IfNone result (length self.now ≤ i) }
     {
-        self.held.as_slice().get(i)
+        self.as_slice().get(i)
     }
 
     /// The orders, in the order in which they are applied.
@@ -99,20 +98,95 @@ impl Orders {
         ensures value { result.now ≡ self.now }
         ensures limit { length result.now ≤ MAX_ORDERS }
     {
-        let _held = &self.held;
-        self.held.as_slice()
+        lent(&self.held)
     }
 
     /// The same orders once more.
     pub fn copy(&self) -> Orders
         ensures { result ≡ self.now }
     {
-        let mut held = ArrayVec::new();
-        for order in self.held.as_slice() {
-            held.push(*order);
+        Orders {
+            held: held_of(self.as_slice()),
         }
-        Orders { held }
     }
+}
+
+/// The orders, where they stand.
+fn lent(held: &HeldOrders) -> &[Order]
+    ensures { result.now ≡ orders_of held.now }
+{
+    match held {
+        HeldOrders::Nothing => [].as_slice(),
+        HeldOrders::One(order) => std::slice::from_ref(order),
+        HeldOrders::More(orders) => orders.as_slice(),
+    }
+}
+
+/// Adds an order last.
+fn add(held: &mut HeldOrders, o: Order)
+    requires { length (orders_of held.old) < MAX_ORDERS }
+    ensures { orders_of held.new ≡ orders_of held.old ++ o ∷ [] }
+{
+    match held {
+        HeldOrders::Nothing => *held = HeldOrders::One(o),
+        HeldOrders::One(first) => *held = HeldOrders::More(both(*first, o)),
+        HeldOrders::More(orders) => orders.push(o),
+    }
+}
+
+/// Two orders, with room for more.
+fn both(first: Order, second: Order) -> ArrayVec<Order, ORDERS_ROOM>
+    ensures { result.items ≡ first ∷ second ∷ [] }
+{
+    let mut orders = ArrayVec::new();
+    orders.push(first);
+    orders.push(second);
+    orders
+}
+
+/// Puts these orders in the place of those that are held, where there is room for them.
+fn put(held: &mut HeldOrders, orders: &[Order])
+    requires { length orders.now ≤ MAX_ORDERS }
+    ensures { orders_of held.new ≡ orders.now }
+{
+    if let HeldOrders::More(own) = held {
+        own.clear();
+        extend(own, orders);
+    } else {
+        *held = held_of(orders);
+    }
+}
+
+/// These orders, in as little room as they need.
+fn held_of(orders: &[Order]) -> HeldOrders
+    requires { length orders.now ≤ MAX_ORDERS }
+    ensures { orders_of result ≡ orders.now }
+{
+    match orders {
+        [] => HeldOrders::Nothing,
+        [order] => HeldOrders::One(*order),
+        _ => HeldOrders::More(room_of(orders)),
+    }
+}
+
+/// These orders, with room for more.
+fn room_of(orders: &[Order]) -> ArrayVec<Order, ORDERS_ROOM>
+    requires { length orders.now ≤ MAX_ORDERS }
+    ensures { result.items ≡ orders.now }
+{
+    let mut room = ArrayVec::new();
+    extend(&mut room, orders);
+    room
+}
+
+/// Adds these orders, for which there is room.
+fn extend(room: &mut ArrayVec<Order, ORDERS_ROOM>, orders: &[Order])
+    requires { length room.old.items + length orders.now ≤ MAX_ORDERS }
+    ensures { room.new.items ≡ room.old.items ++ orders.now }
+{
+    let Ok(()) = room.try_extend_from_slice(orders) else {
+        unreachable!()
+    };
 }
 
 impl PartialEq for Orders {
@@ -125,7 +199,7 @@ impl PartialEq for Orders {
     ghost laws = { partial_equiv_from_equiv (decided same_orders orders_decides) };
 
     fn eq(&self, other: &Orders) -> bool {
-        self.held.as_slice() == other.held.as_slice()
+        self.as_slice() == other.as_slice()
     }
 }
 
