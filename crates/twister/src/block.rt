@@ -1,4 +1,4 @@
-ghost use Rattle.std.specs.Prelude.{◌≡◌, ℕ, ◌+◌, ◌-◌, ◌<◌, ◌≤◌};
+ghost use Rattle.std.specs.Prelude.{◌≡◌, ℕ, ◌+◌, ◌-◌, ◌*◌, ◌<◌, ◌≤◌};
 ghost use Rattle.twister.specs.Sequence.{seeding_step, tempered_of, twisted_of, word_of, x_of};
 ghost use Rattle.twister.specs.Block.{HoldsFrom, IsRenewedTo};
 
@@ -30,6 +30,17 @@ pub fn first_block(seed: u32) -> [u32; LEN]
     let mut block = [seed; LEN];
     for i in 1..LEN {
         block[i] = seeding_word(block[i - 1], i as u32);
+    }
+    block
+}
+
+/// The block that follows so many others.
+pub fn block_after(seed: u32, blocks: u64) -> [u32; LEN]
+    ensures { HoldsFrom seed (LEN * blocks) result }
+{
+    let mut block = first_block(seed);
+    for _made in 0..blocks {
+        refill(&mut block);
     }
     block
 }

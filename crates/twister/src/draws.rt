@@ -2,7 +2,7 @@ ghost use Rattle.std.specs.Prelude.{◌≡◌, ◌-◌, ◌^◌, ◌<◌, ◌≤
 ghost use Rattle.twister.specs.Sequence.{draw_of};
 ghost use Rattle.twister.specs.Place.{word_at, after_word};
 
-use crate::block::{LEN, first_block, next_place};
+use crate::block::{LEN, block_after, first_block, next_place};
 use crate::twist::tempered;
 use std::marker::Model;
 
@@ -42,6 +42,20 @@ impl Twister {
             at: LEN,
             seed,
             drawn: 0,
+        }
+    }
+
+    /// The place after so many words of the sequence of a seed: what [`Twister::seeded`] gives, once
+    /// that many words were drawn. It takes no memory, and makes a block for each 624 of these words.
+    pub fn at(seed: u32, drawn: u64) -> Self
+        ensures { result ≡ record { seed = seed; drawn = drawn } }
+    {
+        let whole = drawn / LEN as u64;
+        Twister {
+            block: block_after(seed, whole + 1),
+            at: (drawn % LEN as u64) as usize,
+            seed,
+            drawn,
         }
     }
 

@@ -149,6 +149,8 @@ mod tests {
             }
             assert_eq!(rt; words.drawn(), 9_999);
             assert_eq!(rt; next(&mut words), Some(ten_thousandth), "of seed {seed}");
+            let mut later = Twister::at(seed, 9_999);
+            assert_eq!(rt; next(&mut later), Some(ten_thousandth), "of seed {seed}");
         }
     }
 
