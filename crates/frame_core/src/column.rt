@@ -1,9 +1,11 @@
-ghost use Rattle.std.specs.Prelude.{◌≡◌, ◌<◌, ◌≤◌, true, length, OnOk, OnErr, IfOk, IfSome};
+ghost use Rattle.std.specs.Prelude.{◌≡◌, ◌<◌, ◌≤◌, ◌++◌, ◌∷◌, [], true, length};
+ghost use Rattle.std.specs.Prelude.{OnOk, OnErr, IfOk, IfSome};
 ghost use Rattle.game_orders.specs.declared.entry.Entry.TheVariants.{Play, Leave};
 ghost use Rattle.game_orders.specs.declared.limits.TheConstants.{MAX_ORDERS};
 ghost use Rattle.game_orders.specs.Entry.{is_play, same_entry};
 ghost use Rattle.std.specs.Option.{option_copied};
 ghost use Rattle.frame_core.specs.Input.{input_of};
+ghost use Rattle.frame_core.specs.Ready.{or_leave};
 ghost use Rattle.frame_core.specs.Column.{length_of, entry_at, has_at, put_answer, put_column};
 ghost use Rattle.frame_core.specs.Column.{no_column, with_entry, leave_answer, left_column};
 
@@ -12,7 +14,7 @@ use crate::leaving::Leaving;
 use crate::put::Put;
 use crate::stored_plays::StoredPlays;
 use base::NoMemory;
-use game_orders::{Entry, MAX_FRAMES, Order};
+use game_orders::{Entry, Frame, MAX_CLIENTS, MAX_FRAMES, Order};
 use std::alloc::Global;
 use std::marker::Model;
 
@@ -20,7 +22,7 @@ use std::marker::Model;
 #[derive(Drop)]
 pub(crate) struct StoredColumn {
     plays: StoredPlays,
-    left: bool,
+    has_left: bool,
     // a departure, to be lent where it stands
     leave: Entry,
 }
@@ -33,7 +35,7 @@ impl Model for StoredColumn {
 
     ghost Value = { Column };
 
-    ghost view = { λ c. record { plays = c.plays; left = c.left } };
+    ghost view = { λ c. record { plays = c.plays; left = c.has_left } };
 
     ghost invariant = { λ c. (c.leave ≡ Leave) × (length c.plays ≤ MAX_FRAMES) };
 }
@@ -45,7 +47,7 @@ impl StoredColumn {
     {
         StoredColumn {
             plays: StoredPlays::new(alloc),
-            left: false,
+            has_left: false,
             leave: Entry::Leave,
         }
     }
@@ -59,10 +61,10 @@ impl StoredColumn {
     }
 
     /// Whether the departure stands.
-    pub(crate) fn left(&self) -> bool
+    pub(crate) fn has_left(&self) -> bool
         ensures { result ≡ self.now.left }
     {
-        self.left
+        self.has_left
     }
 
     /// The entry that stands at frame `n`.
@@ -72,7 +74,7 @@ impl StoredColumn {
         if let Some(play) = self.plays.get(n as usize) {
             return Some(play);
         }
-        if !self.left {
+        if !self.has_left {
             return None;
         }
         if n as usize != self.plays.len() {
@@ -107,7 +109,7 @@ impl StoredColumn {
             return Ok(Put::Conflict(kept.copy()));
         }
         let length = self.plays();
-        if self.left && length < n {
+        if self.has_left && length < n {
             return Ok(Put::Left(length));
         }
         if length < n {
@@ -132,13 +134,13 @@ impl StoredColumn {
             return Put::Conflict(there.copy());
         }
         let length = self.plays();
-        if self.left && length < n {
+        if self.has_left && length < n {
             return Put::Left(length);
         }
         if length < n {
             return Put::Ahead(length);
         }
-        self.left = true;
+        self.has_left = true;
         Put::Fixed
     }
 
@@ -150,7 +152,7 @@ impl StoredColumn {
         if let Some(play) = self.plays.get(n as usize) {
             return Some(play);
         }
-        if !self.left {
+        if !self.has_left {
             return None;
         }
         Some(&self.leave)
@@ -168,16 +170,27 @@ impl StoredColumn {
         }
     }
 
+    /// Adds to a frame what the client has for frame `n`, or a departure where it has nothing.
+    pub(crate) fn push_to(&self, n: u32, frame: &mut Frame)
+        requires { length frame.old < MAX_CLIENTS }
+        ensures { frame.new ≡ frame.old ++ or_leave (has_at self.now n) ∷ [] }
+    {
+        match self.has(n) {
+            Some(Entry::Play(orders)) => frame.push_play(orders.as_slice()),
+            _ => frame.push(Entry::Leave),
+        }
+    }
+
     /// Lets the client leave after its plays.
     pub(crate) fn leave(&mut self) -> Leaving
         ensures answer { result ≡ leave_answer self.old }
         ensures after { self.new ≡ left_column self.old }
     {
         let length = self.plays();
-        if self.left {
+        if self.has_left {
             return Leaving::Already(length);
         }
-        self.left = true;
+        self.has_left = true;
         Leaving::Fixed(length)
     }
 

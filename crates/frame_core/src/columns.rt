@@ -77,7 +77,7 @@ impl Columns {
         requires { c < length self.now }
         ensures { result ≡ (column_of self.now c).left }
     {
-        self.held[c as usize].left()
+        self.held[c as usize].has_left()
     }
 
     /// The entry of client `c`, which is below the number of clients, that stands at frame `n`.
@@ -158,10 +158,20 @@ impl Columns {
         ensures { result ≡ frame_at self.now n }
     {
         let mut frame = Frame::empty();
-        for column in self.held.iter() {
-            frame.push(column.has(n).map_or(Entry::Leave, Entry::copy));
-        }
+        self.fill_frame(n, &mut frame);
         frame
+    }
+
+    /// Makes of a frame the agreed frame `n`, in its place, only where that is ready. What the
+    /// frame had is gone.
+    pub fn fill_frame(&self, n: u32, frame: &mut Frame)
+        requires { ready_at self.now n ≡ Ready.Yes }
+        ensures { frame.new ≡ frame_at self.now n }
+    {
+        frame.clear();
+        for column in self.held.iter() {
+            column.push_to(n, frame);
+        }
     }
 
     /// Exchanges column `c` with column `d` of the other columns, each below the number of clients
