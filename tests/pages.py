@@ -1,0 +1,238 @@
+"""The commands of the pages, run as they stand there, each beside the text that its page shows."""
+import os, re, tempfile
+
+from harness import TOP, Ran, free_address, run, with_examples
+
+# How a command begins in a page.
+COMMAND = re.compile(r'^(?:\$ )?((?:\.\./\.\./|\./)?lockstep [^`]*)$')
+
+# Each command: its page, the command, the folder in which it is run, its status. What it prints is shown after it: in the
+# same block, or in the next one. Of a text in several commands' words, as that of the battle in the README, the page
+# shows a part; so what is shown is a piece of what is printed, and `..` in it stands for any lines, or any words.
+SHOWN = [
+    ('README.md', '../../lockstep drill --script battle.drill --map map rules.yaml', 'examples/battle', 0),
+    ('README.md', '../../lockstep replay --file battle.replay --map map rules.yaml', 'examples/battle', 0),
+    ('docs/DESYNC.md', '../../lockstep replay --file differs.replay --map map rules.yaml', 'examples/battle', 7),
+    ('docs/DESYNC.md', './lockstep drill --script examples/alarm.drill', '.', 0),
+    ('docs/FORMATS.md', './lockstep drill --script examples/one_frame.drill --record new.replay', '.', 0),
+    ('docs/FORMATS.md', './lockstep replay --file examples/one_frame.replay', '.', 0),
+    ('docs/FORMATS.md', './lockstep migrate --file examples/one_frame_old.replay --to new.replay', '.', 0),
+    ('docs/FORMATS.md', './lockstep replay --file examples/one_frame.replay --map examples/battle/map examples/battle/rules.yaml', '.', 3),
+    ('docs/LOCKSTEP.md', './lockstep local --script examples/local.script', '.', 0),
+    ('docs/MAPS.md', './lockstep check --map examples/maps/sample.map examples/maps/sample.yaml', '.', 0),
+    ('docs/MAPS.md', './lockstep route --map examples/maps/corner.map --kind unit --from 0,1 --to 2,1 examples/maps/walker.yaml', '.', 0),
+    ('docs/RULES.md', 'lockstep check jeep.yaml', 'examples/yaml', 0),
+    ('docs/RULES.md', 'lockstep check --map ../maps/sample.map ../maps/sample.yaml mod.yaml', 'examples/mod', 0),
+    ('docs/RULES.md', 'lockstep yaml ../maps/sample.yaml mod.yaml', 'examples/mod', 0),
+    ('docs/RULES.md', 'lockstep check ../maps/sample.yaml slip.yaml', 'examples/mod', 3),
+    ('docs/RULES.md', 'lockstep yaml base.yaml units.yaml', 'examples/yaml', 0),
+]
+
+# Commands that are run by a function below, and those that stand for others: their words are no files.
+TRIED = {'../../lockstep migrate --file differs.replay --to new.replay --map map rules.yaml',
+         '../../lockstep local --script my.script --map ../maps/sample.map ../maps/sample.yaml mod.yaml',
+         '../../lockstep serve --at 127.0.0.1:7070 --clients 3 --seed 9 $files </dev/null &',
+         '../../lockstep play --at 127.0.0.1:7070 --script drive.script $files & sleep 1',
+         '../../lockstep play --at 127.0.0.1:7070 --script five.script $files; wait',
+         '../../lockstep local --script all.script $files'}
+PATTERNS = re.compile(r' FILE|FILES|RULES')
+
+
+def lines_of(page):
+    with open(os.path.join(TOP, page)) as file:
+        return file.read().split('\n')
+
+
+def commands_of(lines):
+    """Each command of a page, with the place after its line."""
+    for at, line in enumerate(lines):
+        whole = COMMAND.match(line.strip()) if line.startswith('    ') else None
+        if whole:
+            yield whole[1], at + 1
+        else:
+            yield from ((it, at + 1) for it in re.findall(r'`((?:\.\./\.\./|\./)?lockstep [^`]+)`', line))
+
+
+def block_after(lines, at):
+    """The block of indented lines at or after a place, without its indent, to the next command in it."""
+    while at < len(lines) and not lines[at].startswith('    '):
+        at += 1
+    block = []
+    while at < len(lines) and (lines[at].startswith('    ') or not lines[at]) and not lines[at].startswith('    $ '):
+        block.append(lines[at][4:])
+        at += 1
+    while block and not block[-1]:
+        block.pop()
+    return block
+
+
+def is_line(got, want):
+    return got.startswith(want[:-2]) if want.endswith(' ..') else got == want
+
+
+def shows(block, printed):
+    """Whether a block shows a piece of what is printed."""
+    pieces, start = [[]], 0
+    for line in block:
+        if line == '..':
+            pieces.append([])
+        else:
+            pieces[-1].append(line)
+    for piece in pieces:
+        found = next((at for at in range(start, len(printed) - len(piece) + 1)
+                      if all(map(is_line, printed[at:], piece))), None)
+        if found is None:
+            return False
+        start = found + len(piece)
+    return bool(block)
+
+
+class Pages:
+    def __init__(self, tally, program, folder):
+        self.tally, self.top = tally, folder
+        with_examples(folder)
+        script = os.path.join(folder, 'lockstep')
+        with open(script, 'w') as file:
+            file.write(f'#!/bin/sh\nexec \'{program}\' "$@"\n')
+        os.chmod(script, 0o755)
+
+    def bash(self, line, folder):
+        line = f'PATH={self.top}:$PATH\n{line}'
+        return run('/bin/bash', ['-c', line], os.path.join(self.top, folder))
+
+    def lines(self, page, what, ran, status, block):
+        """Holds what was printed to what a page shows."""
+        printed = ran.out.decode().split('\n')
+        self.tally.same(f'{page}: {what}: status', ran.status, status)
+        self.tally.check(f'{page}: {what}', shows(block, printed), f'printed {printed}, shown {block}')
+
+    def of_shown(self):
+        for page, command, folder, status in SHOWN:
+            lines = lines_of(page)
+            places = [at for found, at in commands_of(lines) if found == command]
+            if not self.tally.check(f'{page}: has {command}', len(places) == 1, f'{len(places)} times'):
+                continue
+            self.lines(page, command, self.bash(command, folder), status, block_after(lines, places[0]))
+
+    def of_new_replays(self):
+        """What FORMATS says that two of the commands have written."""
+        with open(os.path.join(self.top, 'examples/one_frame.replay'), 'rb') as file:
+            want = file.read()
+        for command in (it[1] for it in SHOWN if 'new.replay' in it[1]):
+            self.bash(f'rm -f new.replay; {command}', '.')
+            with open(os.path.join(self.top, 'new.replay'), 'rb') as file:
+                self.tally.same(f'docs/FORMATS.md: the file of {command}', file.read(), want)
+
+    def of_untried(self):
+        """Each command of a page is tried, or a pattern."""
+        tried = TRIED | {it[1] for it in SHOWN}
+        pages = ['README.md', 'CONTRIBUTING.md', 'examples/README.md']
+        pages += sorted(f'docs/{it}' for it in os.listdir(os.path.join(TOP, 'docs')) if it.endswith('.md'))
+        for page in pages:
+            for command, _ in commands_of(lines_of(page)):
+                self.tally.check(f'{page}: {command}', command in tried or PATTERNS.search(command), 'is tried by no row of tests/pages.py')
+
+    def of_refused_drill(self):
+        """The sentence of FORMATS on a refused drill."""
+        text = ' '.join(lines_of('docs/FORMATS.md'))
+        told = re.search(r'`drill --script (\S+)` prints `([^`]+)`', text)
+        if self.tally.check('docs/FORMATS.md: a refused drill', told, 'is not told of'):
+            ran = self.bash(f'lockstep drill --script {told[1]}', '.')
+            self.tally.same('docs/FORMATS.md: a refused drill', ran, Ran(3, f'{told[2]}\n'.encode()))
+
+    def of_refused_migration(self):
+        """What DESYNC says of a replay that differs: the line `mark` as above, `end`, and no file."""
+        lines = lines_of('docs/DESYNC.md')
+        command = next(it for it in TRIED if ' migrate ' in it)
+        places = dict(reversed(list(commands_of(lines))))
+        above = block_after(lines, places[SHOWN[2][1]])
+        ran = self.bash(command, 'examples/battle')
+        self.tally.same(f'docs/DESYNC.md: {command}', ran, Ran(7, f'{above[0]}\nend\n'.encode()))
+        self.tally.check('docs/DESYNC.md: no file', not os.path.exists(f'{self.top}/examples/battle/new.replay'), 'it is there')
+
+    def of_script(self):
+        """The script of RULES that builds a scout."""
+        lines = lines_of('docs/RULES.md')
+        at = next(at for at, line in enumerate(lines) if line.endswith('as `my.script`:'))
+        with open(f'{self.top}/examples/mod/my.script', 'w') as file:
+            file.write('\n'.join(block_after(lines, at)) + '\n')
+        command = next(it for it in TRIED if 'my.script' in it)
+        told = re.search(r'prints the world has (\d+) actors, one more than the map, and ([\d,]+) cash', ' '.join(lines))
+        if self.tally.check('docs/RULES.md: what a scout makes', told, 'is not told of'):
+            ran = self.bash(command, 'examples/mod')
+            want = f' actors {told[1]} cash {told[2].replace(",", "")} '.encode()
+            self.tally.check(f'docs/RULES.md: {command}', ran.status == 0 and want in ran.out.replace(b'\n', b' '), ran)
+
+    def of_bad_maps(self):
+        """The table of MAPS: lines of a map, and how it is refused."""
+        rows = [re.match(r'\| (`.*`) \| `(refused bad\.map [^`]+)` \|$', it) for it in lines_of('docs/MAPS.md')]
+        rows = [it for it in rows if it]
+        self.tally.check('docs/MAPS.md: maps that are refused', len(rows) >= 10, f'{len(rows)} rows')
+        for row in rows:
+            lines = [it.replace('>', '\t') for it in re.findall(r'`([^`]+)`', row[1])]
+            with open(f'{self.top}/bad.map', 'w') as file:
+                file.write('\n'.join(lines) + '\n')
+            ran = self.bash('lockstep check --map bad.map examples/maps/walker.yaml', '.')
+            self.tally.same(f'docs/MAPS.md: {lines}', ran, Ran(3, f'{row[2]}\n'.encode()))
+
+    def of_bad_lines(self):
+        """The table of FORMATS: lines of a drill, and their fault."""
+        lines = lines_of('docs/FORMATS.md')
+        at = lines.index('| Line in a match of 2 clients | Fault | Why |')
+        for line in lines[at + 2:]:
+            row = re.match(r'\| `([^`]+)` \| `(\w+)` \|', line)
+            if row:
+                with open(f'{self.top}/bad.drill', 'w') as file:
+                    file.write(f'match 2 1 1\n{row[1]}\n')
+                ran = self.bash('lockstep drill --script bad.drill', '.')
+                self.tally.same(f'docs/FORMATS.md: {row[1]}', ran, Ran(3, f'refused bad.drill 2 {row[2]}\n'.encode()))
+            if not line.startswith('|'):
+                break
+
+    def of_schedule(self):
+        """The schedule of LOCKSTEP: each line of the drill, and what comes of it."""
+        lines = lines_of('docs/LOCKSTEP.md')
+        rows = [re.match(r'\| (\d+) \| `([^`]+)` \| `([^`]+)` \|', it) for it in lines]
+        rows = [it for it in rows if it]
+        with open(f'{self.top}/examples/departure.drill') as file:
+            events = [it.strip() for it in file if it.strip() and not it.startswith('#')][1:]
+        self.tally.same('docs/LOCKSTEP.md: the lines of departure.drill', [it[2] for it in rows], events)
+        ran = self.bash('lockstep drill --script examples/departure.drill', '.')
+        after = block_after(lines, lines.index('After the events these lines follow:'))
+        self.lines('docs/LOCKSTEP.md', 'departure.drill', ran, 0, [f'{it[1]} {it[3]}' for it in rows] + after)
+
+    def of_hosting(self):
+        """The match of HOSTING, as its page has it, over a free port; and the match again without a net."""
+        page = 'docs/HOSTING.md'
+        lines = lines_of(page)
+        at = next(at for at, line in enumerate(lines) if line.startswith('    files='))
+        commands = block_after(lines, at)
+        shown = block_after(lines, at + len(commands))
+        line = '\n'.join(commands).replace('127.0.0.1:7070', free_address())
+        ran = self.bash(line, 'examples/links')
+        # The players print in any order.
+        self.lines(page, 'the server', ran, 0, shown[shown.index('..') + 1:])
+        printed = ran.out.decode().split('\n')
+        for it in shown[:shown.index('..')]:
+            self.tally.check(f'{page}: {it}', it in printed, printed)
+        self.tally.same(f'{page}: three players', sum(it.startswith('play ') for it in printed), 3)
+        at = next(at for at, line in enumerate(lines) if line.startswith('       { echo script'))
+        again = '\n'.join([commands[0], *block_after(lines, at)])
+        told = re.search(r'`(local frames 20 hash \w+) \.\.`', ' '.join(lines))
+        if self.tally.check(f'{page}: the match again', told, 'is not told of'):
+            self.lines(page, 'the match again', self.bash(again, 'examples/links'), 0, [f'{told[1]} ..'])
+
+
+def run_all(tally, program):
+    with tempfile.TemporaryDirectory() as folder:
+        it = Pages(tally, program, folder)
+        it.of_shown()
+        it.of_new_replays()
+        it.of_untried()
+        it.of_refused_drill()
+        it.of_refused_migration()
+        it.of_script()
+        it.of_bad_maps()
+        it.of_bad_lines()
+        it.of_schedule()
+        it.of_hosting()

@@ -1,0 +1,237 @@
+"""Each status that a command can have, through the program's `main`: with real files, a full device, a closed pipe, a
+closed input, limited memory. `serve` and `play` are tried by links.py too."""
+import os, shutil, subprocess, tempfile
+
+from harness import EXAMPLES, Ran, free_address, lacking, run, with_examples
+
+# The commands that end by themselves, in the folder of the examples. `record` and `migrate` write the file `new`.
+COMMANDS = {
+    'drill': 'drill --script battle/battle.drill --map battle/map battle/rules.yaml',
+    'record': 'drill --script one_frame.drill --record new',
+    'replay': 'replay --file battle/battle.replay --map battle/map battle/rules.yaml',
+    'migrate': 'migrate --file one_frame_old.replay --to new',
+    'local': 'local --script local.script',
+    'make': 'make --number 1',
+    'yaml': 'yaml yaml/base.yaml yaml/units.yaml',
+    'check': 'check --map maps/sample.map maps/sample.yaml',
+    'route': 'route --map maps/corner.map --kind unit --from 0,1 --to 2,1 maps/walker.yaml',
+}
+
+# What each command that reads files says of a file of its that is missing, and of one that has a fault.
+REFUSED = {
+    'drill --script none': 'none 0 Missing',
+    'drill --script one_frame.drill none': 'none 0 Missing',
+    'drill --script refused.drill': 'refused.drill 4 NoSuchClient',
+    'drill --script refused.drill --record new': 'refused.drill 4 NoSuchClient',
+    'replay --file none': 'none 0 Missing',
+    'replay --file one_frame.replay --map battle/map battle/rules.yaml': 'one_frame.replay 6 OtherRules',
+    'migrate --file none --to new': 'none 0 Missing',
+    'migrate --file one_frame.replay --to new --map battle/map battle/rules.yaml': 'one_frame.replay 6 OtherRules',
+    'local --script none': 'none 0 Missing',
+    'local --script refused.drill': 'refused.drill 1 BadWord',
+    'yaml yaml/base.yaml none': 'none 0 Missing',
+    'yaml maps/sample.yaml mod/slip.yaml': 'mod/slip.yaml 5 NothingToRemove',
+    'check none': 'none 0 Missing',
+    'check --map none maps/sample.yaml': 'none 0 Missing',
+    'check maps/sample.yaml mod/slip.yaml': 'mod/slip.yaml 5 NothingToRemove',
+    'route --map none --kind unit --from 0,1 --to 2,1 maps/walker.yaml': 'none 0 Missing',
+    'route --map maps/corner.map --kind none --from 0,1 --to 2,1 maps/walker.yaml': 'route 0 NoKind',
+    'route --map maps/corner.map --kind unit --from 0,1 --to 99,1 maps/walker.yaml': 'route 0 OffMap',
+    'serve --at 127.0.0.1:1 --clients 1 none': 'none 0 Missing',
+    'serve --at 127.0.0.1:1 --clients 1 maps/sample.yaml mod/slip.yaml': 'mod/slip.yaml 5 NothingToRemove',
+    'play --at 127.0.0.1:1 --script none': 'none 0 Missing',
+    'play --at 127.0.0.1:1 --script refused.drill': 'refused.drill 1 BadWord',
+}
+
+# Commands of which one file can't be read: UNREAD stands for its name.
+UNREADABLE = ['drill --script UNREAD', 'drill --script one_frame.drill --map UNREAD', 'replay --file UNREAD',
+              'migrate --file UNREAD --to new', 'local --script UNREAD', 'yaml UNREAD', 'check maps/sample.yaml UNREAD',
+              'route --map UNREAD --kind unit --from 0,1 --to 2,1 maps/walker.yaml',
+              'serve --at 127.0.0.1:1 --clients 1 UNREAD', 'play --at 127.0.0.1:1 --script UNREAD']
+
+# Commands whose replay has a mark that differs.
+DIFFERING = ['replay --file battle/differs.replay --map battle/map battle/rules.yaml',
+             'migrate --file battle/differs.replay --to new --map battle/map battle/rules.yaml']
+
+WORDS_REFUSED = Ran(2, b'refused words\n')
+READ_FAULT = Ran(4, b'fault read\n')
+
+# The lengths that files may have.
+LONGEST = {'drill --script long': 67_108_864, 'local --script long': 67_108_864, 'yaml long': 4_194_304,
+           'check maps/sample.yaml --map long': 4_194_304, 'replay --file long': 268_435_456}
+
+# How much memory the program is given, in kB, from little on; with the least of it begins to run.
+LIMITS = range(2_000, 40_000, 500)
+
+
+def files_of(folder):
+    """The files below a folder with what they hold."""
+    found = {}
+    for there, _, names in os.walk(folder):
+        for name in names:
+            path = os.path.join(there, name)
+            with open(path, 'rb') as file:
+                found[os.path.relpath(path, folder)] = file.read()
+    return found
+
+
+class Statuses:
+    def __init__(self, tally, program, folder):
+        self.tally, self.program, self.folder = tally, program, with_examples(folder)
+        self.files = files_of(self.folder)
+        self.plain = {}
+
+    def run(self, words, **how):
+        words = words.split() if isinstance(words, str) else words
+        return run(self.program, words, self.folder, **how)
+
+    def written(self):
+        """The files that a run wrote, which are then taken away, and whether all others are as they were."""
+        found = files_of(self.folder)
+        new = {name: data for name, data in found.items() if self.files.get(name) != data}
+        for name in new:
+            if name not in self.files:
+                os.remove(os.path.join(self.folder, name))
+        return new
+
+    def wrote(self, name, want):
+        self.tally.same(f'{name}: the files that are written', self.written(), want)
+
+    def of_success(self):
+        """Status 0, and the file that is then written."""
+        new = {'new': self.files['one_frame.replay']}
+        for name, words in COMMANDS.items():
+            self.plain[name] = ran = self.run(words)
+            self.tally.same(f'{name}: status', ran.status, 0)
+            self.tally.check(f'{name}: its text', ran.out.endswith(b'\n') and not ran.err, ran)
+            self.wrote(name, new if name in ('record', 'migrate') else {})
+
+    def of_words(self):
+        """Status 2."""
+        for words in ('', 'dance', 'drill --script', 'make --number 4294967296', *(f'{it} --what' for it in COMMANDS.values())):
+            self.tally.same(f'"{words}"', self.run(words), WORDS_REFUSED)
+        for words in ([b'\xff'], [b'drill', b'--script', b'\xff.drill'], [b'yaml', b'\xc3']):
+            self.tally.same(f'{words}, no UTF-8', self.run(words), WORDS_REFUSED)
+
+    def of_files(self):
+        """Status 3, of missing files, of faults, of files that are too long."""
+        for words, what in REFUSED.items():
+            self.tally.same(words, self.run(words), Ran(3, f'refused {what}\n'.encode()))
+        long = os.path.join(self.folder, 'long')
+        for words, length in LONGEST.items():
+            with open(long, 'wb') as file:
+                file.truncate(length + 1)
+            self.tally.same(f'{words}, {length + 1} bytes', self.run(words), Ran(3, b'refused long 0 TooLong\n'))
+        os.remove(long)
+        self.wrote('status 3', {})
+
+    def of_reading(self):
+        """Status 4, of a folder in place of a file and of a file that may not be read."""
+        for words in UNREADABLE:
+            self.tally.same(f'{words}, a folder', self.run(words.replace('UNREAD', 'battle')), READ_FAULT)
+            self.tally.same(f'{words}, reading fails', self.run(words.replace('UNREAD', '/proc/self/mem')), READ_FAULT)
+        if os.geteuid() == 0:
+            self.tally.skip('files that may not be read', 'the superuser may read all')
+            return
+        closed = os.path.join(self.folder, 'closed')
+        with open(closed, 'wb'):
+            pass
+        os.chmod(closed, 0)
+        for words in UNREADABLE:
+            self.tally.same(f'{words}, may not be read', self.run(words.replace('UNREAD', 'closed')), READ_FAULT)
+        os.remove(closed)
+
+    def of_output(self):
+        """Status 5, of each command, also in place of 2, 3, 4 and 7. Then no file is written."""
+        rows = {**COMMANDS, 'no command': '', 'a missing file': 'drill --script none', 'a folder': 'drill --script battle',
+                'a differing mark': DIFFERING[0]}
+        for name, words in rows.items():
+            with open('/dev/full', 'wb') as full:
+                self.tally.same(f'{name}: a full device', self.run(words, stdout=full).status, 5)
+            reading, writing = os.pipe()
+            os.close(reading)
+            with os.fdopen(writing, 'wb') as closed:
+                self.tally.same(f'{name}: a closed pipe', self.run(words, stdout=closed).status, 5)
+            self.tally.same(f'{name}: no output', self.run(words, stdout=None, closed=(1,)).status, 5)
+            self.wrote(f'{name}: a failed output', {})
+
+    def of_head(self):
+        """A reader that takes one line and goes."""
+        script = os.path.join(self.folder, 'long.drill')
+        with open(script, 'w') as file:
+            file.write('match 1 1 1\n' + 'tick server\n' * 20_000)
+        line = f'"$0" drill --script long.drill | head -n 1; echo "${{PIPESTATUS[0]}}"'
+        ran = run('/bin/bash', ['-c', line, self.program], self.folder)
+        self.tally.same('drill .. | head -n 1', ran, Ran(0, b'0 not yet 0\n5\n'))
+        os.remove(script)
+
+    def of_records(self):
+        """Status 5 where the file can't be written, after the whole text; old files, and links to files."""
+        for name, option in (('record', '--record'), ('migrate', '--to')):
+            words, whole = COMMANDS[name], self.plain[name].out
+            for place in ('none/new', 'battle', '/dev/full'):
+                ran = self.run(words.replace(f'{option} new', f'{option} {place}'))
+                self.tally.same(f'{name} into {place}', ran, Ran(5, whole))
+            self.wrote(f'{name}: a failed write', {})
+            with open(os.path.join(self.folder, 'old'), 'wb') as file:
+                file.write(b'what was there before' * 100)
+            os.symlink('old', os.path.join(self.folder, 'link'))
+            self.tally.same(f'{name} over a link', self.run(words.replace(f'{option} new', f'{option} link')), self.plain[name])
+            self.tally.check(f'{name}: the link stays', os.path.islink(os.path.join(self.folder, 'link')), 'it is gone')
+            os.remove(os.path.join(self.folder, 'link'))
+            self.wrote(f'{name} over a link', {'old': self.files['one_frame.replay']})
+            ran = self.run(words.replace(f'{option} new', f'{option} /dev/null'))
+            self.tally.same(f'{name} into /dev/null', ran, self.plain[name])
+
+    def of_marks(self):
+        """Status 7."""
+        for words in DIFFERING:
+            ran = self.run(words)
+            start = b'mark 2 file e0ea008602e0482e here e0ea008602e0482f\n'
+            self.tally.check(words, ran.status == 7 and ran.out.startswith(start) and ran.out.endswith(b'\nend\n'), ran)
+            self.wrote(words, {})
+
+    def of_input(self):
+        """No command here reads its input: none, a closed one, one with lines."""
+        for name, words in COMMANDS.items():
+            self.tally.same(f'{name}: a closed input', self.run(words, stdin=None, closed=(0,)), self.plain[name])
+            self.written()
+
+    def of_memory(self):
+        """Status 6, with a prefix of the text, and no file; or the whole, once there is enough."""
+        for name, words in COMMANDS.items():
+            whole, short, full = self.plain[name], 0, False
+            for kilobytes in LIMITS:
+                ran = self.run(words, kilobytes=kilobytes)
+                written = self.written()
+                if ran.err:
+                    # The loader or the C library had too little to begin with.
+                    continue
+                if ran.status == 6:
+                    short += 1
+                    holds = whole.out.startswith(ran.out) and not written
+                    self.tally.check(f'{name}: {kilobytes} kB', holds, f'{ran}, {list(written)}')
+                elif ran == whole:
+                    full = True
+                    break
+                else:
+                    self.tally.check(f'{name}: {kilobytes} kB', False, ran)
+            self.tally.check(f'{name}: memory', full, f'{short} runs were out of memory, and none was whole')
+
+
+def run_all(tally, program):
+    with tempfile.TemporaryDirectory() as folder:
+        it = Statuses(tally, program, folder)
+        it.of_success()
+        it.of_words()
+        it.of_files()
+        it.of_reading()
+        it.of_output()
+        if lacking('bash', 'head'):
+            tally.skip('a reader that takes one line', f'no {lacking("bash", "head")}')
+        else:
+            it.of_head()
+        it.of_records()
+        it.of_marks()
+        it.of_input()
+        it.of_memory()
