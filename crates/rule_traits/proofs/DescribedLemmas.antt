@@ -24,7 +24,7 @@ use Rattle.rule_traits.specs.Kinds.{is_kind}
 use Rattle.rule_traits.specs.Traits.{all_traits, has_trait, name_of, trait_of}
 use Rattle.rule_traits.specs.Described.{is_of, fields_of, kind_of, kinds_of, health_of}
 use Rattle.rule_traits.specs.Described.{mobile_of, harvester_of, refinery_of, production_of}
-use Rattle.rule_traits.specs.Described.{buildable_of, valued_of, armament_of}
+use Rattle.rule_traits.specs.Described.{buildable_of, valued_of, armament_of, reveals_of}
 use Rattle.rule_traits.specs.Typed.{each, passed, plain}
 use Rattle.rule_traits.specs.Typed.{trait_read, lacks_field, with_trait, trait_joined, trait_step}
 use Rattle.rule_traits.specs.Typed.{trait_taken, plain_kind, kind_read, kind_taken, kinds_read}
@@ -46,6 +46,7 @@ kind_from top kind traits =
       buildable = option_or kind.buildable (option_map (buildable_of top) (fields_of known.Buildable traits));
       valued = option_or kind.valued (option_map valued_of (fields_of known.Valued traits));
       armament = option_or kind.armament (option_map armament_of (fields_of known.Armament traits));
+      reveals = option_or kind.reveals (option_map reveals_of (fields_of known.RevealsShroud traits));
     }
 
 -- A kind after one node, whose key has this before its first `@`.
@@ -62,6 +63,7 @@ kind_set top kind part fields =
       buildable = option_or kind.buildable (cond (bytes_eq (name_of known.Buildable) part) (Some (buildable_of top fields)) None);
       valued = option_or kind.valued (cond (bytes_eq (name_of known.Valued) part) (Some (valued_of fields)) None);
       armament = option_or kind.armament (cond (bytes_eq (name_of known.Armament) part) (Some (armament_of fields)) None);
+      reveals = option_or kind.reveals (cond (bytes_eq (name_of known.RevealsShroud) part) (Some (reveals_of fields)) None);
     }
 
 or_none : {A : Type 0} (held : Option A) → option_or held None ≡ held
@@ -110,6 +112,7 @@ kind_next top kind key value place children rest =
     let e6 = one_next (buildable_of top) kind.buildable (is_of known.Buildable key) children (fields_of known.Buildable rest) in
     let e7 = one_next valued_of kind.valued (is_of known.Valued key) children (fields_of known.Valued rest) in
     let e8 = one_next armament_of kind.armament (is_of known.Armament key) children (fields_of known.Armament rest) in
+    let e9 = one_next reveals_of kind.reveals (is_of known.RevealsShroud key) children (fields_of known.RevealsShroud rest) in
     cc
 
 abbrev kind_keep : Kind → Kind
@@ -125,6 +128,7 @@ kind_keep kind =
       buildable = kind.buildable;
       valued = kind.valued;
       armament = kind.armament;
+      reveals = kind.reveals;
     }
 
 -- A node of a trait that the kind has changes nothing.
@@ -140,6 +144,7 @@ second_node top kind known.Health fields held =
     let e6 = or_none kind.buildable in
     let e7 = or_none kind.valued in
     let e8 = or_none kind.armament in
+    let e9 = or_none kind.reveals in
     let own = or_held kind.health (health_of fields) held in
     cc
 second_node top kind known.Mobile fields held =
@@ -151,6 +156,7 @@ second_node top kind known.Mobile fields held =
     let e6 = or_none kind.buildable in
     let e7 = or_none kind.valued in
     let e8 = or_none kind.armament in
+    let e9 = or_none kind.reveals in
     let own = or_held kind.mobile (mobile_of fields) held in
     cc
 second_node top kind known.Building fields held =
@@ -162,6 +168,7 @@ second_node top kind known.Building fields held =
     let e6 = or_none kind.buildable in
     let e7 = or_none kind.valued in
     let e8 = or_none kind.armament in
+    let e9 = or_none kind.reveals in
     let own = held in
     cc
 second_node top kind known.Harvester fields held =
@@ -173,6 +180,7 @@ second_node top kind known.Harvester fields held =
     let e6 = or_none kind.buildable in
     let e7 = or_none kind.valued in
     let e8 = or_none kind.armament in
+    let e9 = or_none kind.reveals in
     let own = or_held kind.harvester (harvester_of fields) held in
     cc
 second_node top kind known.Refinery fields held =
@@ -184,6 +192,7 @@ second_node top kind known.Refinery fields held =
     let e6 = or_none kind.buildable in
     let e7 = or_none kind.valued in
     let e8 = or_none kind.armament in
+    let e9 = or_none kind.reveals in
     let own = or_held kind.refinery (refinery_of fields) held in
     cc
 second_node top kind known.Production fields held =
@@ -195,6 +204,7 @@ second_node top kind known.Production fields held =
     let e6 = or_none kind.buildable in
     let e7 = or_none kind.valued in
     let e8 = or_none kind.armament in
+    let e9 = or_none kind.reveals in
     let own = or_held kind.production (production_of fields) held in
     cc
 second_node top kind known.Buildable fields held =
@@ -206,6 +216,7 @@ second_node top kind known.Buildable fields held =
     let e5 = or_none kind.production in
     let e7 = or_none kind.valued in
     let e8 = or_none kind.armament in
+    let e9 = or_none kind.reveals in
     let own = or_held kind.buildable (buildable_of top fields) held in
     cc
 second_node top kind known.Valued fields held =
@@ -217,6 +228,7 @@ second_node top kind known.Valued fields held =
     let e5 = or_none kind.production in
     let e6 = or_none kind.buildable in
     let e8 = or_none kind.armament in
+    let e9 = or_none kind.reveals in
     let own = or_held kind.valued (valued_of fields) held in
     cc
 second_node top kind known.Armament fields held =
@@ -228,7 +240,20 @@ second_node top kind known.Armament fields held =
     let e5 = or_none kind.production in
     let e6 = or_none kind.buildable in
     let e7 = or_none kind.valued in
+    let e9 = or_none kind.reveals in
     let own = or_held kind.armament (armament_of fields) held in
+    cc
+second_node top kind known.RevealsShroud fields held =
+    let e0 = or_none kind.health in
+    let e1 = or_none kind.mobile in
+    let e2 = true_or kind.building in
+    let e3 = or_none kind.harvester in
+    let e4 = or_none kind.refinery in
+    let e5 = or_none kind.production in
+    let e6 = or_none kind.buildable in
+    let e7 = or_none kind.valued in
+    let e8 = or_none kind.armament in
+    let own = or_held kind.reveals (reveals_of fields) held in
     cc
 
 -- A node of a trait that the kind hasn't adds it.
@@ -244,6 +269,7 @@ first_node top kind known.Health fields held =
     let e6 = or_none kind.buildable in
     let e7 = or_none kind.valued in
     let e8 = or_none kind.armament in
+    let e9 = or_none kind.reveals in
     let own = or_first kind.health (health_of fields) held in
     cc
 first_node top kind known.Mobile fields held =
@@ -255,6 +281,7 @@ first_node top kind known.Mobile fields held =
     let e6 = or_none kind.buildable in
     let e7 = or_none kind.valued in
     let e8 = or_none kind.armament in
+    let e9 = or_none kind.reveals in
     let own = or_first kind.mobile (mobile_of fields) held in
     cc
 first_node top kind known.Building fields held =
@@ -266,6 +293,7 @@ first_node top kind known.Building fields held =
     let e6 = or_none kind.buildable in
     let e7 = or_none kind.valued in
     let e8 = or_none kind.armament in
+    let e9 = or_none kind.reveals in
     let own = held in
     cc
 first_node top kind known.Harvester fields held =
@@ -277,6 +305,7 @@ first_node top kind known.Harvester fields held =
     let e6 = or_none kind.buildable in
     let e7 = or_none kind.valued in
     let e8 = or_none kind.armament in
+    let e9 = or_none kind.reveals in
     let own = or_first kind.harvester (harvester_of fields) held in
     cc
 first_node top kind known.Refinery fields held =
@@ -288,6 +317,7 @@ first_node top kind known.Refinery fields held =
     let e6 = or_none kind.buildable in
     let e7 = or_none kind.valued in
     let e8 = or_none kind.armament in
+    let e9 = or_none kind.reveals in
     let own = or_first kind.refinery (refinery_of fields) held in
     cc
 first_node top kind known.Production fields held =
@@ -299,6 +329,7 @@ first_node top kind known.Production fields held =
     let e6 = or_none kind.buildable in
     let e7 = or_none kind.valued in
     let e8 = or_none kind.armament in
+    let e9 = or_none kind.reveals in
     let own = or_first kind.production (production_of fields) held in
     cc
 first_node top kind known.Buildable fields held =
@@ -310,6 +341,7 @@ first_node top kind known.Buildable fields held =
     let e5 = or_none kind.production in
     let e7 = or_none kind.valued in
     let e8 = or_none kind.armament in
+    let e9 = or_none kind.reveals in
     let own = or_first kind.buildable (buildable_of top fields) held in
     cc
 first_node top kind known.Valued fields held =
@@ -321,6 +353,7 @@ first_node top kind known.Valued fields held =
     let e5 = or_none kind.production in
     let e6 = or_none kind.buildable in
     let e8 = or_none kind.armament in
+    let e9 = or_none kind.reveals in
     let own = or_first kind.valued (valued_of fields) held in
     cc
 first_node top kind known.Armament fields held =
@@ -332,7 +365,20 @@ first_node top kind known.Armament fields held =
     let e5 = or_none kind.production in
     let e6 = or_none kind.buildable in
     let e7 = or_none kind.valued in
+    let e9 = or_none kind.reveals in
     let own = or_first kind.armament (armament_of fields) held in
+    cc
+first_node top kind known.RevealsShroud fields held =
+    let e0 = or_none kind.health in
+    let e1 = or_none kind.mobile in
+    let e2 = true_or kind.building in
+    let e3 = or_none kind.harvester in
+    let e4 = or_none kind.refinery in
+    let e5 = or_none kind.production in
+    let e6 = or_none kind.buildable in
+    let e7 = or_none kind.valued in
+    let e8 = or_none kind.armament in
+    let own = or_first kind.reveals (reveals_of fields) held in
     cc
 
 -- What a search through the traits tells.
@@ -352,7 +398,8 @@ none_named :
     (bytes_eq (name_of known.Production) part ≡ false) ×
     (bytes_eq (name_of known.Buildable) part ≡ false) ×
     (bytes_eq (name_of known.Valued) part ≡ false) ×
-    (bytes_eq (name_of known.Armament) part ≡ false)
+    (bytes_eq (name_of known.Armament) part ≡ false) ×
+    (bytes_eq (name_of known.RevealsShroud) part ≡ false)
 none_named part absent =
     let s0 = no_first (bytes_eq (name_of known.Health) part) known.Health _ absent in
     let s1 = no_first (bytes_eq (name_of known.Mobile) part) known.Mobile _ s0.1 in
@@ -363,7 +410,8 @@ none_named part absent =
     let s6 = no_first (bytes_eq (name_of known.Buildable) part) known.Buildable _ s5.1 in
     let s7 = no_first (bytes_eq (name_of known.Valued) part) known.Valued _ s6.1 in
     let s8 = no_first (bytes_eq (name_of known.Armament) part) known.Armament _ s7.1 in
-    (s0.0, s1.0, s2.0, s3.0, s4.0, s5.0, s6.0, s7.0, s8.0)
+    let s9 = no_first (bytes_eq (name_of known.RevealsShroud) part) known.RevealsShroud _ s8.1 in
+    (s0.0, s1.0, s2.0, s3.0, s4.0, s5.0, s6.0, s7.0, s8.0, s9.0)
 
 found_step :
     {A : Type 0} (p : A → Bool) (x t : A) (test : Bool) (later : Option A) → p x ≡ test →
@@ -390,6 +438,7 @@ no_node top kind part fields absent =
     let f6 : bytes_eq (name_of known.Buildable) part ≡ false = n.6 in
     let f7 : bytes_eq (name_of known.Valued) part ≡ false = n.7 in
     let f8 : bytes_eq (name_of known.Armament) part ≡ false = n.8 in
+    let f9 : bytes_eq (name_of known.RevealsShroud) part ≡ false = n.9 in
     let e0 = or_none kind.health in
     let e1 = or_none kind.mobile in
     let e2 = true_or kind.building in
@@ -399,6 +448,7 @@ no_node top kind part fields absent =
     let e6 = or_none kind.buildable in
     let e7 = or_none kind.valued in
     let e8 = or_none kind.armament in
+    let e9 = or_none kind.reveals in
     cc
 
 kind_end : (top : Trees) (kind : Kind) → kind_keep kind ≡ kind_from top kind none
@@ -412,6 +462,7 @@ kind_end top kind =
     let e6 = or_none kind.buildable in
     let e7 = or_none kind.valued in
     let e8 = or_none kind.armament in
+    let e9 = or_none kind.reveals in
     cc
 
 joined_described :

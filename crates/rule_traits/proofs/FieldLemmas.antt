@@ -21,6 +21,7 @@ use Rattle.rule_traits.specs.declared.trait_value.TraitValue.TheVariants.{Health
 use Rattle.rule_traits.specs.declared.trait_value.TraitValue.TheVariants.{Harvester, Refinery}
 use Rattle.rule_traits.specs.declared.trait_value.TraitValue.TheVariants.{Production, Buildable}
 use Rattle.rule_traits.specs.declared.trait_value.TraitValue.TheVariants.{Valued, Armament}
+use Rattle.rule_traits.specs.declared.trait_value.TraitValue.TheVariants.{RevealsShroud}
 use Rattle.rule_traits.specs.declared.trait_fields.Health as health_type
 use Rattle.rule_traits.specs.declared.trait_fields.Mobile as mobile_type
 use Rattle.rule_traits.specs.declared.trait_fields.Harvester as harvester_type
@@ -29,6 +30,7 @@ use Rattle.rule_traits.specs.declared.trait_fields.Production as production_type
 use Rattle.rule_traits.specs.declared.trait_fields.Buildable as buildable_type
 use Rattle.rule_traits.specs.declared.trait_fields.Valued as valued_type
 use Rattle.rule_traits.specs.declared.trait_fields.Armament as armament_type
+use Rattle.rule_traits.specs.declared.trait_fields.Reveals as reveals_type
 use Rattle.rule_traits.specs.Kinds.{number_of_kind, with_number, numbers_after}
 use Rattle.rule_traits.specs.Table as table
 use Rattle.rule_traits.specs.Described.{last_value, written, named_kinds, number_or, names_or}
@@ -38,6 +40,7 @@ use Rattle.rule_traits.specs.Typed.{trait_read}
 use Rattle.rule_traits.specs.Values.{After, unknown, set_to, in_range, form_value, field_value}
 use Rattle.rule_traits.specs.Values.{health_with, mobile_with, harvester_with, refinery_with}
 use Rattle.rule_traits.specs.Values.{production_with, buildable_with, valued_with, armament_with}
+use Rattle.rule_traits.specs.Values.{reveals_with}
 use Rattle.rule_traits.proofs.OutcomeLemmas.{followed}
 
 -- A choice by a test, each side with what the test tells.
@@ -588,6 +591,47 @@ armament_next t key value place children rest =
     let e3 = number_next table.reload t.reload value (bytes_eq key (codes "Reload")) (last_value (codes "Reload") rest) in
     cc
 
+-- RevealsShroud.
+abbrev reveals_from : reveals_type.Reveals → Trees → reveals_type.Reveals
+reveals_from t fields =
+    record {
+      range = number_or table.reveal_range t.range (last_value (codes "Range") fields);
+    }
+
+abbrev reveals_set : reveals_type.Reveals → (key value : List ℕ) → reveals_type.Reveals
+reveals_set t key value =
+    record {
+      range = cond (bytes_eq key (codes "Range")) (written table.reveal_range value) t.range;
+    }
+
+abbrev reveals_keep : reveals_type.Reveals → reveals_type.Reveals
+reveals_keep t =
+    record {
+      range = t.range;
+    }
+
+reveals_step :
+    (t : reveals_type.Reveals) (key value : List ℕ) (place : Place) →
+    IfOk (reveals_with t key value place) (λ after. after.0 ≡ reveals_set t key value)
+unfolding reveals_with
+reveals_step t key value place =
+    let Set : reveals_type.Reveals → Type 0 = λ now. now ≡ reveals_set t key value in
+    let make0 : ℕ → reveals_type.Reveals = λ n. record t { range = n } in
+    let rest0 : After reveals_type.Reveals = unknown t in
+    by_key Set (bytes_eq key (codes "Range")) (field_value table.reveal_range value place) make0 rest0
+    (λ e.
+    IfOk-weaker (field_value table.reveal_range value place) (λ n. n ≡ written table.reveal_range value) (λ n. make0 n ≡ reveals_set t key value)
+    (λ n is.
+    subst (λ k. make0 n ≡ reveals_set t k value) (sym (same_key key (codes "Range") e)) (ap make0 is)) (value_written table.reveal_range value place))
+    (λ e0. (let same : reveals_keep t ≡ reveals_set t key value = cc in same))
+
+reveals_next :
+    (t : reveals_type.Reveals) (key value : List ℕ) (place : Place) (children rest : Trees) →
+    reveals_from (reveals_set t key value) rest ≡ reveals_from t (more key value place children rest)
+reveals_next t key value place children rest =
+    let e0 = number_next table.reveal_range t.range value (bytes_eq key (codes "Range")) (last_value (codes "Range") rest) in
+    cc
+
 -- A trait's value after the fields of a list.
 abbrev pub value_from : Trees → TraitValue → Trees → TraitValue
 value_from top (Health t) fields = Health (health_from t fields)
@@ -599,6 +643,7 @@ value_from top (Production t) fields = Production (production_from t fields)
 value_from top (Buildable t) fields = Buildable (buildable_from top t fields)
 value_from top (Valued t) fields = Valued (valued_from t fields)
 value_from top (Armament t) fields = Armament (armament_from t fields)
+value_from top (RevealsShroud t) fields = RevealsShroud (reveals_from t fields)
 
 abbrev value_set : Trees → TraitValue → (key value : List ℕ) → TraitValue
 value_set top (Health t) key value = Health (health_set t key value)
@@ -610,6 +655,7 @@ value_set top (Production t) key value = Production (production_set t key value)
 value_set top (Buildable t) key value = Buildable (buildable_set top t key value)
 value_set top (Valued t) key value = Valued (valued_set t key value)
 value_set top (Armament t) key value = Armament (armament_set t key value)
+value_set top (RevealsShroud t) key value = RevealsShroud (reveals_set t key value)
 
 wrapped_step :
     {T : Type 0} (wrap : T → TraitValue) (outcome : After T) (now : T) → IfOk outcome (λ after. after.0 ≡ now) →
@@ -637,6 +683,8 @@ value_step top (Valued t) key text place =
     wrapped_step Valued (valued_with t key text place) (valued_set t key text) (valued_step t key text place)
 value_step top (Armament t) key text place =
     wrapped_step Armament (armament_with t key text place) (armament_set t key text) (armament_step t key text place)
+value_step top (RevealsShroud t) key text place =
+    wrapped_step RevealsShroud (reveals_with t key text place) (reveals_set t key text) (reveals_step t key text place)
 
 value_next :
     (top : Trees) (value : TraitValue) (key text : List ℕ) (place : Place) (children rest : Trees) →
@@ -650,6 +698,7 @@ value_next top (Production t) key text place children rest = ap Production (prod
 value_next top (Buildable t) key text place children rest = ap Buildable (buildable_next top t key text place children rest)
 value_next top (Valued t) key text place children rest = ap Valued (valued_next t key text place children rest)
 value_next top (Armament t) key text place children rest = ap Armament (armament_next t key text place children rest)
+value_next top (RevealsShroud t) key text place children rest = ap RevealsShroud (reveals_next t key text place children rest)
 
 value_end : (top : Trees) (value : TraitValue) → value ≡ value_from top value none
 value_end top (Health t) = refl
@@ -661,6 +710,7 @@ value_end top (Production t) = refl
 value_end top (Buildable t) = refl
 value_end top (Valued t) = refl
 value_end top (Armament t) = refl
+value_end top (RevealsShroud t) = refl
 
 noted_step :
     (skipped : List Skipped) (key : List ℕ) (place : Place) (outcome : After TraitValue) (now : TraitValue) →

@@ -18,6 +18,7 @@ use Rattle.rule_traits.specs.declared.trait_value.TraitValue.TheVariants.{Health
 use Rattle.rule_traits.specs.declared.trait_value.TraitValue.TheVariants.{Harvester, Refinery}
 use Rattle.rule_traits.specs.declared.trait_value.TraitValue.TheVariants.{Production, Buildable}
 use Rattle.rule_traits.specs.declared.trait_value.TraitValue.TheVariants.{Valued, Armament}
+use Rattle.rule_traits.specs.declared.trait_value.TraitValue.TheVariants.{RevealsShroud}
 use Rattle.rule_traits.specs.declared.TheConstants.{MAX_KINDS}
 use Rattle.rule_traits.specs.Kinds.{is_kind, kind_keys}
 use Rattle.rule_traits.specs.Traits.{has_trait, trait_of}
@@ -40,6 +41,7 @@ with_trait-name kind (Production t) = refl
 with_trait-name kind (Buildable t) = refl
 with_trait-name kind (Valued t) = refl
 with_trait-name kind (Armament t) = refl
+with_trait-name kind (RevealsShroud t) = refl
 
 joined_named : (top : Trees) (made : Kind × List Skipped) (place : Place) (fields : Trees) (trait : Trait) (name : List ℕ) → IsNamed name made →
     IfOk (trait_joined top made place fields trait) (IsNamed name)

@@ -28,6 +28,7 @@ use Rattle.rule_traits.specs.declared.trait_value.TraitValue.TheVariants.{Health
 use Rattle.rule_traits.specs.declared.trait_value.TraitValue.TheVariants.{Harvester, Refinery}
 use Rattle.rule_traits.specs.declared.trait_value.TraitValue.TheVariants.{Production, Buildable}
 use Rattle.rule_traits.specs.declared.trait_value.TraitValue.TheVariants.{Valued, Armament}
+use Rattle.rule_traits.specs.declared.trait_value.TraitValue.TheVariants.{RevealsShroud}
 use Rattle.rule_traits.specs.declared.trait_fields.Health as health_type
 use Rattle.rule_traits.specs.declared.trait_fields.Mobile as mobile_type
 use Rattle.rule_traits.specs.declared.trait_fields.Harvester as harvester_type
@@ -35,6 +36,7 @@ use Rattle.rule_traits.specs.declared.trait_fields.Refinery as refinery_type
 use Rattle.rule_traits.specs.declared.trait_fields.Buildable as buildable_type
 use Rattle.rule_traits.specs.declared.trait_fields.Valued as valued_type
 use Rattle.rule_traits.specs.declared.trait_fields.Armament as armament_type
+use Rattle.rule_traits.specs.declared.trait_fields.Reveals as reveals_type
 use Rattle.rule_traits.specs.declared.TheConstants.{MAX_KINDS}
 use Rattle.rule_traits.specs.Kinds.{is_kind, kind_keys, next_number, number_from, number_of_kind}
 use Rattle.rule_traits.specs.Kinds.{with_number, numbers_after}
@@ -46,10 +48,12 @@ use Rattle.rule_traits.specs.Typed.{trait_taken, plain_kind, kind_read, kind_tak
 use Rattle.rule_traits.specs.Typed.{typed, names_of_kinds}
 use Rattle.rule_traits.specs.ValidRules.{IsInRange, IsValidHealth, IsValidMobile, IsValidHarvester}
 use Rattle.rule_traits.specs.ValidRules.{IsValidRefinery, IsValidBuildable, IsValidValued}
-use Rattle.rule_traits.specs.ValidRules.{IsValidArmament, IsValidKind, AreValidRules}
+use Rattle.rule_traits.specs.ValidRules.{IsValidArmament, IsValidReveals, IsValidKind}
+use Rattle.rule_traits.specs.ValidRules.{AreValidRules}
 use Rattle.rule_traits.specs.Values.{After, unknown, set_to, in_range, form_value, field_value}
 use Rattle.rule_traits.specs.Values.{health_with, mobile_with, harvester_with, refinery_with}
 use Rattle.rule_traits.specs.Values.{production_with, buildable_with, valued_with, armament_with}
+use Rattle.rule_traits.specs.Values.{reveals_with}
 use Rattle.rule_traits.proofs.OutcomeLemmas.{either, followed, each_keeps, any_outcome}
 use Rattle.rule_traits.proofs.KindKeysLemmas.{typed_named}
 
@@ -213,6 +217,17 @@ armament_kept t key value place h =
     (λ n inside. record { range = h.range; damage = h.damage; spread = h.spread; reload = inside })
     h)))
 
+reveals_kept :
+    (t : reveals_type.Reveals) (key value : List ℕ) (place : Place) → IsValidReveals t →
+    IfOk (reveals_with t key value place) (λ after. IsValidReveals after.0)
+unfolding reveals_with
+reveals_kept t key value place h =
+    let rest0 : After reveals_type.Reveals = unknown t in
+    key_kept IsValidReveals (IsInRange table.reveal_range) (bytes_eq key (codes "Range")) (field_value table.reveal_range value place)
+    (λ n. record t { range = n }) rest0 (field_kept table.reveal_range value place)
+    (λ n inside. record { range = inside })
+    h
+
 -- The number of a kind is below the number of kinds.
 one_below :
     (kind same : Bool) (number : ℕ) (name key : List ℕ) (rest : Trees) →
@@ -293,6 +308,7 @@ IsValidValue kinds (Production t) = Unit {0}
 IsValidValue kinds (Buildable t) = IsValidBuildable kinds t
 IsValidValue kinds (Valued t) = IsValidValued t
 IsValidValue kinds (Armament t) = IsValidArmament t
+IsValidValue kinds (RevealsShroud t) = IsValidReveals t
 
 wrapped_kept :
     {T : Type 0} (P : T → Type 0) (Q : TraitValue → Type 0) (wrap : T → TraitValue) (outcome : After T) →
@@ -328,6 +344,9 @@ value_kept top (Valued t) key text place h =
 value_kept top (Armament t) key text place h =
     wrapped_kept IsValidArmament (IsValidValue (length (kind_keys top))) Armament (armament_with t key text place) (λ _ valid. valid)
     (armament_kept t key text place h)
+value_kept top (RevealsShroud t) key text place h =
+    wrapped_kept IsValidReveals (IsValidValue (length (kind_keys top))) RevealsShroud (reveals_with t key text place) (λ _ valid. valid)
+    (reveals_kept t key text place h)
 value_kept top Building key text place h = tt
 
 noted_kept :
@@ -354,6 +373,8 @@ plain_valid kinds known.Valued =
     record { cost = (omega arith, omega arith) }
 plain_valid kinds known.Armament =
     record { range = (omega arith, omega arith); damage = (omega arith, omega arith); spread = (omega arith, omega arith); reload = (omega arith, omega arith) }
+plain_valid kinds known.RevealsShroud =
+    record { range = (omega arith, omega arith) }
 
 trait_read_kept :
     (top : Trees) (trait : Trait) (skipped : List Skipped) (fields : Trees) →
@@ -379,6 +400,7 @@ with_trait_valid kinds kind (Health t) h v =
       buildable = h.buildable;
       valued = h.valued;
       armament = h.armament;
+      reveals = h.reveals;
     }
 with_trait_valid kinds kind (Mobile t) h v =
     record {
@@ -389,6 +411,7 @@ with_trait_valid kinds kind (Mobile t) h v =
       buildable = h.buildable;
       valued = h.valued;
       armament = h.armament;
+      reveals = h.reveals;
     }
 with_trait_valid kinds kind Building h v =
     record {
@@ -399,6 +422,7 @@ with_trait_valid kinds kind Building h v =
       buildable = h.buildable;
       valued = h.valued;
       armament = h.armament;
+      reveals = h.reveals;
     }
 with_trait_valid kinds kind (Harvester t) h v =
     record {
@@ -409,6 +433,7 @@ with_trait_valid kinds kind (Harvester t) h v =
       buildable = h.buildable;
       valued = h.valued;
       armament = h.armament;
+      reveals = h.reveals;
     }
 with_trait_valid kinds kind (Refinery t) h v =
     record {
@@ -419,6 +444,7 @@ with_trait_valid kinds kind (Refinery t) h v =
       buildable = h.buildable;
       valued = h.valued;
       armament = h.armament;
+      reveals = h.reveals;
     }
 with_trait_valid kinds kind (Production t) h v =
     record {
@@ -429,6 +455,7 @@ with_trait_valid kinds kind (Production t) h v =
       buildable = h.buildable;
       valued = h.valued;
       armament = h.armament;
+      reveals = h.reveals;
     }
 with_trait_valid kinds kind (Buildable t) h v =
     record {
@@ -439,6 +466,7 @@ with_trait_valid kinds kind (Buildable t) h v =
       buildable = v;
       valued = h.valued;
       armament = h.armament;
+      reveals = h.reveals;
     }
 with_trait_valid kinds kind (Valued t) h v =
     record {
@@ -449,6 +477,7 @@ with_trait_valid kinds kind (Valued t) h v =
       buildable = h.buildable;
       valued = v;
       armament = h.armament;
+      reveals = h.reveals;
     }
 with_trait_valid kinds kind (Armament t) h v =
     record {
@@ -459,6 +488,18 @@ with_trait_valid kinds kind (Armament t) h v =
       buildable = h.buildable;
       valued = h.valued;
       armament = v;
+      reveals = h.reveals;
+    }
+with_trait_valid kinds kind (RevealsShroud t) h v =
+    record {
+      health = h.health;
+      mobile = h.mobile;
+      harvester = h.harvester;
+      refinery = h.refinery;
+      buildable = h.buildable;
+      valued = h.valued;
+      armament = h.armament;
+      reveals = v;
     }
 
 abbrev IsValidMade : ℕ → Kind × List Skipped → Type 0
@@ -496,7 +537,7 @@ taken_kept top made key value place fields h = step_kept top made key place fiel
 
 plain_kind_valid : (kinds : ℕ) (key : List ℕ) → IsValidKind kinds (plain_kind key)
 plain_kind_valid kinds key =
-    record { health = tt; mobile = tt; harvester = tt; refinery = tt; buildable = tt; valued = tt; armament = tt }
+    record { health = tt; mobile = tt; harvester = tt; refinery = tt; buildable = tt; valued = tt; armament = tt; reveals = tt }
 
 kind_read_kept :
     (top : Trees) (key : List ℕ) (skipped : List Skipped) (traits : Trees) →

@@ -18,6 +18,7 @@ use Rattle.rule_traits.specs.declared.trait_fields.Production.{Production}
 use Rattle.rule_traits.specs.declared.trait_fields.Buildable.{Buildable}
 use Rattle.rule_traits.specs.declared.trait_fields.Valued.{Valued}
 use Rattle.rule_traits.specs.declared.trait_fields.Armament.{Armament}
+use Rattle.rule_traits.specs.declared.trait_fields.Reveals.{Reveals}
 use Rattle.rule_traits.specs.Kinds.{is_kind, number_of_kind}
 use Rattle.rule_traits.specs.Table as table
 use Rattle.rule_traits.specs.Traits.{name_of}
@@ -117,6 +118,12 @@ armament_of fields =
       reload = number table.reload (codes "Reload") fields;
     }
 
+abbrev pub reveals_of : Trees → Reveals
+reveals_of fields =
+    record {
+      range = number table.reveal_range (codes "Range") fields;
+    }
+
 -- A node is one of a trait: the part of its key before the first `@` (64) is the trait's name.
 abbrev pub is_of : Trait → List ℕ → Bool
 is_of trait key = bytes_eq (name_of trait) (before_first (λ byte. byte == 64) key)
@@ -141,6 +148,7 @@ kind_of top key traits =
       buildable = option_map (buildable_of top) (fields_of known.Buildable traits);
       valued = option_map valued_of (fields_of known.Valued traits);
       armament = option_map armament_of (fields_of known.Armament traits);
+      reveals = option_map reveals_of (fields_of known.RevealsShroud traits);
     }
 
 -- The kinds that the nodes of a list describe, in order, where `top` are all top-level nodes.

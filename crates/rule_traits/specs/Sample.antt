@@ -36,6 +36,7 @@ sample_vehicle name cost harvester armament =
       buildable = sample_buildable;
       valued = Some (record { cost = cost });
       armament = armament;
+      reveals = None;
     }
 
 abbrev pub sample_building : List ℕ → Option Refinery → Option Production → Kind
@@ -51,6 +52,7 @@ sample_building name refinery production =
       buildable = None;
       valued = None;
       armament = None;
+      reveals = None;
     }
 
 abbrev pub sample_kinds : List Kind

@@ -69,3 +69,7 @@ spread = number 0 1000000 0
 
 abbrev pub reload : Field
 reload = number 0 65535 25
+
+-- RevealsShroud.
+abbrev pub reveal_range : Field
+reveal_range = distance 0 131072 5120

@@ -6,13 +6,13 @@ use Rattle.rule_traits.specs.declared.kind.Kind.{Kind}
 use Rattle.rule_traits.specs.declared.traits.Trait.{Trait}
 use Rattle.rule_traits.specs.declared.traits.Trait.TheVariants.{Health, Mobile, Building, Harvester}
 use Rattle.rule_traits.specs.declared.traits.Trait.TheVariants.{Refinery, Production, Buildable}
-use Rattle.rule_traits.specs.declared.traits.Trait.TheVariants.{Valued, Armament}
+use Rattle.rule_traits.specs.declared.traits.Trait.TheVariants.{Valued, Armament, RevealsShroud}
 
 -- All traits, in the order of the table.
 abbrev pub all_traits : List Trait
 all_traits =
     Health ∷ Mobile ∷ Building ∷ Harvester ∷ Refinery
-    ∷ Production ∷ Buildable ∷ Valued ∷ Armament ∷ []
+    ∷ Production ∷ Buildable ∷ Valued ∷ Armament ∷ RevealsShroud ∷ []
 
 abbrev pub name_of : Trait → List ℕ
 name_of Health = codes "Health"
@@ -24,6 +24,7 @@ name_of Production = codes "Production"
 name_of Buildable = codes "Buildable"
 name_of Valued = codes "Valued"
 name_of Armament = codes "Armament"
+name_of RevealsShroud = codes "RevealsShroud"
 
 -- The kind has the trait.
 abbrev pub has_trait : Kind → Trait → Bool
@@ -36,6 +37,7 @@ has_trait kind Production = is_some kind.production
 has_trait kind Buildable = is_some kind.buildable
 has_trait kind Valued = is_some kind.valued
 has_trait kind Armament = is_some kind.armament
+has_trait kind RevealsShroud = is_some kind.reveals
 
 -- The trait of a key: the one whose name stands before the first `@` (64), or is the whole key.
 unfoldable pub trait_of : List ℕ → Option Trait

@@ -19,6 +19,7 @@ use Rattle.rule_traits.specs.declared.trait_value.TraitValue.TheVariants.{Health
 use Rattle.rule_traits.specs.declared.trait_value.TraitValue.TheVariants.{Harvester, Refinery}
 use Rattle.rule_traits.specs.declared.trait_value.TraitValue.TheVariants.{Production, Buildable}
 use Rattle.rule_traits.specs.declared.trait_value.TraitValue.TheVariants.{Valued, Armament}
+use Rattle.rule_traits.specs.declared.trait_value.TraitValue.TheVariants.{RevealsShroud}
 use Rattle.rule_traits.specs.declared.TheConstants.{MAX_KINDS}
 use Rattle.rule_traits.specs.Kinds.{is_kind}
 use Rattle.rule_traits.specs.Traits.{has_trait, trait_of}
@@ -26,7 +27,7 @@ use Rattle.rule_traits.specs.Values.{After, plain_health, health_with, plain_mob
 use Rattle.rule_traits.specs.Values.{plain_harvester, harvester_with, plain_refinery, refinery_with}
 use Rattle.rule_traits.specs.Values.{plain_production, production_with, plain_buildable}
 use Rattle.rule_traits.specs.Values.{buildable_with, plain_valued, valued_with, plain_armament}
-use Rattle.rule_traits.specs.Values.{armament_with}
+use Rattle.rule_traits.specs.Values.{armament_with, plain_reveals, reveals_with}
 
 -- The nodes of a list taken in order, each by a step from what was made so far. Its first fault
 -- ends it.
@@ -60,6 +61,7 @@ plain known.Production = Production plain_production
 plain known.Buildable = Buildable plain_buildable
 plain known.Valued = Valued plain_valued
 plain known.Armament = Armament plain_armament
+plain known.RevealsShroud = RevealsShroud plain_reveals
 
 abbrev pub wrapped : {T : Type 0} → (T → TraitValue) → After T → After TraitValue
 wrapped wrap (Ok (value, has)) = Ok (wrap value, has)
@@ -77,6 +79,8 @@ value_with top (Buildable t) key value place =
     wrapped Buildable (buildable_with top t key value place)
 value_with top (Valued t) key value place = wrapped Valued (valued_with t key value place)
 value_with top (Armament t) key value place = wrapped Armament (armament_with t key value place)
+value_with top (RevealsShroud t) key value place =
+    wrapped RevealsShroud (reveals_with t key value place)
 
 -- A field that its trait hasn't is passed over. What stands below a field is not looked at.
 abbrev pub noted :
@@ -118,6 +122,7 @@ with_trait kind (Production t) = record kind { production = Some t }
 with_trait kind (Buildable t) = record kind { buildable = Some t }
 with_trait kind (Valued t) = record kind { valued = Some t }
 with_trait kind (Armament t) = record kind { armament = Some t }
+with_trait kind (RevealsShroud t) = record kind { reveals = Some t }
 
 -- A known trait, with the fields below it, joins a kind that hasn't got it.
 unfoldable pub trait_joined :
@@ -159,6 +164,7 @@ plain_kind name =
       buildable = None;
       valued = None;
       armament = None;
+      reveals = None;
     }
 
 -- A kind with the traits below its node, where these nodes were passed over before.

@@ -11,6 +11,7 @@ use Rattle.rule_traits.specs.declared.trait_fields.Refinery.{Refinery}
 use Rattle.rule_traits.specs.declared.trait_fields.Buildable.{Buildable}
 use Rattle.rule_traits.specs.declared.trait_fields.Valued.{Valued}
 use Rattle.rule_traits.specs.declared.trait_fields.Armament.{Armament}
+use Rattle.rule_traits.specs.declared.trait_fields.Reveals.{Reveals}
 use Rattle.rule_traits.specs.Table as table
 
 -- The number is one that the field may have.
@@ -50,6 +51,9 @@ pub record IsValidArmament (t : Armament) : Type 0 where
   pub spread : IsInRange table.spread t.spread
   pub reload : IsInRange table.reload t.reload
 
+pub record IsValidReveals (t : Reveals) : Type 0 where
+  pub range : IsInRange table.reveal_range t.range
+
 -- The traits of a kind are valid among so many kinds.
 pub record IsValidKind (kinds : ℕ) (kind : Kind) : Type 0 where
   pub health : IfSome kind.health IsValidHealth
@@ -59,6 +63,7 @@ pub record IsValidKind (kinds : ℕ) (kind : Kind) : Type 0 where
   pub buildable : IfSome kind.buildable (IsValidBuildable kinds)
   pub valued : IfSome kind.valued IsValidValued
   pub armament : IfSome kind.armament IsValidArmament
+  pub reveals : IfSome kind.reveals IsValidReveals
 
 pub record AreValidRules (rules : List Kind) : Type 0 where
   pub limit : length rules ≤ MAX_KINDS

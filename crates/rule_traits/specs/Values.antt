@@ -21,10 +21,12 @@ use Rattle.rule_traits.specs.declared.trait_fields.Production.{Production}
 use Rattle.rule_traits.specs.declared.trait_fields.Buildable.{Buildable}
 use Rattle.rule_traits.specs.declared.trait_fields.Valued.{Valued}
 use Rattle.rule_traits.specs.declared.trait_fields.Armament.{Armament}
+use Rattle.rule_traits.specs.declared.trait_fields.Reveals.{Reveals}
 use Rattle.rule_traits.specs.Kinds.{numbers_after}
 use Rattle.rule_traits.specs.Table.{hp, speed, turn_speed, clear_cost, road_cost, rough_cost}
 use Rattle.rule_traits.specs.Table.{water_cost, capacity, bale_load_delay, bale_unload_delay}
 use Rattle.rule_traits.specs.Table.{bale_value, build_duration, cost, range, damage, spread, reload}
+use Rattle.rule_traits.specs.Table.{reveal_range}
 
 -- The number that a text writes in this form.
 abbrev pub form_value : Form → List ℕ → Option ℕ
@@ -178,3 +180,13 @@ armament_with t key value place =
     else (if bytes_eq key (codes "Reload") then
     set_to (field_value reload value place) (λ n. record t { reload = n })
     else unknown t)))
+
+-- RevealsShroud.
+abbrev pub plain_reveals : Reveals
+plain_reveals = record { range = reveal_range.default }
+
+unfoldable pub reveals_with : Reveals → (key value : List ℕ) → Place → After Reveals
+reveals_with t key value place =
+    if bytes_eq key (codes "Range") then
+    set_to (field_value reveal_range value place) (λ n. record t { range = n })
+    else unknown t

@@ -2,7 +2,7 @@ ghost use Rattle.std.specs.Prelude.{◌≡◌};
 ghost use Rattle.rule_traits.specs.Rules.{is_listed};
 
 use crate::trait_fields::{
-    Armament, Buildable, Harvester, Health, Mobile, Production, Refinery, Valued,
+    Armament, Buildable, Harvester, Health, Mobile, Production, Refinery, Reveals, Valued,
 };
 use crate::trait_value::TraitValue;
 use crate::traits::Trait;
@@ -38,6 +38,8 @@ pub struct Kind {
     pub valued: Option<Valued>,
     /// How it shoots. `None`: it has not the trait `Armament`.
     pub armament: Option<Armament>,
+    /// How far it sees. `None`: it has not the trait `RevealsShroud`, and reveals no cell.
+    pub reveals: Option<Reveals>,
 }
 
 impl Kind {
@@ -61,6 +63,7 @@ impl Kind {
             Trait::Buildable => self.buildable.is_some(),
             Trait::Valued => self.valued.is_some(),
             Trait::Armament => self.armament.is_some(),
+            Trait::RevealsShroud => self.reveals.is_some(),
         }
     }
 
@@ -138,6 +141,7 @@ impl Kind {
             buildable: None,
             valued: None,
             armament: None,
+            reveals: None,
         }
     }
 
@@ -155,6 +159,7 @@ impl Kind {
             TraitValue::Buildable(t) => self.buildable = Some(t),
             TraitValue::Valued(t) => self.valued = Some(t),
             TraitValue::Armament(t) => self.armament = Some(t),
+            TraitValue::RevealsShroud(t) => self.reveals = Some(t),
         }
     }
 }

@@ -29,7 +29,7 @@ pub use rules::Rules;
 pub use sample::SAMPLE_RULES;
 pub use skipped::Skipped;
 pub use trait_fields::{
-    Armament, Buildable, Costs, Harvester, Health, Mobile, Production, Refinery, Valued,
+    Armament, Buildable, Costs, Harvester, Health, Mobile, Production, Refinery, Reveals, Valued,
 };
 pub use traits::Trait;
 pub use typing::type_rules;

@@ -1,8 +1,11 @@
-//! Each trait's fields: one function a trait, which reads one field into it.
+//! Each trait's fields: one function a trait, which reads one field into it. True: the trait has a
+//! field of the node's key, and its member now holds the node's value. False: it has none, and
+//! stays as it was. It refuses a field whose value is not of its form (`BadValue`), one outside its
+//! range (`OutOfRange`), and one that names no kind (`UnknownKindName`).
 
 ghost use Rattle.rule_traits.specs.Values.{health_with, mobile_with, harvester_with, refinery_with};
 ghost use Rattle.rule_traits.specs.Values.{production_with, buildable_with, valued_with};
-ghost use Rattle.rule_traits.specs.Values.{armament_with};
+ghost use Rattle.rule_traits.specs.Values.{armament_with, reveals_with};
 ghost use Rattle.yaml_lines.specs.Trees.{trees_of};
 ghost use Rattle.yaml_lines.specs.declared.forest.Forest.TheViews.{out-Node};
 ghost use Rattle.rule_traits.specs.Sets.{Sets, of_node};
@@ -12,12 +15,13 @@ use crate::kind_names::KindNames;
 use crate::reading::{read_field, read_kinds, read_names};
 use crate::table::*;
 use crate::trait_fields::{
-    Armament, Buildable, Harvester, Health, Mobile, Production, Refinery, Valued,
+    Armament, Buildable, Harvester, Health, Mobile, Production, Refinery, Reveals, Valued,
 };
 use std::alloc::Global;
 use yaml_lines::Node;
 
-/// Reads a field of `Health`. False where the trait hasn't such a field, as below.
+/// Sets `HP` of a trait `Health`. `BadValue` where the value isn't of the field's form,
+/// `OutOfRange` where it is and lies outside the field's range, as below.
 #[tactic(auto, unfolding(crate::specs::Values::health_with))]
 pub fn set_health(t: &mut Health, node: &Node) -> Result<bool, RuleFault>
     ensures { Sets t.new (of_node (health_with t.old) node.now) result }
@@ -30,7 +34,7 @@ pub fn set_health(t: &mut Health, node: &Node) -> Result<bool, RuleFault>
     Ok(true)
 }
 
-/// Reads a field of `Mobile`.
+/// Sets the speed, the turn speed or a cost of a trait `Mobile`.
 #[tactic(auto, unfolding(crate::specs::Values::mobile_with))]
 pub fn set_mobile(t: &mut Mobile, node: &Node) -> Result<bool, RuleFault>
     ensures { Sets t.new (of_node (mobile_with t.old) node.now) result }
@@ -49,7 +53,7 @@ pub fn set_mobile(t: &mut Mobile, node: &Node) -> Result<bool, RuleFault>
     Ok(true)
 }
 
-/// Reads a field of `Harvester`.
+/// Sets the capacity or a delay of a trait `Harvester`.
 #[tactic(auto, unfolding(crate::specs::Values::harvester_with))]
 pub fn set_harvester(t: &mut Harvester, node: &Node) -> Result<bool, RuleFault>
     ensures { Sets t.new (of_node (harvester_with t.old) node.now) result }
@@ -65,7 +69,7 @@ pub fn set_harvester(t: &mut Harvester, node: &Node) -> Result<bool, RuleFault>
     Ok(true)
 }
 
-/// Reads a field of `Refinery`.
+/// Sets what a bale is worth to a trait `Refinery`.
 #[tactic(auto, unfolding(crate::specs::Values::refinery_with))]
 pub fn set_refinery(t: &mut Refinery, node: &Node) -> Result<bool, RuleFault>
     ensures { Sets t.new (of_node (refinery_with t.old) node.now) result }
@@ -78,7 +82,7 @@ pub fn set_refinery(t: &mut Refinery, node: &Node) -> Result<bool, RuleFault>
     Ok(true)
 }
 
-/// Reads a field of `Production`.
+/// Sets the queues of a trait `Production`: any value lists names. Only memory may fail it.
 #[tactic(auto, unfolding(crate::specs::Values::production_with))]
 pub fn set_production(alloc: Global, t: &mut Production, node: &Node) -> Result<bool, RuleFault>
     ensures { Sets t.new (production_with t.old (out-Node node.now).key (out-Node node.now).value)
@@ -91,7 +95,8 @@ pub fn set_production(alloc: Global, t: &mut Production, node: &Node) -> Result<
     Ok(true)
 }
 
-/// Reads a field of `Buildable`.
+/// Sets the queues, the duration or the needs of a trait `Buildable`. `UnknownKindName` where the
+/// needs name no kind of the forest; the duration fails as other numbers do.
 #[tactic(auto, unfolding(crate::specs::Values::buildable_with))]
 pub fn set_buildable(
     alloc: Global,
@@ -112,7 +117,7 @@ pub fn set_buildable(
     Ok(true)
 }
 
-/// Reads a field of `Valued`.
+/// Sets the cost of a trait `Valued`.
 #[tactic(auto, unfolding(crate::specs::Values::valued_with))]
 pub fn set_valued(t: &mut Valued, node: &Node) -> Result<bool, RuleFault>
     ensures { Sets t.new (of_node (valued_with t.old) node.now) result }
@@ -125,7 +130,7 @@ pub fn set_valued(t: &mut Valued, node: &Node) -> Result<bool, RuleFault>
     Ok(true)
 }
 
-/// Reads a field of `Armament`.
+/// Sets the range, the damage, the spread or the reload of a trait `Armament`.
 #[tactic(auto, unfolding(crate::specs::Values::armament_with))]
 pub fn set_armament(t: &mut Armament, node: &Node) -> Result<bool, RuleFault>
     ensures { Sets t.new (of_node (armament_with t.old) node.now) result }
@@ -137,6 +142,19 @@ pub fn set_armament(t: &mut Armament, node: &Node) -> Result<bool, RuleFault>
         "Damage" => t.damage = read_field(DAMAGE, value, place)?,
         "Spread" => t.spread = read_field(SPREAD, value, place)?,
         "Reload" => t.reload = read_field(RELOAD, value, place)? as u16,
+        _ => return Ok(false),
+    }
+    Ok(true)
+}
+
+/// Sets the range of a trait `RevealsShroud`.
+#[tactic(auto, unfolding(crate::specs::Values::reveals_with))]
+pub fn set_reveals(t: &mut Reveals, node: &Node) -> Result<bool, RuleFault>
+    ensures { Sets t.new (of_node (reveals_with t.old) node.now) result }
+{
+    let value = node.value.as_str();
+    match node.key.as_str() {
+        "Range" => t.range = read_field(REVEAL_RANGE, value, node.place)?,
         _ => return Ok(false),
     }
     Ok(true)

@@ -70,3 +70,7 @@ pub const SPREAD: Field = field!(Number, 0 to 1_000_000, without 0);
 
 /// Ticks.
 pub const RELOAD: Field = field!(Number, 0 to 65_535, without 25);
+
+// RevealsShroud.
+/// Units.
+pub const REVEAL_RANGE: Field = field!(Distance, 0 to 131_072, without 5_120);

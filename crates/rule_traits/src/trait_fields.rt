@@ -88,3 +88,10 @@ pub struct Armament {
     /// Ticks from one shot to the next, 0 to 65,535.
     pub reload: u16,
 }
+
+/// It reveals the cells around it to its owner.
+#[derive(Clone, Copy, Debug, Drop, PartialEq, Eq)]
+pub struct Reveals {
+    /// How far it sees, in units, of which a cell has 1,024: 0 to 131,072.
+    pub range: u32,
+}

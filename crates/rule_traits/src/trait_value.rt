@@ -3,11 +3,11 @@ use crate::kind_names::KindNames;
 use crate::lists::{KindNumbers, NameList};
 use crate::setting::{
     set_armament, set_buildable, set_harvester, set_health, set_mobile, set_production,
-    set_refinery, set_valued,
+    set_refinery, set_reveals, set_valued,
 };
 use crate::table::*;
 use crate::trait_fields::{
-    Armament, Buildable, Costs, Harvester, Health, Mobile, Production, Refinery, Valued,
+    Armament, Buildable, Costs, Harvester, Health, Mobile, Production, Refinery, Reveals, Valued,
 };
 use crate::traits::Trait;
 use std::alloc::Global;
@@ -34,6 +34,8 @@ pub enum TraitValue {
     Valued(Valued),
     /// It shoots.
     Armament(Armament),
+    /// It reveals the cells around it to its owner.
+    RevealsShroud(Reveals),
 }
 
 impl TraitValue {
@@ -82,6 +84,9 @@ impl TraitValue {
                 spread: SPREAD.default,
                 reload: RELOAD.default as u16,
             }),
+            Trait::RevealsShroud => TraitValue::RevealsShroud(Reveals {
+                range: REVEAL_RANGE.default,
+            }),
         }
     }
 
@@ -99,6 +104,7 @@ impl TraitValue {
             TraitValue::Buildable(t) => set_buildable(alloc, kinds, t, node),
             TraitValue::Valued(t) => set_valued(t, node),
             TraitValue::Armament(t) => set_armament(t, node),
+            TraitValue::RevealsShroud(t) => set_reveals(t, node),
         }
     }
 }

@@ -19,14 +19,18 @@ pub enum Trait {
     Valued,
     /// It shoots.
     Armament,
+    /// It reveals the cells around it to its owner.
+    RevealsShroud,
 }
 
 impl Trait {
+    ghost use Rattle.std.specs.List.{find};
     ghost use Rattle.std.specs.Prelude.{◌≡◌};
+    ghost use Rattle.std.specs.Str.{bytes_eq};
     ghost use Rattle.rule_traits.specs.Traits.{all_traits, name_of, trait_of};
 
     /// All traits, in the order of their table.
-    pub const ALL: [Trait; 9] = [
+    pub const ALL: [Trait; 10] = [
         Trait::Health,
         Trait::Mobile,
         Trait::Building,
@@ -36,6 +40,7 @@ impl Trait {
         Trait::Buildable,
         Trait::Valued,
         Trait::Armament,
+        Trait::RevealsShroud,
     ];
 
     /// A law of the list of traits: it has each of them once, in the order of their table.
@@ -57,7 +62,15 @@ impl Trait {
             Trait::Buildable => "Buildable",
             Trait::Valued => "Valued",
             Trait::Armament => "Armament",
+            Trait::RevealsShroud => "RevealsShroud",
         }
+    }
+
+    /// The trait of this name.
+    fn named(name: &str) -> Option<Trait>
+        ensures { result ≡ find (λ trait. bytes_eq (name_of trait) name.now) all_traits }
+    {
+        Trait::ALL.iter().copied().find(|t| t.name() == name)
     }
 
     /// The trait of a node's key: what stands before the first `@` is the trait's name.
@@ -65,10 +78,9 @@ impl Trait {
     pub(crate) fn of_key(key: &str) -> Option<Trait>
         ensures { result ≡ trait_of key.now }
     {
-        let name = match key.split_once('@') {
-            Some((name, _)) => name,
-            None => key,
-        };
-        Trait::ALL.iter().copied().find(|t| t.name() == name)
+        match key.split_once('@') {
+            Some((name, _)) => Trait::named(name),
+            None => Trait::named(key),
+        }
     }
 }

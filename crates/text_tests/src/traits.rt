@@ -55,7 +55,7 @@ fn write_body(out: &mut String, kind: &Kind) -> Result<(), AllocError> {
     Ok(())
 }
 
-/// Writes what a kind does with ore, and how it shoots.
+/// Writes what a kind does with ore, how it shoots, and how far it sees.
 fn write_work(out: &mut String, kind: &Kind) -> Result<(), AllocError> {
     if let Some(t) = &kind.harvester {
         let (capacity, load, unload) = (t.capacity, t.load_delay, t.unload_delay);
@@ -68,6 +68,10 @@ fn write_work(out: &mut String, kind: &Kind) -> Result<(), AllocError> {
     if let Some(t) = &kind.armament {
         let (range, damage, spread, reload) = (t.range, t.damage, t.spread, t.reload);
         write!(out, " Armament {range} {damage} {spread} {reload}")?;
+    }
+    if let Some(t) = &kind.reveals {
+        let range = t.range;
+        write!(out, " RevealsShroud {range}")?;
     }
     Ok(())
 }
@@ -155,6 +159,8 @@ const VALUES: &str = "\
     \tArmament:\n\
     \t\tRange: 0\n\
     \t\tReload: 0\n\
+    \tRevealsShroud:\n\
+    \t\tRange: 0\n\
     most:\n\
     \tHealth:\n\
     \t\tHP: 1000000000\n\
@@ -184,6 +190,8 @@ const VALUES: &str = "\
     \t\tDamage: 1000000\n\
     \t\tSpread: 1000000\n\
     \t\tReload: 65535\n\
+    \tRevealsShroud:\n\
+    \t\tRange: 131072\n\
     unsaid:\n\
     \tHealth:\n\
     \tMobile: 3\n\
@@ -193,22 +201,25 @@ const VALUES: &str = "\
     \tBuildable:\n\
     \tValued: x\n\
     \tArmament:\n\
+    \tRevealsShroud: 7\n\
     spelled:\n\
     \tHealth@x@y:\n\
     \t\tHP: 0000000010\n\
     \tArmament:\n\
     \t\tRange: 4c768\n\
+    \tRevealsShroud@far:\n\
+    \t\tRange: 1c1\n\
     ";
 
 const VALUED: &str = "\
     least Health 1 Mobile 0 0 0,0,0,0 Harvester 1 0 0 Refinery 0 Armament 0 0 0 0 \
-    Production [] Buildable 0 [] [] Valued 0\n\
+    RevealsShroud 0 Production [] Buildable 0 [] [] Valued 0\n\
     most Health 1000000000 Mobile 65535 1023 10,10,10,10 Harvester 10000 65535 65535 \
-    Refinery 10000 Armament 131072 1000000 1000000 65535 Production [b,a,b] Buildable \
-    65535 [a b,C] [1,0] Valued 2000000000\n\
+    Refinery 10000 Armament 131072 1000000 1000000 65535 RevealsShroud 131072 Production \
+    [b,a,b] Buildable 65535 [a b,C] [1,0] Valued 2000000000\n\
     unsaid Health 1 Mobile 1 512 2,1,4,0 Building Harvester 28 4 4 Refinery 25 \
-    Armament 1536 0 0 25 Buildable 100 [] [] Valued 0\n\
-    spelled Health 10 Armament 4864 0 0 25\n\
+    Armament 1536 0 0 25 RevealsShroud 5120 Buildable 100 [] [] Valued 0\n\
+    spelled Health 10 Armament 4864 0 0 25 RevealsShroud 1025\n\
     ";
 
 /// Kinds, traits and fields that stand twice.

@@ -49,6 +49,7 @@ fn gun(alloc: Global) -> Result<Kind, NoMemory>
             spread: 3,
             reload: 5,
         }),
+        reveals: None,
     })
 }
 

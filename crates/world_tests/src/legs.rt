@@ -40,6 +40,7 @@ fn tank(alloc: Global) -> Result<Kind, NoMemory>
         buildable: None,
         valued: None,
         armament: None,
+        reveals: None,
     })
 }
 

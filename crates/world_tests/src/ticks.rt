@@ -74,6 +74,7 @@ fn plain_kind(alloc: Global) -> Result<Kind, NoMemory>
         buildable: None,
         valued: None,
         armament: None,
+        reveals: None,
     })
 }
 
