@@ -11,6 +11,8 @@ pub mod Tick
 pub mod Keeps
 pub mod StepKeeps
 pub mod MidTurn
+pub mod TurnEnds
+pub mod OrderParts
 pub mod Shots
 pub mod Idle
 pub mod ValidWorldLemmas
@@ -43,3 +45,5 @@ pub mod ActorHarvestLemmas
 pub mod ActorBuildLemmas
 pub mod ActorsLemmas
 pub mod BlocksLemmas
+pub mod TurnEndsLemmas
+pub mod OrderPartsLemmas

@@ -1,17 +1,20 @@
 ghost use Rattle.std.specs.Prelude.{◌≡◌, ℕ, ◌+◌, List, None};
+ghost use Rattle.std.specs.List.{AllZip};
 ghost use Rattle.game_orders.specs.declared.order.Order.{Order};
 ghost use Rattle.game_orders.specs.declared.entry.Entry.{Entry};
 ghost use Rattle.game_model.specs.declared.world.World.{World};
 ghost use Rattle.game_model.specs.Setup.{Setup};
 ghost use Rattle.game_model.specs.ValidMap.{IsSetup};
 ghost use Rattle.game_model.specs.ValidWorld.{IsValidWorld, IsWorldWithin};
-ghost use Rattle.game_model.specs.World.{living_of};
+ghost use Rattle.game_model.specs.World.{ids_of, living_of};
 ghost use Rattle.game_tick.specs.MidTurn.{IsMidTurn};
+ghost use Rattle.game_tick.specs.OrderParts.{ChangesPart};
 ghost use Rattle.game_tick.specs.Orders.{after_order};
 ghost use Rattle.game_tick.specs.Shots.{shots_of};
 ghost use Rattle.game_tick.specs.StepKeeps.{ActorsKeep, HasNoMoreOre, StepKeeps};
 ghost use Rattle.game_tick.specs.Tick.{tick_of};
 ghost use Rattle.game_tick.specs.Turn.{after_step, after_steps, after_turn, blocks_of};
+ghost use Rattle.game_tick.specs.TurnEnds.{EndsTurn};
 ghost use Rattle.game_tick.specs.Keeps.{ChangesOnlyOwn, OrdersKeep, TickKeeps};
 
 /// A law of orders: they keep the seed, the clients and who has departed, and none lifts a client
@@ -24,6 +27,13 @@ pub fn orders_keep()
 /// the cash of the client to which it donates, and the pace where client 0 gives it.
 pub fn orders_change_only_own()
     ensures { (setup : Setup) (frames : ℕ) (w : World) (client : ℕ) (order : Order) → IsValidWorld setup frames w → ChangesOnlyOwn client order w (after_order setup w client order) }
+{}
+
+/// A law of orders: of an actor a Move, an Attack, a Harvest and a Stop change its activities alone,
+/// a Produce and a Cancel its builds alone, and a donation and a pace nothing.
+pub fn orders_change_one_part()
+    ensures { (setup : Setup) (w : World) (client : ℕ) (order : Order) →
+        AllZip (ChangesPart order) w.actors (after_order setup w client order).actors }
 {}
 
 /// A law of orders: none makes a valid world invalid.
@@ -68,6 +78,13 @@ pub fn draws_are_shots()
 /// A law of steps: an id of which no actor lives makes none.
 pub fn dead_make_no_step()
     ensures { (setup : Setup) (w : World) (id : ℕ) → living_of w.actors id ≡ None → after_step setup w id ≡ w }
+{}
+
+/// A law of turns: after each of them all actors live. Whoever lived after the last step is there, as
+/// it was then, and nothing else changes but the count of ticks.
+pub fn turns_bury_the_dead()
+    ensures { (setup : Setup) (w : World) →
+        EndsTurn (after_steps setup w (ids_of w.actors)) (after_turn setup w) }
 {}
 
 /// A law of turns: no cell has more ore after one.

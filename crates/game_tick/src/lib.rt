@@ -11,9 +11,10 @@ mod moving;
 mod step_law;
 
 pub use law::{
-    dead_make_no_step, draws_are_shots, orders_change_only_own, orders_keep, orders_valid,
-    steps_keep, steps_keep_actors, steps_keep_blocks, steps_keep_mid_turn, ticks_count_turns,
-    ticks_keep, ticks_valid, turns_make_no_ore, valid_worlds_are_in_mid_turn,
+    dead_make_no_step, draws_are_shots, orders_change_one_part, orders_change_only_own,
+    orders_keep, orders_valid, steps_keep, steps_keep_actors, steps_keep_blocks,
+    steps_keep_mid_turn, ticks_count_turns, ticks_keep, ticks_valid, turns_bury_the_dead,
+    turns_make_no_ore, valid_worlds_are_in_mid_turn,
 };
 pub use limits::LAST_ID;
 pub use moving::Moving;

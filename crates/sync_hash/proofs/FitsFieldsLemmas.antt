@@ -121,15 +121,15 @@ abbrev from_seed : Head → ℕ → List ℕ
 from_seed h actors = field_bytes 4 h.seed ++ from_drawn h actors
 
 -- Two headers of the same bytes are of the same head and the same number of actors.
-record SameHead (h k : Head) (m n : ℕ) : Type 0 where
-  head : h ≡ k
-  actors : m ≡ n
+pub record SameHead (h k : Head) (m n : ℕ) : Type 0 where
+  pub head : h ≡ k
+  pub actors : m ≡ n
 
 same_number : (width m n : ℕ) → m < 256 ^ width → n < 256 ^ width → field_bytes width m ≡ field_bytes width n → m ≡ n
 same_number width m n fits other_fits same =
     (same_field width m n [] [] fits other_fits (ap (λ l. l ++ []) same)).number
 
-same_header :
+pub same_header :
     (w v : World) → FitsFields w → FitsFields v →
     header_bytes (head_of w) (length w.actors) ≡ header_bytes (head_of v) (length v.actors) →
     SameHead (head_of w) (head_of v) (length w.actors) (length v.actors)
@@ -296,23 +296,23 @@ the_actor id kind owner cell facing leg health load reload acts builds =
     }
 
 -- The bytes of an actor from each part on.
-abbrev from_acts : Actor → List ℕ
+abbrev pub from_acts : Actor → List ℕ
 from_acts a = acts_bytes a.body.acts ++ builds_bytes a.body.builds
 
-abbrev from_health : Actor → List ℕ
+abbrev pub from_health : Actor → List ℕ
 from_health a = field_bytes 4 a.body.health ++ (field_bytes 2 a.body.load ++ (field_bytes 2 a.body.reload ++ from_acts a))
 
-abbrev from_facing : Actor → List ℕ
+abbrev pub from_facing : Actor → List ℕ
 from_facing a = field_bytes 2 a.body.facing ++ (leg_bytes a.body.leg ++ from_health a)
 
-abbrev from_owner : Actor → List ℕ
+abbrev pub from_owner : Actor → List ℕ
 from_owner a = a.body.owner ∷ a.cell.x ∷ a.cell.y ∷ from_facing a
 
-in_order : (a : Actor) → actor_bytes a ≡ field_bytes 4 a.id ++ (field_bytes 2 a.kind ++ from_owner a)
+pub in_order : (a : Actor) → actor_bytes a ≡ field_bytes 4 a.id ++ (field_bytes 2 a.kind ++ from_owner a)
 unfolding actor_bytes
 in_order a = simp append_assoc refl
 
-same_actor : (a b : Actor) → ActorFits a → ActorFits b → actor_bytes a ≡ actor_bytes b → a ≡ b
+pub same_actor : (a b : Actor) → ActorFits a → ActorFits b → actor_bytes a ≡ actor_bytes b → a ≡ b
 same_actor a b fits other_fits same =
     let p = a.body in
     let q = b.body in
@@ -363,7 +363,7 @@ same_actors (x ∷ xs) (y ∷ ys) left right many fits other_fits same =
     }
 
 -- Two cells with the same column and row have the same place.
-same_cell_place : (width p q : ℕ) → p % width ≡ q % width → p / width ≡ q / width → p ≡ q
+pub same_cell_place : (width p q : ℕ) → p % width ≡ q % width → p / width ≡ q / width → p ≡ q
 same_cell_place width p q column row =
     sym (div-add-mod' p width) ∙ ap₂ (λ r c. r * width + c) row column ∙ div-add-mod' q width
 
@@ -413,7 +413,7 @@ same_ore width place (x ∷ xs) (y ∷ ys) many same =
           let others : ore_parts width (place + 1) xs ≡ ore_parts width (place + 1) ys = cc in
           ap₂ (λ a l. a ∷ l) first (again others)
 
-abbrev the_grid : ℕ → ℕ → List ℕ → Grid ℕ
+abbrev pub the_grid : ℕ → ℕ → List ℕ → Grid ℕ
 the_grid width height cells = record { width = width; height = height; cells = cells }
 
 -- Two worlds of one size with the same byte lists are the same world.

@@ -2,3 +2,4 @@ pub mod HeaderLemmas
 pub mod NumbersLemmas
 pub mod SumLemmas
 pub mod FitsFieldsLemmas
+pub mod AnyOrderLemmas

@@ -1,6 +1,7 @@
 pub mod Fnv
 pub mod HashedBytes
 pub mod WorldHash
+pub mod AnyOrder
 pub mod Kept
 pub mod KeptLemmas
 pub mod FitsFields

@@ -1,8 +1,11 @@
 ghost use Rattle.std.specs.Prelude.{◌≡◌, ◌<◌, ◌≤◌, ◌⊎◌, [], ◌∷◌, true, length, slice_set, IfOk};
+ghost use Rattle.game_model.specs.declared.world.World.{World};
 ghost use Rattle.game_model.specs.Grid.{HasSize, place_of};
-ghost use Rattle.game_model.specs.World.{AreClients};
-ghost use Rattle.sync_hash.specs.Kept.{actor_number, cell_number, has_id, hash_with, hash_with_1};
-ghost use Rattle.sync_hash.specs.Kept.{kept_of, mixed_more, ore_cells, with_number, without_number};
+ghost use Rattle.game_model.specs.World.{AreClients, head_of};
+ghost use Rattle.sync_hash.specs.Kept.{IsKeptOf, actor_number, cell_number, has_id, hash_with};
+ghost use Rattle.sync_hash.specs.Kept.{hash_with_1, kept_of, mixed_more, ore_cells, with_number};
+ghost use Rattle.sync_hash.specs.Kept.{without_number};
+ghost use Rattle.sync_hash.specs.WorldHash.{hash_of, hash_of_1};
 
 use crate::actor_bytes::actor_number;
 use crate::actor_numbers::ActorNumbers;
@@ -24,6 +27,7 @@ pub struct Hasher {
     cells: Vec<u64>,
     // the sum of all numbers, modulo 2^64
     sum: u64,
+    // how many parts, actors and cells, were hashed so far
     mixed: u64,
 }
 
@@ -108,10 +112,13 @@ impl Hasher {
 
     /// The hash of a world with this head, which has 1 to `MAX_CLIENTS` clients with one cash and
     /// one departure flag for each, and with what is kept. No actor and no cell is hashed for it.
+    /// Where the numbers of a world's actors and cells are kept, it is that world's hash.
     #[tactic(auto, unfolding(crate::specs::Kept::hash_with))]
     pub fn hash(&self, head: &Head) -> u64
         requires { AreClients head.now.cash head.now.gone }
-        ensures { result ≡ hash_with self.now head.now }
+        ensures value { result ≡ hash_with self.now head.now }
+        ensures world { (w : World) → IsKeptOf self.now w.actors w.ore → head.now ≡ head_of w →
+            result ≡ hash_of w }
     {
         let header = header_number(head, self.actors.len() as u32);
         header.wrapping_add(self.sum)
@@ -121,13 +128,15 @@ impl Hasher {
     #[tactic(auto, unfolding(crate::specs::Kept::hash_with_1))]
     pub fn hash_1(&self, head: &Head) -> u64
         requires { AreClients head.now.cash head.now.gone }
-        ensures { result ≡ hash_with_1 self.now head.now }
+        ensures value { result ≡ hash_with_1 self.now head.now }
+        ensures world { (w : World) → IsKeptOf self.now w.actors w.ore → head.now ≡ head_of w →
+            result ≡ hash_of_1 w }
     {
         let header = header_number_1(head, self.actors.len() as u32);
         header.wrapping_add(self.sum)
     }
 
-    /// How many actors and cells were hashed so far. It stays at the greatest `u64`.
+    /// Parts hashed: how many actors and cells were hashed so far. It stays at the greatest `u64`.
     pub fn mixed(&self) -> u64
         ensures { result ≡ self.now.mixed }
     {

@@ -1,7 +1,6 @@
-use Rattle.std.proofs.Common.{◌∙◌, ap, sym, subst}
+use Rattle.std.proofs.Common.{◌∙◌, ap, refl, sym, subst}
 use Rattle.game_model.specs.World.{world_with}
 use Rattle.sync_hash.specs.Kept.{IsKeptOf}
-use Rattle.sync_hash.specs.KeptLemmas.{kept_hash_1}
 use Rattle.sync_hash.specs.WorldHash.{hash_of_1}
 use Rattle.tick_core.specs.Live.{Standing}
 use Rattle.tick_core.proofs.scene.Scene.hash_1.Goals as goal
@@ -10,5 +9,5 @@ pub returns : goal.returns
 returns c =
     let s = c.self.inside in
     let kept = subst (λ (x : Standing). IsKeptOf c.args.hasher.now x.world.actors x.world.ore) (sym c.self.view_is) c.requires in
-    c.hash_1.ensures ∙ kept_hash_1 c.args.hasher.now (world_with s.head s.table.actors s.ore) kept
+    c.hash_1.ensures.world (world_with s.head s.table.actors s.ore) kept refl
     ∙ ap (λ (x : Standing). hash_of_1 x.world) c.self.view_is
