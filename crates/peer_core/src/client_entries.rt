@@ -76,7 +76,7 @@ impl ClientEntries {
             ++ unwrap_or (own_has (play_at self.now.plays n) self.now.left n) Leave ∷ [] }
     {
         match self.plays.get(n) {
-            Some(orders) => frame.push(Entry::Play(orders.to_orders())),
+            Some(orders) => frame.push_play(orders.as_slice()),
             None => frame.push(Entry::Leave),
         }
     }

@@ -29,6 +29,8 @@ pub struct Peer<S: Sim> {
     entries: Vec<ClientEntries>,
     ticked: u32,
     sealed: u32,
+    // the frame of a tick, filled anew each time, so that its room is made once
+    frame: Frame,
     sim: S,
 }
 
@@ -84,6 +86,7 @@ impl<S: Sim> Peer<S> {
             entries: no_entries(alloc, clients)?,
             ticked: 0,
             sealed: 0,
+            frame: Frame::empty(),
             sim,
         })
     }
@@ -227,9 +230,9 @@ impl<S: Sim> Peer<S> {
         let ticked = self.ticked;
         match ready_by(self, ticked) {
             Ready::Yes => {
-                let mut frame = Frame::empty();
-                fill_frame(&self.entries, self.clients, ticked, &mut frame);
-                self.sim.step(&frame);
+                self.frame.clear();
+                fill_frame(&self.entries, self.clients, ticked, &mut self.frame);
+                self.sim.step(&self.frame);
                 self.ticked += 1;
                 TickAnswer::Ticked(ticked)
             }

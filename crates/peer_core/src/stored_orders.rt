@@ -1,10 +1,10 @@
-ghost use Rattle.std.specs.Prelude.{◌≡◌, [], ◌∷◌, IfOk};
+ghost use Rattle.std.specs.Prelude.{◌≡◌, ◌≤◌, [], ◌∷◌, length, IfOk};
 ghost use Rattle.peer_core.specs.StoredOrders.{orders_of};
 ghost use Rattle.game_orders.specs.Order.{same_orders};
 
 use crate::held_orders::HeldOrders;
 use base::NoMemory;
-use game_orders::{Order, Orders};
+use game_orders::{MAX_ORDERS, Order, Orders};
 use std::alloc::Global;
 use std::marker::Model;
 
@@ -50,19 +50,25 @@ impl StoredOrders {
         }
     }
 
+    /// The orders, where they stand.
+    pub(crate) fn as_slice(&self) -> &[Order]
+        ensures value { result.now ≡ self.now }
+        ensures limit { length result.now ≤ MAX_ORDERS }
+    {
+        match &self.held {
+            HeldOrders::Nothing => [].as_slice(),
+            HeldOrders::One(order) => std::slice::from_ref(order),
+            HeldOrders::More(orders) => orders.as_slice(),
+        }
+    }
+
     /// The orders once more.
     pub(crate) fn to_orders(&self) -> Orders
         ensures { result ≡ self.now }
     {
-        match &self.held {
-            HeldOrders::Nothing => Orders::empty(),
-            HeldOrders::One(order) => {
-                let mut orders = Orders::empty();
-                let _ = orders.try_push(*order);
-                orders
-            }
-            HeldOrders::More(orders) => orders.copy(),
-        }
+        let mut orders = Orders::empty();
+        orders.replace(self.as_slice());
+        orders
     }
 }
 
