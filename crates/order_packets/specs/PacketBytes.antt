@@ -26,7 +26,7 @@ down_payload (Entry client frame (Play orders)) =
 down_payload (Entry client frame Leave) =
     field_bytes 1 20 ++ (field_bytes 1 client ++ field_bytes 4 frame)
 
--- A payload behind its length.
+-- A payload after its length.
 unfoldable pub framed : List ℕ → List ℕ
 framed payload = field_bytes 2 (length payload) ++ payload
 

@@ -5,7 +5,7 @@ ghost use Rattle.order_packets.specs.Feed.{given_by, IfGiven, IfOpen};
 ghost use Rattle.order_packets.specs.PacketBytes.{framed};
 
 use crate::feed_fault::FeedFault;
-use crate::first_packet::first_packet;
+use crate::first_reading::first_packet;
 use crate::limits::MAX_PAYLOAD;
 use crate::packet::Packet;
 use base::NoMemory;

@@ -9,14 +9,15 @@
 //! payload in two bytes, at most [`MAX_PAYLOAD`], and the payload, a tag and the packet's fields
 //! (`specs/PacketBytes.antt`). No spelling begins another. A [`Feeder`] takes a stream in pieces
 //! and gives the packets whose spellings stand in it one after another, then that the stream is
-//! open or the fault in a packet's place, however the stream was cut.
+//! open or the fault in a packet's place, however the stream was cut. [`first_packet`] reads the
+//! packet that bytes begin with, where they are held already.
 #![tactic(auto)]
 
 mod down;
 mod down_reading;
 mod feed_fault;
 mod feeder;
-mod first_packet;
+mod first_reading;
 mod fits;
 mod law;
 mod limits;
@@ -28,6 +29,7 @@ mod writing;
 pub use down::Down;
 pub use feed_fault::FeedFault;
 pub use feeder::Feeder;
+pub use first_reading::first_packet;
 pub use fits::{down_fits, up_fits};
 pub use law::{
     a_fault_stands_in_its_place, a_stream_is_read_one_way, down_is_read_back,
