@@ -315,7 +315,11 @@ fn a_sure_net_gives_its_links(rt: HostRuntime) -> Result<(), Fail> {
 }
 
 /// Listens at the first port of the loopback that is free, from this one on, and answers its address.
-fn listen_somewhere<N: Net>(alloc: Global, net: &mut N, first: u32) -> Result<String, Fail>
+pub(crate) fn listen_somewhere<N: Net>(
+    alloc: Global,
+    net: &mut N,
+    first: u32,
+) -> Result<String, Fail>
     requires { first < 20_000 }
 {
     for step in 0..200 {

@@ -4,3 +4,9 @@
 
 #[cfg(test)]
 mod devices;
+#[cfg(test)]
+mod files;
+#[cfg(test)]
+mod sockets;
+#[cfg(test)]
+mod watches;

@@ -2,13 +2,17 @@ ghost use Rattle.std.specs.Prelude.{◌≡◌, None};
 
 use crate::disk::Disk;
 use crate::disk_error::DiskError;
+use crate::whole_file::write_whole;
 use base::FaultCount;
 use std::alloc::Global;
-use std::io::{ErrorKind, Read, Write};
+use std::io::{ErrorKind, Read};
 use std::rt::Files;
 use std::{fs, io};
 
 /// The files of the system, under their paths. It tells no contents.
+///
+/// A name that is a regular file, or none, has its old bytes or all new ones: these are written beside
+/// it and take its place. Other names, as that of a device, are written in place.
 #[derive(Drop)]
 pub struct FileDisk<'a, R: Files + AllocGlobal> {
     rt: &'a R,
@@ -34,13 +38,6 @@ fn read_prefix<R: Files>(rt: &R, alloc: Global, name: &str, most: u64) -> io::Re
         .take(most)
         .read_to_end(&mut bytes)?;
     Ok(bytes)
-}
-
-/// Makes these bytes the file's content.
-fn write_whole<R: Files>(rt: &R, name: &str, bytes: &[u8]) -> io::Result<()> {
-    let mut file = fs::File::create(rt, name)?;
-    file.write_all(bytes)?;
-    file.flush()
 }
 
 impl<R: Files + AllocGlobal> Disk for FileDisk<'_, R> {

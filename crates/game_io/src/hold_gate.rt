@@ -1,4 +1,5 @@
 use crate::gate::Gate;
+use crate::watch::NoWatch;
 use std::sync::atomic::{AtomicBool, Ordering};
 use std::thread;
 
@@ -69,6 +70,8 @@ impl HoldGate {
 }
 
 impl Gate for HoldGate {
+    type Watch = NoWatch;
+
     fn before(&self, client: u8, frame: u32) {
         let Some((own, other)) = self.pair(client) else {
             return;
@@ -90,5 +93,9 @@ impl Gate for HoldGate {
         if let Some((own, _)) = self.pair(client) {
             own.answered.store(true, Ordering::SeqCst);
         }
+    }
+
+    fn watch(&self) -> &NoWatch {
+        NoWatch::lent()
     }
 }

@@ -4,6 +4,7 @@ ghost use Rattle.game_io.specs.declared.net.TheConstants.{MAX_LINKS};
 use crate::failed::Failed;
 use crate::sink::Sink;
 use crate::source::Source;
+use std::net::SocketAddr;
 
 /// The most links that a net gives.
 pub const MAX_LINKS: u32 = 16;
@@ -66,4 +67,26 @@ pub trait Net {
     /// greatest `u64`, and 0 before.
     fn link_faults(&self, i: u32) -> u64
         ensures { result ≡ link_faults (state self.now).given i };
+
+    /// From now on [`Net::accept`] waits for the next link at most so many seconds. Once it has waited
+    /// in vain it fails where no link has come yet; else it gives a link that has ended, then and
+    /// whenever it is called again. A net that doesn't wait does nothing.
+    fn limit_wait(&mut self, _seconds: u32)
+        ensures { state self.new ≡ state self.old }
+    {}
+
+    /// No more links are wanted: from now on nobody is let in. A net in memory does nothing.
+    fn stop_listening(&mut self)
+        ensures { state self.new ≡ state self.old }
+    {}
+
+    /// The address at which it listens, where it is a real one.
+    fn listens_at(&self) -> Option<SocketAddr> {
+        None
+    }
+
+    /// The address of the other side of the link that was accepted last, where it is a real one.
+    fn came_from(&self) -> Option<SocketAddr> {
+        None
+    }
 }

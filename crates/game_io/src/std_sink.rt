@@ -31,6 +31,13 @@ impl<W: Write + Drop> StdSink<W> {
             faults: FaultCount::new(),
         }
     }
+
+    /// The writer.
+    pub fn writer(&self) -> &W
+        ensures { result.now ≡ self.now.writer }
+    {
+        &self.writer
+    }
 }
 
 impl<W: Write + Drop> Sink for StdSink<W> {

@@ -23,6 +23,13 @@ impl<R: Read + Drop> StdSource<R> {
             faults: FaultCount::new(),
         }
     }
+
+    /// The reader.
+    pub fn reader(&self) -> &R
+        ensures { result.now ≡ self.now.reader }
+    {
+        &self.reader
+    }
 }
 
 impl<R: Read + Drop> Source for StdSource<R> {

@@ -1,7 +1,7 @@
 //! Matches over the least world, on threads.
 use drill_words::{MAX_DRILL_BYTES, read_script};
 use frame_core::{Sim, Tally};
-use game_io::{Gate, HoldGate, NoGate};
+use game_io::{Gate, HoldGate, NoGate, NoWatch};
 use match_run::run_local;
 use std::alloc::Global;
 use std::process::Abort;
@@ -81,12 +81,18 @@ impl NotingGate {
 }
 
 impl Gate for NotingGate {
+    type Watch = NoWatch;
+
     fn before(&self, client: u8, frame: u32) {
         self.note(client, frame.wrapping_mul(2).wrapping_add(1));
     }
 
     fn after(&self, client: u8, frame: u32) {
         self.note(client, frame.wrapping_mul(2).wrapping_add(2));
+    }
+
+    fn watch(&self) -> &NoWatch {
+        NoWatch::lent()
     }
 }
 

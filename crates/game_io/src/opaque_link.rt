@@ -3,13 +3,13 @@ ghost use Rattle.game_io.specs.NetState.{TakenBack};
 
 use std::marker::Model;
 
-/// How often the halves of a link over TCP had failed together as it was taken back.
+/// How often the halves of a link that tells no bytes had failed together as it was taken back.
 #[derive(Drop)]
-pub(crate) struct TcpLink {
+pub struct OpaqueLink {
     pub(crate) faults: u64,
 }
 
-impl Model for TcpLink {
+impl Model for OpaqueLink {
     ghost Value = { TakenBack };
 
     ghost view = { λ link. record { left = None; written = None; faults = link.faults } };
