@@ -1,12 +1,14 @@
--- What failed in a call. Each field is that the count of faults of an object rose in it.
+-- What may have failed in a call. Each field is that the count of faults of an object rose in it. A
+-- disk has one count for its reads and its writes, which does not tell them apart: where it rose in
+-- a command that writes a file, both fields of the disk hold, whichever of the two failed.
 use Rattle.std.specs.Prelude.{ℕ, List, Option, IsSome}
 use Rattle.base.specs.Cause.{Increased}
 use Rattle.command_answers.specs.Environment.{Environment}
 
 pub record Causes : Type 1 where
-  -- The disk, in a read.
+  -- The disk, in a read, as far as its count tells.
   pub read : Type 0
-  -- The disk, in a write.
+  -- The disk, in a command that writes a file.
   pub write : Type 0
   -- The sink.
   pub sink : Type 0

@@ -1,4 +1,4 @@
-//! The program `lockstep`: it hands its words, the real files and the real output to `run`, or,
+//! The program `lockstep`: it hands its arguments, the real files and the real output to `run`, or,
 //! where the command is one of that call's, to `run_waiting`, with links over TCP and its input.
 #![tactic(auto)]
 
@@ -9,8 +9,8 @@ use std::io::{ErrorKind, Input};
 use std::process::ExitCode;
 use std::{env, io};
 
-/// The words of the command line. Words that are no text are an error, and are refused as no words
-/// are.
+/// The arguments of the command line. Arguments that are not UTF-8 are refused, as an empty command
+/// line is.
 fn words_of(rt: &HostRuntime) -> io::Result<Vec<String>> {
     let mut words = Vec::new(rt.alloc());
     for word in env::args(rt)? {
