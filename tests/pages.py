@@ -163,6 +163,14 @@ class Pages:
             want = f' actors {told[1]} cash {told[2].replace(",", "")} '.encode()
             self.tally.check(f'docs/RULES.md: {command}', ran.status == 0 and want in ran.out.replace(b'\n', b' '), ran)
 
+    def of_files(self):
+        """The mod that RULES shows without its comments."""
+        with open(f'{self.top}/examples/mod/mod.yaml') as file:
+            mod = [it for it in file.read().split('\n') if it and not it.startswith('#')]
+        lines = lines_of('docs/RULES.md')
+        blocks = [block_after(lines, at) for at, line in enumerate(lines) if line == '    jeep:']
+        self.tally.check('docs/RULES.md: shows mod.yaml', mod in blocks, blocks)
+
     def of_bad_maps(self):
         """The table of MAPS: lines of a map, and how it is refused."""
         rows = [re.match(r'\| (`.*`) \| `(refused bad\.map [^`]+)` \|$', it) for it in lines_of('docs/MAPS.md')]
@@ -232,6 +240,7 @@ def run_all(tally, program):
         it.of_refused_drill()
         it.of_refused_migration()
         it.of_script()
+        it.of_files()
         it.of_bad_maps()
         it.of_bad_lines()
         it.of_schedule()

@@ -28,7 +28,7 @@ REFUSED = {
     'migrate --file none --to new': 'none 0 Missing',
     'migrate --file one_frame.replay --to new --map battle/map battle/rules.yaml': 'one_frame.replay 6 OtherRules',
     'local --script none': 'none 0 Missing',
-    'local --script refused.drill': 'refused.drill 1 BadWord',
+    'local --script refused.drill': 'refused.drill 3 BadWord',
     'yaml yaml/base.yaml none': 'none 0 Missing',
     'yaml maps/sample.yaml mod/slip.yaml': 'mod/slip.yaml 5 NothingToRemove',
     'check none': 'none 0 Missing',
@@ -40,7 +40,7 @@ REFUSED = {
     'serve --at 127.0.0.1:1 --clients 1 none': 'none 0 Missing',
     'serve --at 127.0.0.1:1 --clients 1 maps/sample.yaml mod/slip.yaml': 'mod/slip.yaml 5 NothingToRemove',
     'play --at 127.0.0.1:1 --script none': 'none 0 Missing',
-    'play --at 127.0.0.1:1 --script refused.drill': 'refused.drill 1 BadWord',
+    'play --at 127.0.0.1:1 --script refused.drill': 'refused.drill 3 BadWord',
 }
 
 # Commands of which one file can't be read: UNREAD stands for its name.
