@@ -28,6 +28,7 @@ def connected(address):
         link = socket.socket()
         try:
             link.connect((host, int(port)))
+            link.settimeout(PATIENCE)
             return link
         except ConnectionRefusedError:
             link.close()
@@ -81,7 +82,7 @@ class Links:
         """The matches of the tool over loopback."""
         tool = os.path.join(TOP, 'tools/tcp_matches/run')
         for word in words:
-            ran = subprocess.run([tool, self.program, word], stdout=subprocess.PIPE, stderr=subprocess.STDOUT)
+            ran = subprocess.run([tool, self.program, *word.split()], stdout=subprocess.PIPE, stderr=subprocess.STDOUT)
             self.tally.check(f'tools/tcp_matches/run .. {word}', ran.returncode == 0, ran.stdout)
 
     def of_match(self):
@@ -105,13 +106,15 @@ class Links:
         server = self.start(f'serve --at {at} --clients 2', stdin=subprocess.PIPE)
         silent = connected(at)
         silent.sendall(hello())
-        silent.recv(100)
         player = self.start(f'play --at {at} --script three.script')
         time.sleep(0.5)
         self.tally.check('serve: waits for a silent client', server.child.poll() is None, 'it has ended')
         server.say(b'kick\nkick 7\nkick 0\n')
         played = player.ended()
         self.tally.check('play: goes on after a kick', played.status == 0 and b' frames 3 hash ' in played.out, played)
+        silent.shutdown(socket.SHUT_WR)
+        while silent.recv(4096):
+            pass
         silent.close()
         served = server.ended()
         start = b'column 0 0 left\ncolumn 1 3 left\nlink 0 kicked 0\nlink 1 ended\nserver frames 3 hash '
@@ -146,7 +149,9 @@ class Links:
         for said, cause in ((b'\1\0\x63', b'refused link 0 BadTag\n'), (b'', b'refused link 0 Early\n')):
             with socket.create_server(('127.0.0.1', int(free_address().split(':')[1]))) as listener:
                 player = self.start(f'play --at 127.0.0.1:{listener.getsockname()[1]} --script three.script')
+                listener.settimeout(PATIENCE)
                 link, _ = listener.accept()
+                link.settimeout(PATIENCE)
                 link.sendall(said)
                 link.shutdown(socket.SHUT_WR)
                 while link.recv(4096):
@@ -177,6 +182,7 @@ class Links:
             self.tally.same(f'serve: at {at}', self.start(f'serve --at {at} --clients 1').ended(), Ran(4, b'fault link\n'))
         with socket.create_server(('127.0.0.1', int(free_address().split(':')[1]))) as listener:
             player = self.start(f'play --at 127.0.0.1:{listener.getsockname()[1]} --script three.script')
+            listener.settimeout(PATIENCE)
             link, _ = listener.accept()
             link.setsockopt(socket.SOL_SOCKET, socket.SO_LINGER, struct.pack('ii', 1, 0))
             time.sleep(0.2)
@@ -211,10 +217,11 @@ def run_all(tally, program, is_long):
         it.of_garbage()
         it.of_net()
         it.of_output()
-        it.matches('one', 'killed')
+        it.matches('one', 'killed', 'ended 20', 'early 3')
         if is_long:
             if lacking('pgrep'):
                 tally.skip('tools/tcp_matches/run .. soak', 'no pgrep')
             else:
                 it.matches('soak')
+            it.matches('ended', 'early')
         nobody.join()
