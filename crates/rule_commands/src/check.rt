@@ -31,18 +31,26 @@ fn write_skipped(text: &mut String, names: &[&str], nodes: &[Skipped]) -> Result
     Ok(())
 }
 
-/// The names of a kind's traits.
-fn write_traits(text: &mut String, kind: &Kind) -> Result<(), NoMemory>
+/// The names of those of these traits that a kind has.
+fn write_names(text: &mut String, kind: &Kind, traits: &[Trait]) -> Result<(), NoMemory>
     ensures { OnOk result
-        (string_bytes text.new ≡ string_bytes text.old ++ trait_names kind.now all_traits) }
+        (string_bytes text.new ≡ string_bytes text.old ++ trait_names kind.now traits.now) }
 {
-    for known in Trait::ALL {
-        if kind.has(known) {
+    for known in traits {
+        if kind.has(*known) {
             let name = known.name();
             write!(text, " {name}")?;
         }
     }
     Ok(())
+}
+
+/// The names of a kind's traits.
+fn write_traits(text: &mut String, kind: &Kind) -> Result<(), NoMemory>
+    ensures { OnOk result
+        (string_bytes text.new ≡ string_bytes text.old ++ trait_names kind.now all_traits) }
+{
+    write_names(text, kind, &Trait::ALL)
 }
 
 /// A line for each kind.
