@@ -8,6 +8,7 @@ use std::net::{Net as Sockets, TcpListener, TcpStream};
 use std::sync::Wait;
 use std::test::Fail;
 use std::thread::Threads;
+use std::time::Clock;
 use std::{process, thread};
 
 /// A command line that is run on a thread of its own, the files that it reads, and its answer.
@@ -79,7 +80,7 @@ fn run_words<D: Disk, K: Sink, N: Net, R: Threads + Wait + Sync>(
 /// Runs the command of a seat over links of TCP.
 fn run_seat<R>(rt: &R, seat: &mut Seat)
 where
-    R: Threads + Wait + Sync + Sockets<Listener = TcpListener, Stream = TcpStream>,
+    R: Threads + Wait + Sync + Clock + Sockets<Listener = TcpListener, Stream = TcpStream>,
 {
     let mut net = TcpNet::new(rt);
     let Seat {
@@ -95,7 +96,7 @@ where
 /// Runs the commands of these seats, each on a thread of its own.
 fn run_seats<R>(rt: &R, seats: &mut [Seat])
 where
-    R: Threads + Wait + Sync + Sockets<Listener = TcpListener, Stream = TcpStream>,
+    R: Threads + Wait + Sync + Clock + Sockets<Listener = TcpListener, Stream = TcpStream>,
 {
     let run = |_: usize, seat: &mut Seat| run_seat(rt, seat);
     thread::for_each_mut(rt, seats, 3, &run);
@@ -115,7 +116,7 @@ fn first_hash(seats: &[Seat]) -> Option<&str> {
 }
 
 /// The first of the ports that are tried, and how many they are. They end below those from which
-/// systems dial: a player that dials one of these before the server listens may be joined to itself.
+/// systems dial, so that no dialling socket has one of them.
 const FIRST_PORT: u32 = 20_000;
 
 const PORTS: u32 = 12_000;
