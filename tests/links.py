@@ -57,6 +57,10 @@ class Started:
         except BrokenPipeError:
             pass
 
+    def end_console(self):
+        self.child.stdin.close()
+        self.child.stdin = None
+
     def ended(self):
         """How it ended; its status is None where it had to be killed."""
         try:
@@ -112,11 +116,13 @@ class Links:
         server.say(b'kick\nkick 7\nkick 0\n')
         played = player.ended()
         self.tally.check('play: goes on after a kick', played.status == 0 and b' frames 3 hash ' in played.out, played)
+        server.end_console()
+        # What was sent to the silent client is read, so that its end is no reset.
         silent.shutdown(socket.SHUT_WR)
         while silent.recv(4096):
             pass
-        silent.close()
         served = server.ended()
+        silent.close()
         start = b'column 0 0 left\ncolumn 1 3 left\nlink 0 kicked 0\nlink 1 ended\nserver frames 3 hash '
         self.tally.check('serve: a kick', served.status == 0 and served.out.startswith(start), served)
 
