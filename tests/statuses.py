@@ -60,8 +60,8 @@ READ_FAULT = Ran(4, b'fault read\n')
 LONGEST = {'drill --script long': 67_108_864, 'local --script long': 67_108_864, 'yaml long': 4_194_304,
            'check maps/sample.yaml --map long': 4_194_304, 'replay --file long': 268_435_456}
 
-# How much memory the program is given, in kB, from little on; with the least of it begins to run.
-LIMITS = range(2_000, 40_000, 500)
+# How much memory the program is given, in kB, from little on.
+LIMITS = range(2_000, 60_000, 500)
 
 
 def files_of(folder):
@@ -199,24 +199,35 @@ class Statuses:
 
     def of_memory(self):
         """Status 6, with a prefix of the text, and no file; or the whole, once there is enough."""
-        for name, words in COMMANDS.items():
-            whole, short, full = self.plain[name], 0, False
+        with open(os.path.join(self.folder, 'long.drill'), 'w') as file:
+            file.write('match 1 1 1\n' + 'tick server\n' * 20_000)
+        self.files = files_of(self.folder)
+        # A thread that can't be started has no answer, so `local` is left out.
+        rows = {**COMMANDS, 'a long drill': 'drill --script long.drill'}
+        del rows['local']
+        short = 0
+        for name, words in rows.items():
+            whole, least = self.run(words), None
+            self.written()
             for kilobytes in LIMITS:
                 ran = self.run(words, kilobytes=kilobytes)
-                written = self.written()
-                if ran.err:
-                    # The loader or the C library had too little to begin with.
-                    continue
-                if ran.status == 6:
-                    short += 1
-                    holds = whole.out.startswith(ran.out) and not written
-                    self.tally.check(f'{name}: {kilobytes} kB', holds, f'{ran}, {list(written)}')
-                elif ran == whole:
-                    full = True
+                short += self.holds_limited(name, kilobytes, ran, whole)
+                if ran == whole:
+                    least = kilobytes
                     break
-                else:
-                    self.tally.check(f'{name}: {kilobytes} kB', False, ran)
-            self.tally.check(f'{name}: memory', full, f'{short} runs were out of memory, and none was whole')
+            if self.tally.check(f'{name}: enough memory', least, f'{LIMITS[-1]} kB are too little'):
+                for kilobytes in range(least - LIMITS.step, least, 10):
+                    short += self.holds_limited(name, kilobytes, self.run(words, kilobytes=kilobytes), whole)
+        self.tally.check('limited memory', short, 'no run was out of memory')
+
+    def holds_limited(self, name, kilobytes, ran, whole):
+        """Whether a run had too little memory. One for which the loader or the system had too little never began."""
+        new = self.written()
+        if b'loading shared libraries' in ran.err or (ran.status in (-9, -11) and not ran.out):
+            return False
+        holds = ran == whole or (ran.status == 6 and whole.out.startswith(ran.out) and not new)
+        self.tally.check(f'{name}: {kilobytes} kB', holds, ran)
+        return ran.status == 6
 
 
 def run_all(tally, program):
