@@ -1,2 +1,1 @@
-pub mod BoardLemmas
 pub mod ServerLemmas

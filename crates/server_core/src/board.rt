@@ -59,7 +59,7 @@ impl Board {
     /// Takes a report of client `c` that its world has hash `h` after frame `n`. `Beyond` exactly
     /// where `n` is `MAX_FRAMES` or more. Else `Repeat` exactly where a report of the client for
     /// the frame is kept, which stays. Else `Kept`, and no other answer changes anything.
-    #[tactic(auto, using(crate::proofs::BoardLemmas::keeps_first))]
+    #[tactic(auto, using(crate::specs::BoardLemmas::keeps_first))]
     pub fn reported(&mut self, c: u8, n: u32, h: u64) -> Result<Reported, NoMemory>
         requires { c < length self.old.reports }
         ensures answer { IfOk result (λ answer.

@@ -12,7 +12,7 @@ use crate::board::Board;
 use crate::up_answer::UpAnswer;
 use base::NoMemory;
 use frame_core::{Columns, Leaving, Ready, Sim, TickAnswer};
-use game_orders::{Entry, MAX_CLIENTS, MAX_FRAMES};
+use game_orders::{Frame, MAX_CLIENTS, MAX_FRAMES};
 use order_packets::Up;
 use std::alloc::Global;
 use std::marker::Model;
@@ -23,6 +23,8 @@ pub struct Server<S: Sim> {
     columns: Columns,
     board: Board,
     ticked: u32,
+    // the frame of a tick, filled anew each time, so that its room is made once
+    frame: Frame,
     sim: S,
 }
 
@@ -63,6 +65,7 @@ impl<S: Sim> Server<S> {
             columns: Columns::create(alloc, clients)?,
             board: Board::create(alloc, clients)?,
             ticked: 0,
+            frame: Frame::empty(),
             sim,
         })
     }
@@ -81,7 +84,7 @@ impl<S: Sim> Server<S> {
         match p {
             Up::Hello { .. } => Ok(UpAnswer::Ignored),
             Up::Orders { frame, orders } => {
-                let put = self.columns.put(c, *frame, Entry::Play(orders.copy()))?;
+                let put = self.columns.put_play(c, *frame, orders.as_slice())?;
                 Ok(UpAnswer::Entry(put))
             }
             Up::Sync { frame, hash } => {
@@ -119,7 +122,8 @@ impl<S: Sim> Server<S> {
         let frame = self.ticked;
         match self.columns.ready(frame) {
             Ready::Yes => {
-                self.board.step(&mut self.sim, &self.columns.frame(frame))?;
+                self.columns.fill_frame(frame, &mut self.frame);
+                self.board.step(&mut self.sim, &self.frame)?;
                 self.ticked += 1;
                 Ok(TickAnswer::Ticked(frame))
             }

@@ -17,7 +17,7 @@ returns-in_err-reported-in-Sync-clause-grows g c =
 -- Orders and a farewell grow the columns.
 pub invariant_of-self-in-Orders : goal.invariant_of-self-in-Orders
 invariant_of-self-in-Orders g c =
-    grow_is_server g.S.Sim.clients_of g.S.Sim.steps _ c.put.new.self c.put.ensures.grows
+    grow_is_server g.S.Sim.clients_of g.S.Sim.steps _ c.put_play.new.self c.put_play.ensures.grows
     c.self.invariant
 
 pub invariant_of-self-in-Bye : goal.invariant_of-self-in-Bye
