@@ -35,7 +35,7 @@ TRIED = {'../../lockstep migrate --file differs.replay --to new.replay --map map
          '../../lockstep play --at 127.0.0.1:7070 --script drive.script $files & sleep 1',
          '../../lockstep play --at 127.0.0.1:7070 --script five.script $files; wait',
          '../../lockstep local --script all.script $files'}
-PATTERNS = re.compile(r' FILE|FILES|RULES')
+PATTERNS = re.compile(r' FILE|FILES|RULES|lockstep --')
 
 
 def lines_of(page):
