@@ -13,7 +13,7 @@ use activities::Activity;
 use actor_table::ActorTable;
 use game_model::Ground;
 use grid_routes::Router;
-use motion::{go_towards_seen, pop_head};
+use motion::{go_towards_on_current_ground, pop_head};
 use twister::Twister;
 
 /// The step of an attack of the actor of an id on a target, after so many waits in a row. The first
@@ -50,7 +50,7 @@ fn attack(
             fire(t, g.rules, dice, id, kind, target);
         }
     } else if moves(g.rules, kind) {
-        go_towards_seen(t, r, g, id, to, Activity::Attack { target, waits });
+        go_towards_on_current_ground(t, r, g, id, to, Activity::Attack { target, waits });
     } else {
         pop_head(t, id);
     }
@@ -87,11 +87,17 @@ pub fn attack_step(t: &mut ActorTable, r: &mut Router, g: &Ground, dice: &mut Tw
     ensures router { IsSameSize r.old r.new }
 {
     r.look(g.map, g.blocks);
-    attack_step_seen(t, r, g, dice, id);
+    attack_step_on_current_ground(t, r, g, dice, id);
 }
 
 /// [`attack_step`] with a router that looks at the ground.
-pub fn attack_step_seen(t: &mut ActorTable, r: &mut Router, g: &Ground, dice: &mut Twister, id: u32)
+pub fn attack_step_on_current_ground(
+    t: &mut ActorTable,
+    r: &mut Router,
+    g: &Ground,
+    dice: &mut Twister,
+    id: u32,
+)
     requires fits { SeesMap g.now.map.now (built_in g.now) t.old r.old }
     requires drawn { dice.old.drawn < 2 ^ 64 - 1 }
     ensures fought { IsFought t.old t.new dice.new (fought_by_id (setup_in g.now) (built_in g.now)

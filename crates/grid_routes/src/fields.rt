@@ -11,9 +11,9 @@ ghost use Rattle.grid_routes.specs.Kept.{AreFields, AreForgotten, IsBegun, IsFin
 ghost use Rattle.grid_routes.specs.Kept.{IsRoom, IsSameGround, IsWidened};
 
 use crate::ask::Ask;
+use crate::best_direction::best_on;
 use crate::field::Field;
 use crate::index::{FIELDS, Index};
-use crate::lead::best_on;
 use crate::search::Search;
 use base::NoMemory;
 use game_model::{Blocks, Map};

@@ -9,11 +9,11 @@ ghost use Rattle.grid_routes.specs.Findings.{AreFindings};
 ghost use Rattle.grid_routes.specs.Asked.{asks_in, one_more, CountsOn, KeepsOnly};
 
 use crate::ask::Ask;
+use crate::best_direction::best_on;
 use crate::fields::Fields;
 use crate::index::FIELDS;
 use crate::known_walk::{AHEAD, KnownWalk};
 use crate::known_walks::{KnownWalks, Reach, WALKS};
-use crate::lead::best_on;
 use crate::search::Search;
 use base::NoMemory;
 use game_model::{Blocks, Map};

@@ -16,6 +16,7 @@
 
 mod ask;
 mod beside;
+mod best_direction;
 mod buckets;
 mod entry_costs;
 mod field;
@@ -25,7 +26,6 @@ mod index;
 mod known_walk;
 mod known_walks;
 mod law;
-mod lead;
 mod offers;
 mod route;
 mod router;

@@ -96,7 +96,12 @@ impl Router {
     /// The least direction whose allowed step begins a walk of least cost to the goal, over the
     /// ground at which the router looks. `None` comes exactly where there is no walk or the cell is
     /// the goal.
-    pub fn best_dir_seen(&mut self, costs: &Costs, from: CPos, goal: CPos) -> Option<u8>
+    pub fn best_dir_on_current_ground(
+        &mut self,
+        costs: &Costs,
+        from: CPos,
+        goal: CPos,
+    ) -> Option<u8>
         requires costs { IsCheap costs.now }
         requires from { IsOn self.old.width self.old.height from }
         requires goal { IsOn self.old.width self.old.height goal }
@@ -142,7 +147,7 @@ impl Router {
         ensures asked { IsAsked map.now blocks.now (ask_for costs.now goal) self.old self.new }
     {
         self.look(map, blocks);
-        self.best_dir_seen(costs, from, goal)
+        self.best_dir_on_current_ground(costs, from, goal)
     }
 
     /// The walk that takes the best direction at each cell. `None` comes exactly where there is no

@@ -12,10 +12,10 @@ ghost use Rattle.grid_routes.specs.Steps.{IsFilled, IsGoing, IsNext};
 ghost use Rattle.grid_routes.specs.Steps.{IsOnward, IsRoute, IsSearch, Lowers, rings_left};
 
 use crate::beside::{Placed, above, below, is_inside, left, left_of, right, right_of};
+use crate::best_direction::least_lead;
 use crate::buckets::{BUCKETS, Buckets};
 use crate::entry_costs::{ACROSS, EntryCosts, STRAIGHT};
 use crate::field::{Field, NONE};
-use crate::lead::least_lead;
 use crate::offers::{bucket_of, offer, try_offer};
 use crate::route::Route;
 use base::{List, NoMemory};

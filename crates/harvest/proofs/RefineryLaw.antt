@@ -1,5 +1,5 @@
 -- What is found kind by kind is the nearest refinery.
-use Rattle.std.proofs.Common.{◌≡◌, ◌≢◌, ℕ, zero, suc, ◌+◌, ◌<◌, ◌≤◌, ◌⊎◌, ltb, eqb, Bool, true, false, ◌&&◌, ◌||◌, cond, List, [], ◌∷◌, length, get_or, Option, Some, None, is_some, inl, inr, refl, sym, subst, ap, ◌∙◌, arith}
+use Rattle.std.proofs.Common.{◌≡◌, ◌≢◌, ℕ, zero, suc, ◌+◌, ◌<◌, ◌≤◌, ◌⊎◌, ltb, eqb, Bool, true, false, not, ◌&&◌, ◌||◌, cond, List, [], ◌∷◌, length, get_or, Option, Some, None, is_some, inl, inr, refl, sym, subst, ap, ◌∙◌, arith}
 use Rattle.std.specs.List.{filter, fold, reduce, AllByRecursion}
 use Rattle.std.proofs.lemmas.Bool.Decides.{eqb_tells, nat_tests}
 use Rattle.std.proofs.lemmas.List.Elements.{recursion_from_All}
@@ -16,7 +16,8 @@ use Rattle.actor_table.specs.Rising.{RisesFrom}
 use Rattle.game_tick.specs.Harvesting.{is_refinery_for, nearest_refinery}
 use Rattle.game_model.specs.Kinds.{kind_of}
 use Rattle.game_tick.specs.Nearest.{lesser_by}
-use Rattle.harvest.specs.Refineries.{is_nearer, is_other, nearer_of, better_of, best_of, best_of_kind, IsAsNear, IsNearest, IsRefinery, IsRefineryBelow}
+use Rattle.game_model.specs.NearestActor.{is_nearer, IsAsNear, IsNearest}
+use Rattle.harvest.specs.Refineries.{is_other, nearer_of, better_of, best_of, best_of_kind, IsOtherRefinery, IsRefinery, IsRefineryBelow}
 
 bool_tells : (b : Bool) → (b ≡ true) ⊎ (b ≡ false)
 bool_tells true = inl refl
@@ -409,15 +410,46 @@ definition_nearest : (rules : List Kind) (actors : List Actor) (a : Actor) → I
 unfolding nearest_refinery
 definition_nearest rules actors a rise = first_nearest rules a 0 actors (are_from 0 actors rise (λ i d within. omega arith))
 
+-- a refinery in words, and back
+in_words : (rules : List Kind) (actors : List Actor) (a x : Actor) → IsRefinery rules actors a x → IsOtherRefinery rules actors a x
+in_words rules actors a x one =
+    let is = refinery_parts rules a x one.fits in
+    record {
+      there = one.there;
+      other = grind (arith, nat_tests, is.0);
+      health = grind (arith, nat_tests, is.0);
+      owner = grind (arith, nat_tests, is.1);
+      takes_ore = is.2;
+    }
+
+of_words : (rules : List Kind) (actors : List Actor) (a x : Actor) → IsOtherRefinery rules actors a x → IsRefinery rules actors a x
+of_words rules actors a x words =
+    let other : not (eqb x.id a.id) ≡ true = grind (arith, nat_tests, words.other) in
+    let lives : ltb 0 x.body.health ≡ true = grind (arith, nat_tests, words.health) in
+    let owner : eqb x.body.owner a.body.owner ≡ true = grind (arith, nat_tests, words.owner) in
+    record {
+      there = words.there;
+      fits = of_parts (is_other a x) (eqb x.body.owner a.body.owner) (is_some (kind_of rules x.kind).refinery) (rw (other, lives) refl) owner words.takes_ore;
+    }
+
 -- after the last kind
-pub kinds_end : (rules : List Kind) (actors : List Actor) (a : Actor) (best : Option Actor) (bound : ℕ) → IdsRise actors → IsNextKind actors a.body.owner bound None → IsNearest a.cell (IsRefineryBelow rules actors a bound) best → best ≡ nearest_refinery rules actors a
-kinds_end rules actors a best bound rise ended nearest =
-    nearest_one actors a.cell (IsRefinery rules actors a) best (nearest_refinery rules actors a) (λ x one. one.there)
-    (nearest_same a.cell (IsRefineryBelow rules actors a bound) (IsRefinery rules actors a) best (λ x below. below.refinery) back nearest)
-    (definition_nearest rules actors a rise)
+kinds_nearest : (rules : List Kind) (actors : List Actor) (a : Actor) (best : Option Actor) (bound : ℕ) → IsNextKind actors a.body.owner bound None → IsNearest a.cell (IsRefineryBelow rules actors a bound) best → IsNearest a.cell (IsRefinery rules actors a) best
+kinds_nearest rules actors a best bound ended nearest =
+    nearest_same a.cell (IsRefineryBelow rules actors a bound) (IsRefinery rules actors a) best (λ x below. below.refinery) back nearest
   where
     back : (x : Actor) → IsRefinery rules actors a x → IsRefineryBelow rules actors a bound x
     back x one = elim (bool_tells (ltb x.kind bound)) [
       | inl lt ↦ record { refinery = one; below = less_if x.kind bound lt }
       | inr ge ↦ absurd (some_of_kind a.body.owner x.kind actors x one.there (refinery_parts rules a x one.fits).1 (ended x.kind (least_if x.kind bound ge)))
     ]
+
+pub nearest_in_words : (rules : List Kind) (actors : List Actor) (a : Actor) (best : Option Actor) (bound : ℕ) → IsNextKind actors a.body.owner bound None → IsNearest a.cell (IsRefineryBelow rules actors a bound) best → IsNearest a.cell (IsOtherRefinery rules actors a) best
+nearest_in_words rules actors a best bound ended nearest =
+    nearest_same a.cell (IsRefinery rules actors a) (IsOtherRefinery rules actors a) best (in_words rules actors a) (of_words rules actors a) (kinds_nearest rules actors a best bound ended nearest)
+
+-- and that is what the definition says
+pub kinds_end : (rules : List Kind) (actors : List Actor) (a : Actor) (best : Option Actor) (bound : ℕ) → IdsRise actors → IsNextKind actors a.body.owner bound None → IsNearest a.cell (IsRefineryBelow rules actors a bound) best → best ≡ nearest_refinery rules actors a
+kinds_end rules actors a best bound rise ended nearest =
+    nearest_one actors a.cell (IsRefinery rules actors a) best (nearest_refinery rules actors a) (λ x one. one.there)
+    (kinds_nearest rules actors a best bound ended nearest)
+    (definition_nearest rules actors a rise)

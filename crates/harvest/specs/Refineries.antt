@@ -1,22 +1,16 @@
 -- The nearest refinery of an owner, found kind by kind.
-use Rattle.std.specs.Prelude.{◌≡◌, ℕ, ◌<◌, ◌≤◌, ◌⊎◌, ◌==◌, nat_lt, not, ◌&&◌, ◌||◌, if◌then◌else◌, Bool, true, List, [], ◌∷◌}
+use Rattle.std.specs.Prelude.{◌≡◌, ◌≢◌, ℕ, ◌<◌, ◌≤◌, ◌==◌, not, ◌&&◌, if◌then◌else◌, Bool, true}
+use Rattle.std.specs.Prelude.{List, [], ◌∷◌}
 use Rattle.std.specs.Prelude.{Option, Some, None, is_some}
 use Rattle.world_units.specs.declared.cell.CPos.{CPos}
-use Rattle.world_units.specs.Cells.{dist_sq_of}
 use Rattle.rule_traits.specs.declared.kind.Kind.{Kind}
 use Rattle.game_model.specs.declared.actor.Actor.{Actor}
+use Rattle.game_model.specs.Kinds.{kind_of}
+use Rattle.game_model.specs.NearestActor.{is_nearer}
 use Rattle.game_model.specs.World.{actor_of, is_alive}
 use Rattle.actor_table.specs.declared.listed.Listed.{Listed}
 use Rattle.actor_table.specs.Kinds.{listed_of}
 use Rattle.game_tick.specs.Harvesting.{is_refinery_for}
-use Rattle.game_model.specs.Kinds.{kind_of}
-
--- An actor is nearer to a cell than another: its own cell is, or both are equally far and its id is
--- less.
-abbrev pub is_nearer : CPos → Actor → Actor → Bool
-is_nearer from x y =
-    nat_lt (dist_sq_of from x.cell) (dist_sq_of from y.cell)
-    || ((dist_sq_of from x.cell == dist_sq_of from y.cell) && nat_lt x.id y.id)
 
 -- The nearer of what was found and another actor.
 abbrev pub nearer_of : CPos → Option Actor → Actor → Option Actor
@@ -45,17 +39,6 @@ best_of_kind rules actors a kind best =
     then best_of actors a best (listed_of actors a.body.owner kind)
     else best
 
--- No farther from a cell, and of two that are equally far not the one of the greater id.
-abbrev pub IsAsNear : CPos → Actor → Actor → Type 0
-IsAsNear from x y =
-    (dist_sq_of from x.cell < dist_sq_of from y.cell)
-    ⊎ ((dist_sq_of from x.cell ≡ dist_sq_of from y.cell) × (x.id ≤ y.id))
-
--- The actor is one of these, and as near as any of them. There is none exactly where there are none.
-abbrev pub IsNearest : CPos → (Actor → Type 0) → Option Actor → Type 0
-IsNearest from among (Some x) = among x × ((y : Actor) → among y → IsAsNear from x y)
-IsNearest from among None = (y : Actor) → among y → ⊥
-
 -- One of the actors is a refinery for another.
 pub record IsRefinery (rules : List Kind) (actors : List Actor) (a x : Actor) : Type 0 where
   pub there : actor_of actors x.id ≡ Some x
@@ -66,3 +49,12 @@ pub record IsRefineryBelow (rules : List Kind) (actors : List Actor) (a : Actor)
     : Type 0 where
   pub refinery : IsRefinery rules actors a x
   pub below : x.kind < bound
+
+-- The same in words: one of the actors, another one, that lives, has the same owner, and is of a kind
+-- that takes in ore.
+pub record IsOtherRefinery (rules : List Kind) (actors : List Actor) (a x : Actor) : Type 0 where
+  pub there : actor_of actors x.id ≡ Some x
+  pub other : x.id ≢ a.id
+  pub health : 1 ≤ x.body.health
+  pub owner : x.body.owner ≡ a.body.owner
+  pub takes_ore : is_some (kind_of rules x.kind).refinery ≡ true

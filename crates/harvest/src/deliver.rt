@@ -16,7 +16,7 @@ use activities::Activity;
 use actor_table::ActorTable;
 use game_model::{Ground, Purse};
 use grid_routes::Router;
-use motion::{go_towards_seen, pop_head, set_head};
+use motion::{go_towards_on_current_ground, pop_head, set_head};
 use production::pay;
 use rule_traits::Rules;
 use world_units::CPos;
@@ -104,6 +104,6 @@ pub(crate) fn deliver(
     if is_beside(from, to) {
         unload_turn(t, g.rules, purse, id, value, home, timer, waits);
     } else {
-        go_towards_seen(t, r, g, id, to, Activity::Deliver { home, timer, waits });
+        go_towards_on_current_ground(t, r, g, id, to, Activity::Deliver { home, timer, waits });
     }
 }

@@ -17,7 +17,7 @@ use activities::Activity;
 use actor_table::ActorTable;
 use game_model::{Ground, Ore};
 use grid_routes::Router;
-use motion::{go_towards_seen, pop_head, set_head};
+use motion::{go_towards_on_current_ground, pop_head, set_head};
 use rule_traits::Rules;
 use world_units::CPos;
 
@@ -145,6 +145,6 @@ pub(crate) fn harvest(
     } else if at == cell {
         load_turn(t, g.rules, ore, id, cell, timer, waits);
     } else {
-        go_towards_seen(t, r, g, id, cell, Activity::Harvest { cell, timer, waits });
+        go_towards_on_current_ground(t, r, g, id, cell, Activity::Harvest { cell, timer, waits });
     }
 }

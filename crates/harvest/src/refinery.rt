@@ -3,7 +3,8 @@ ghost use Rattle.std.specs.Option.{option_copied};
 ghost use Rattle.game_model.specs.Kinds.{kind_of};
 ghost use Rattle.game_model.specs.World.{actor_of};
 ghost use Rattle.game_tick.specs.Harvesting.{nearest_refinery};
-ghost use Rattle.harvest.specs.Refineries.{is_nearer, better_of, best_of_kind};
+ghost use Rattle.game_model.specs.NearestActor.{IsNearest, is_nearer};
+ghost use Rattle.harvest.specs.Refineries.{IsOtherRefinery, better_of, best_of_kind};
 
 use actor_table::ActorTable;
 use game_model::Actor;
@@ -81,7 +82,9 @@ fn best_of_kind<'a>(
 /// The nearest other living refinery of the owner of an actor. Of those that are equally near, the
 /// least id decides. Only the owner's actors of kinds that take in ore are looked at.
 pub fn nearest_refinery<'a>(t: &'a ActorTable, rules: &Rules, a: &'a Actor) -> Option<&'a Actor>
-    ensures { option_copied result ≡ nearest_refinery rules.now t.now.actors a.now }
+    ensures value { option_copied result ≡ nearest_refinery rules.now t.now.actors a.now }
+    ensures nearest { IsNearest a.now.cell (IsOtherRefinery rules.now t.now.actors a.now)
+        (option_copied result) }
 {
     let _ids_rise = t.len();
     let mut best = None;

@@ -66,11 +66,11 @@ pub fn harvest_step(
     ensures router { IsSameSize r.old r.new }
 {
     r.look(g.map, g.blocks);
-    harvest_step_seen(t, r, g, ore, purse, id);
+    harvest_step_on_current_ground(t, r, g, ore, purse, id);
 }
 
 /// [`harvest_step`] with a router that looks at the ground.
-pub fn harvest_step_seen(
+pub fn harvest_step_on_current_ground(
     t: &mut ActorTable,
     r: &mut Router,
     g: &Ground,

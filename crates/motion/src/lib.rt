@@ -6,8 +6,8 @@
 //! where that cell is occupied. [`go_towards`] also keeps the activity that leads there, and
 //! [`move_activity`] is the whole step of a Move.
 //!
-//! Each of these three has the router look at the ground first. Its form with `_seen` in its name
-//! wants a router that looks at it already, and spares the comparison.
+//! Each of these three has the router look at the ground first. Its form with `_on_current_ground`
+//! in its name wants a router that looks at it already, and spares the comparison.
 //!
 //! Each call says in its clause exactly what it makes of the list of actors
 //! (`game_tick/specs/Moving.antt`); none takes memory of its own or fails. A step takes logarithmic
@@ -23,5 +23,6 @@ pub use acts::{go_on, pop_head, set_head};
 pub use game_tick::Moving;
 pub use leg::advance_leg;
 pub use towards::{
-    go_towards, go_towards_seen, move_activity, move_activity_seen, move_step, move_step_seen,
+    go_towards, go_towards_on_current_ground, move_activity, move_activity_on_current_ground,
+    move_step, move_step_on_current_ground,
 };

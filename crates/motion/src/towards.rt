@@ -116,11 +116,11 @@ pub fn move_step(
     ensures router { IsSameSize r.old r.new }
 {
     r.look(g.map, g.blocks);
-    move_step_seen(t, r, g, id, goal, waits)
+    move_step_on_current_ground(t, r, g, id, goal, waits)
 }
 
 /// [`move_step`] with a router that looks at the ground.
-pub fn move_step_seen(
+pub fn move_step_on_current_ground(
     t: &mut ActorTable,
     r: &mut Router,
     g: &Ground,
@@ -140,7 +140,7 @@ pub fn move_step_seen(
     };
     let (cell, facing) = (a.cell, a.body.facing);
     let costs = costs_of(g.rules, a.kind);
-    let Some(d) = r.best_dir_seen(&costs, cell, goal) else {
+    let Some(d) = r.best_dir_on_current_ground(&costs, cell, goal) else {
         return Moving::GivenUp;
     };
     if facing.units() != dir_angle(d).units() {
@@ -173,11 +173,11 @@ pub fn go_towards(
     ensures router { IsSameSize r.old r.new }
 {
     r.look(g.map, g.blocks);
-    go_towards_seen(t, r, g, id, goal, activity);
+    go_towards_on_current_ground(t, r, g, id, goal, activity);
 }
 
 /// [`go_towards`] with a router that looks at the ground.
-pub fn go_towards_seen(
+pub fn go_towards_on_current_ground(
     t: &mut ActorTable,
     r: &mut Router,
     g: &Ground,
@@ -193,7 +193,7 @@ pub fn go_towards_seen(
     } }
     ensures router { IsSameSight r.old r.new }
 {
-    let moving = move_step_seen(t, r, g, id, goal, waits_of(&activity));
+    let moving = move_step_on_current_ground(t, r, g, id, goal, waits_of(&activity));
     go_on(t, id, moving, activity);
 }
 
@@ -209,11 +209,11 @@ pub fn move_activity(t: &mut ActorTable, r: &mut Router, g: &Ground, id: u32, go
     ensures router { IsSameSize r.old r.new }
 {
     r.look(g.map, g.blocks);
-    move_activity_seen(t, r, g, id, goal, waits);
+    move_activity_on_current_ground(t, r, g, id, goal, waits);
 }
 
 /// [`move_activity`] with a router that looks at the ground.
-pub fn move_activity_seen(
+pub fn move_activity_on_current_ground(
     t: &mut ActorTable,
     r: &mut Router,
     g: &Ground,
@@ -235,6 +235,6 @@ pub fn move_activity_seen(
     if a.cell == goal {
         pop_head(t, id);
     } else {
-        go_towards_seen(t, r, g, id, goal, Activity::Move { goal, waits });
+        go_towards_on_current_ground(t, r, g, id, goal, Activity::Move { goal, waits });
     }
 }

@@ -8,10 +8,10 @@ ghost use Rattle.tick_core.specs.Scene.{DoesFirst, IsGathering, prepared};
 use crate::scene::Scene;
 use activities::Activity;
 use actor_table::ActorTable;
-use combat::attack_step_seen;
+use combat::attack_step_on_current_ground;
 use game_model::Ground;
-use harvest::harvest_step_seen;
-use motion::{advance_leg, move_activity_seen};
+use harvest::harvest_step_on_current_ground;
+use motion::{advance_leg, move_activity_on_current_ground};
 use production::build_step;
 use world_units::CPos;
 
@@ -113,7 +113,7 @@ impl Scene {
             map: &self.map,
             blocks: &self.blocks,
         };
-        move_activity_seen(&mut self.table, &mut self.router, &ground, id, goal, waits);
+        move_activity_on_current_ground(&mut self.table, &mut self.router, &ground, id, goal, waits);
     }
 
     /// The actor's first activity is an Attack.
@@ -130,7 +130,7 @@ impl Scene {
             map: &self.map,
             blocks: &self.blocks,
         };
-        attack_step_seen(
+        attack_step_on_current_ground(
             &mut self.table,
             &mut self.router,
             &ground,
@@ -154,7 +154,7 @@ impl Scene {
             map: &self.map,
             blocks: &self.blocks,
         };
-        harvest_step_seen(
+        harvest_step_on_current_ground(
             &mut self.table,
             &mut self.router,
             &ground,

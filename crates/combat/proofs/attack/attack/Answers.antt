@@ -13,8 +13,8 @@ returns-in_default-living-clause-fought c a found =
     let is : a ≡ c.in-Some.a.now = cc in
     rw is (attack_ends (setup_in c.args.g.now) (built_in c.args.g.now) c.args.dice.now c.args.t.now c.args.id c.args.target c.args.waits c.in-Some.a.now c.in-Some.ensures c.pop_head.new.t c.in_default-living.ensures.living c.pop_head.ensures)
 
-pub go_towards_seen-requires-clause-goal : goal.go_towards_seen-requires-clause-goal
-go_towards_seen-requires-clause-goal c =
+pub go_towards_on_current_ground-requires-clause-goal : goal.go_towards_on_current_ground-requires-clause-goal
+go_towards_on_current_ground-requires-clause-goal c =
     let on : IsOn c.args.t.now.width c.args.t.now.height c.in-Some-living.aim.now.cell = found_on c.args.t.now c.args.target c.in-Some-living.aim.now c.len-on_map.ensures.list c.in-Some-living.ensures.found in
     rw (← c.requires.fits.wide, ← c.requires.fits.high) on
 
@@ -37,7 +37,7 @@ returns-then-moves-clause-fought c a found =
     let same : Some a ≡ Some c.in-Some.a.now = sym found ∙ sym c.in-Some.ensures in
     let is : a ≡ c.in-Some.a.now = cc in
     let named = found_id c.args.t.now.actors c.args.target c.in-Some-living.aim.now (sym c.in-Some-living.ensures.found) in
-    rw is (attack_goes (setup_in c.args.g.now) (built_in c.args.g.now) c.args.dice.now c.args.t.now c.args.id c.args.target c.args.waits c.in-Some.a.now c.in-Some.ensures c.in-Some-living.aim.now c.in-Some-living.ensures.living named c.go_towards_seen.new.t (sym c.is_in_range.ensures ∙ c.if-is_in_range.false) (sym c.moves.ensures ∙ c.if-moves.true) c.go_towards_seen.ensures.actors)
+    rw is (attack_goes (setup_in c.args.g.now) (built_in c.args.g.now) c.args.dice.now c.args.t.now c.args.id c.args.target c.args.waits c.in-Some.a.now c.in-Some.ensures c.in-Some-living.aim.now c.in-Some-living.ensures.living named c.go_towards_on_current_ground.new.t (sym c.is_in_range.ensures ∙ c.if-is_in_range.false) (sym c.moves.ensures ∙ c.if-moves.true) c.go_towards_on_current_ground.ensures.actors)
 
 pub returns-else-moves-clause-fought : goal.returns-else-moves-clause-fought
 returns-else-moves-clause-fought c a found =

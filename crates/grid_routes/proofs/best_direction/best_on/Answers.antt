@@ -3,7 +3,7 @@ use Rattle.game_model.specs.Walks.{Land}
 use Rattle.grid_routes.specs.EntryCosts.{entry_cost_in}
 use Rattle.grid_routes.proofs.Beginning.{as-search, no-shelves}
 use Rattle.grid_routes.proofs.Best.{best-direction, no-direction}
-use Rattle.grid_routes.proofs.lead.best_on.Goals as goal
+use Rattle.grid_routes.proofs.best_direction.best_on.Goals as goal
 
 pub returns-then-distance : goal.returns-then-distance
 returns-then-distance c =

@@ -1,6 +1,6 @@
 use Rattle.std.proofs.Common.{inl, inr, rules, arith}
 use Rattle.std.proofs.lemmas.Bool.{cases_lt}
-use Rattle.grid_routes.proofs.lead.least_lead.Goals as goal
+use Rattle.grid_routes.proofs.best_direction.least_lead.Goals as goal
 
 pub returns-then-leads : goal.returns-then-leads
 returns-then-leads c = record {

@@ -1,7 +1,7 @@
 use Rattle.std.proofs.Common.{ℕ, ◌<◌}
 use Rattle.grid_routes.specs.EntryCosts.{entry_cost_in}
 use Rattle.grid_routes.specs.Steps.{IsLead}
-use Rattle.grid_routes.proofs.lead.least_lead.Given as goal
+use Rattle.grid_routes.proofs.best_direction.least_lead.Given as goal
 
 abbrev pub invariant-loop-d : goal.invariant-loop-d
 invariant-loop-d l =

@@ -26,4 +26,4 @@ pub returns-else-eq-clause-harvested : goal.returns-else-eq-clause-harvested
 returns-else-eq-clause-harvested c cash a found =
     let same : Some a ≡ Some c.in-Some.a.now = sym found ∙ sym c.in-Some.ensures in
     let is : a ≡ c.in-Some.a.now = cc in
-    rw is (harvest_goes c.args.t.now c.go_towards_seen.new.t c.args.ore.now cash c.args.id c.in-Some.a.now (sym c.in-Some.ensures) (setup_in c.args.g.now) (built_in c.args.g.now) c.args.cell c.args.timer c.args.waits (sym c.is_full.ensures.value ∙ c.if-is_full.false) (sym c.has_ore.ensures ∙ c.if-not-has_ore.false) (sym c.eq.ensures ∙ c.if-eq.false) c.go_towards_seen.ensures.actors)
+    rw is (harvest_goes c.args.t.now c.go_towards_on_current_ground.new.t c.args.ore.now cash c.args.id c.in-Some.a.now (sym c.in-Some.ensures) (setup_in c.args.g.now) (built_in c.args.g.now) c.args.cell c.args.timer c.args.waits (sym c.is_full.ensures.value ∙ c.if-is_full.false) (sym c.has_ore.ensures ∙ c.if-not-has_ore.false) (sym c.eq.ensures ∙ c.if-eq.false) c.go_towards_on_current_ground.ensures.actors)

@@ -1,7 +1,8 @@
 use Rattle.std.proofs.Common.{◌-◌}
 use Rattle.std.specs.Option.{option_copied}
 use Rattle.actor_table.specs.Kinds.{next_number}
-use Rattle.harvest.specs.Refineries.{IsNearest, IsRefineryBelow}
+use Rattle.game_model.specs.NearestActor.{IsNearest}
+use Rattle.harvest.specs.Refineries.{IsRefineryBelow}
 use Rattle.harvest.proofs.refinery.nearest_refinery.Given as goal
 
 abbrev pub invariant-loop-kind : goal.invariant-loop-kind

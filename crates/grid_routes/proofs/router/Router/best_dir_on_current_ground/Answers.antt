@@ -2,7 +2,7 @@ use Rattle.std.proofs.Common.{sym, subst}
 use Rattle.grid_routes.specs.Asked.{CountsOn, KeepsOnly, ask_for, asks_in}
 use Rattle.grid_routes.specs.Routing.{LooksAt, Routing}
 use Rattle.grid_routes.proofs.Looking.{seen-value}
-use Rattle.grid_routes.proofs.router.Router.best_dir_seen.Goals as goal
+use Rattle.grid_routes.proofs.router.Router.best_dir_on_current_ground.Goals as goal
 
 pub returns-clause-value : goal.returns-clause-value
 returns-clause-value c = λ map built looks.

@@ -19,12 +19,12 @@ invariant_of-self c =
     let w : World = world_with s.head s.table.actors s.ore in
     let does : IsSomeAnd (living_of w.actors c.args.id) (DoesFirst (Attack c.args.target c.args.waits)) =
     subst (λ (x : Standing). IsSomeAnd (living_of x.world.actors c.args.id) (DoesFirst (Attack c.args.target c.args.waits))) (sym c.self.view_is) c.requires.first in
-    let done = rw (c.deref.ensures, c.deref-2.ensures) at c.attack_step_seen.ensures.fought in
+    let done = rw (c.deref.ensures, c.deref-2.ensures) at c.attack_step_on_current_ground.ensures.fought in
     rw c.drawn-self-inside.ensures
-    (way_scene setup w _ s.table c.attack_step_seen.new.t s.blocks s.router c.attack_step_seen.new.r s.dice c.attack_step_seen.new.dice c.args.id c.self.invariant
-    (fight_is setup w s.table c.attack_step_seen.new.t s.blocks s.router s.dice c.attack_step_seen.new.dice c.args.id c.args.target c.args.waits c.self.invariant does refl done)
-    (ap (λ (t : Table). t.width) done.actors) (ap (λ (t : Table). t.height) done.actors) c.attack_step_seen.ensures.router
-    (fight_dice setup w s.table c.attack_step_seen.new.t s.blocks s.dice c.attack_step_seen.new.dice c.args.id c.self.invariant.thrown done))
+    (way_scene setup w _ s.table c.attack_step_on_current_ground.new.t s.blocks s.router c.attack_step_on_current_ground.new.r s.dice c.attack_step_on_current_ground.new.dice c.args.id c.self.invariant
+    (fight_is setup w s.table c.attack_step_on_current_ground.new.t s.blocks s.router s.dice c.attack_step_on_current_ground.new.dice c.args.id c.args.target c.args.waits c.self.invariant does refl done)
+    (ap (λ (t : Table). t.width) done.actors) (ap (λ (t : Table). t.height) done.actors) c.attack_step_on_current_ground.ensures.router
+    (fight_dice setup w s.table c.attack_step_on_current_ground.new.t s.blocks s.dice c.attack_step_on_current_ground.new.dice c.args.id c.self.invariant.thrown done))
 
 pub returns : goal.returns
 returns c =
@@ -33,7 +33,7 @@ returns c =
     let w : World = world_with s.head s.table.actors s.ore in
     let does : IsSomeAnd (living_of w.actors c.args.id) (DoesFirst (Attack c.args.target c.args.waits)) =
     subst (λ (x : Standing). IsSomeAnd (living_of x.world.actors c.args.id) (DoesFirst (Attack c.args.target c.args.waits))) (sym c.self.view_is) c.requires.first in
-    let done = rw (c.deref.ensures, c.deref-2.ensures) at c.attack_step_seen.ensures.fought in
+    let done = rw (c.deref.ensures, c.deref-2.ensures) at c.attack_step_on_current_ground.ensures.fought in
     rw (← c.self.view_is, c.drawn-self-inside.ensures)
     (ap (λ (x : World). record { setup = setup; world = x })
-    (fight_is setup w s.table c.attack_step_seen.new.t s.blocks s.router s.dice c.attack_step_seen.new.dice c.args.id c.args.target c.args.waits c.self.invariant does refl done))
+    (fight_is setup w s.table c.attack_step_on_current_ground.new.t s.blocks s.router s.dice c.attack_step_on_current_ground.new.dice c.args.id c.args.target c.args.waits c.self.invariant does refl done))

@@ -11,8 +11,8 @@ use Rattle.tick_core.specs.Scene.{DoesFirst}
 use Rattle.tick_core.proofs.SceneLemmas.{goal_on, walk_is, way_scene}
 use Rattle.tick_core.proofs.scene.Scene.walk.Goals as goal
 
-pub move_activity_seen-requires-clause-goal : goal.move_activity_seen-requires-clause-goal
-move_activity_seen-requires-clause-goal c =
+pub move_activity_on_current_ground-requires-clause-goal : goal.move_activity_on_current_ground-requires-clause-goal
+move_activity_on_current_ground-requires-clause-goal c =
     let s = c.self.inside in
     let setup : Setup = record { rules = s.rules.value; map = s.map.value } in
     let w : World = world_with s.head s.table.actors s.ore in
@@ -27,10 +27,10 @@ invariant_of-self c =
     let w : World = world_with s.head s.table.actors s.ore in
     let does : IsSomeAnd (living_of w.actors c.args.id) (DoesFirst (Move c.args.goal c.args.waits)) =
     subst (λ (x : Standing). IsSomeAnd (living_of x.world.actors c.args.id) (DoesFirst (Move c.args.goal c.args.waits))) (sym c.self.view_is) c.requires.first in
-    let moved = rw (c.deref.ensures, c.deref-2.ensures) at c.move_activity_seen.ensures.actors in
-    way_scene setup w _ s.table c.move_activity_seen.new.t s.blocks s.router c.move_activity_seen.new.r s.dice s.dice c.args.id c.self.invariant
-    (walk_is setup w s.table c.move_activity_seen.new.t s.blocks s.router s.dice c.args.id c.args.goal c.args.waits c.self.invariant does refl moved)
-    (ap (λ (t : Table). t.width) moved) (ap (λ (t : Table). t.height) moved) c.move_activity_seen.ensures.router c.self.invariant.thrown
+    let moved = rw (c.deref.ensures, c.deref-2.ensures) at c.move_activity_on_current_ground.ensures.actors in
+    way_scene setup w _ s.table c.move_activity_on_current_ground.new.t s.blocks s.router c.move_activity_on_current_ground.new.r s.dice s.dice c.args.id c.self.invariant
+    (walk_is setup w s.table c.move_activity_on_current_ground.new.t s.blocks s.router s.dice c.args.id c.args.goal c.args.waits c.self.invariant does refl moved)
+    (ap (λ (t : Table). t.width) moved) (ap (λ (t : Table). t.height) moved) c.move_activity_on_current_ground.ensures.router c.self.invariant.thrown
 
 pub returns : goal.returns
 returns c =
@@ -39,7 +39,7 @@ returns c =
     let w : World = world_with s.head s.table.actors s.ore in
     let does : IsSomeAnd (living_of w.actors c.args.id) (DoesFirst (Move c.args.goal c.args.waits)) =
     subst (λ (x : Standing). IsSomeAnd (living_of x.world.actors c.args.id) (DoesFirst (Move c.args.goal c.args.waits))) (sym c.self.view_is) c.requires.first in
-    let moved = rw (c.deref.ensures, c.deref-2.ensures) at c.move_activity_seen.ensures.actors in
+    let moved = rw (c.deref.ensures, c.deref-2.ensures) at c.move_activity_on_current_ground.ensures.actors in
     rw (← c.self.view_is)
     (ap (λ (x : World). record { setup = setup; world = x })
-    (walk_is setup w s.table c.move_activity_seen.new.t s.blocks s.router s.dice c.args.id c.args.goal c.args.waits c.self.invariant does refl moved))
+    (walk_is setup w s.table c.move_activity_on_current_ground.new.t s.blocks s.router s.dice c.args.id c.args.goal c.args.waits c.self.invariant does refl moved))
