@@ -113,7 +113,14 @@ impl Scene {
             map: &self.map,
             blocks: &self.blocks,
         };
-        move_activity_on_current_ground(&mut self.table, &mut self.router, &ground, id, goal, waits);
+        move_activity_on_current_ground(
+            &mut self.table,
+            &mut self.router,
+            &ground,
+            id,
+            goal,
+            waits,
+        );
     }
 
     /// The actor's first activity is an Attack.
