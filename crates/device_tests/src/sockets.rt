@@ -1,19 +1,43 @@
 //! How links over real sockets begin and end.
 
 use crate::devices::listen_somewhere;
-use game_io::{Net, Sink, Source, Tcp, TcpNet, TransportNet};
+use game_io::{MAX_LINKS, Net, Sink, Source, Tcp, TcpNet, TransportNet};
 use std::net::{Net as Sockets, SocketAddr, TcpListener, TcpStream};
 use std::sync::atomic::{AtomicBool, AtomicU64, Ordering};
 use std::test::Fail;
 use std::time::{Clock, Duration};
 use std::{io, process, thread};
 
+/// The next link that is accepted, where there is one.
+fn accept_one<N: Net>(net: &mut N) -> Option<(N::In, N::Out)> {
+    if net.links() >= MAX_LINKS {
+        return None;
+    }
+    net.accept().ok()
+}
+
+/// A link to an address, where there is one.
+fn dial_one<N: Net>(net: &mut N, at: &str) -> Option<(N::In, N::Out)> {
+    if net.links() >= MAX_LINKS {
+        return None;
+    }
+    net.dial(at).ok()
+}
+
+/// Hands a link back.
+fn hand_back<N: Net>(net: &mut N, i: u32, input: N::In, output: N::Out) {
+    if i < net.links() {
+        net.take_back(i, input, output);
+    }
+}
+
 /// How many pieces the side that is sent the end goes on to send.
 const PIECES: u32 = 200;
 
-/// Sends on and on, and then reads what the other side had said and its end. Answers how many pieces
-/// were not sent, and what was read.
-fn send_and_read<N: Net>(output: &mut N::Out, input: &mut N::In) -> (u32, [u8; 4]) {
+/// Sends on and on, reads what the other side had said and its end, and hands the link back. Answers
+/// how many of these calls failed, and what was read.
+fn send_and_read<N: Net>(net: &mut N, input: N::In, output: N::Out) -> (u32, [u8; 4]) {
+    let (mut input, mut output) = (input, output);
     let mut failed = 0u32;
     for _piece in 0..PIECES {
         if output.put(&[7; 1024]).is_err() {
@@ -26,6 +50,7 @@ fn send_and_read<N: Net>(output: &mut N::Out, input: &mut N::In) -> (u32, [u8; 4
     if input.take(&mut end) != Ok(0) {
         failed = failed.saturating_add(1);
     }
+    hand_back(net, 0, input, output);
     (failed, room)
 }
 
@@ -35,21 +60,17 @@ fn what_was_said_last_is_read_by_one_that_goes_on_sending(rt: HostRuntime) -> Re
     let mut guest = TcpNet::new(&rt);
     let first = process::id(rt.process()).wrapping_add(5_000) % 20_000;
     let at = listen_somewhere(rt.alloc(), &mut host, first)?;
-    let Ok((mut guest_in, mut guest_out)) = guest.dial(&at) else {
+    let Some((guest_in, guest_out)) = dial_one(&mut guest, &at) else {
         return Err(Fail::new("no link is dialled"));
     };
-    let Ok((host_in, mut host_out)) = host.accept() else {
+    let Some((host_in, mut host_out)) = accept_one(&mut host) else {
         return Err(Fail::new("no link is accepted"));
     };
     assert_eq!(rt; host_out.put(b"last"), Ok(()));
     let (read, ()) = thread::join(
         &rt,
-        || {
-            let read = send_and_read::<TcpNet<'_, HostRuntime>>(&mut guest_out, &mut guest_in);
-            guest.take_back(0, guest_in, guest_out);
-            read
-        },
-        || host.take_back(0, host_in, host_out),
+        || send_and_read(&mut guest, guest_in, guest_out),
+        || hand_back(&mut host, 0, host_in, host_out),
     );
     assert_eq!(rt; read, (0, *b"last"));
     Ok(())
@@ -63,17 +84,17 @@ fn a_limited_wait_gives_links_that_have_ended(rt: HostRuntime) -> Result<(), Fai
     let at = listen_somewhere(rt.alloc(), &mut host, first)?;
     assert!(rt; host.listens_at().is_some() && host.came_from().is_none());
     host.limit_wait(0);
-    assert!(rt; host.accept().is_err());
-    let Ok((guest_in, guest_out)) = guest.dial(&at) else {
+    assert!(rt; accept_one(&mut host).is_none());
+    let Some((guest_in, guest_out)) = dial_one(&mut guest, &at) else {
         return Err(Fail::new("no link is dialled"));
     };
     host.limit_wait(60);
-    let Ok((host_in, host_out)) = host.accept() else {
+    let Some((host_in, host_out)) = accept_one(&mut host) else {
         return Err(Fail::new("no link is accepted"));
     };
     assert!(rt; host.came_from().is_some());
     host.limit_wait(0);
-    let Ok((mut ended_in, mut ended_out)) = host.accept() else {
+    let Some((mut ended_in, mut ended_out)) = accept_one(&mut host) else {
         return Err(Fail::new("no ended link is given"));
     };
     let mut room = [0u8; 4];
@@ -82,11 +103,14 @@ fn a_limited_wait_gives_links_that_have_ended(rt: HostRuntime) -> Result<(), Fai
         (Ok(0), Ok(()))
     );
     host.stop_listening();
-    assert!(rt; host.accept().is_err() && host.listens_at().is_none());
-    assert_eq!(rt; (host.links(), host.faults()), (2, 2));
-    guest.take_back(0, guest_in, guest_out);
-    host.take_back(0, host_in, host_out);
-    host.take_back(1, ended_in, ended_out);
+    assert!(rt; host.listens_at().is_none());
+    // Once it has waited in vain it waits no more.
+    host.limit_wait(60);
+    assert!(rt; accept_one(&mut host).is_some());
+    assert_eq!(rt; (host.links(), host.faults()), (3, 1));
+    hand_back(&mut guest, 0, guest_in, guest_out);
+    hand_back(&mut host, 0, host_in, host_out);
+    hand_back(&mut host, 1, ended_in, ended_out);
     assert_eq!(rt; (host.link_faults(0), host.link_faults(1)), (0, 0));
     Ok(())
 }
@@ -99,7 +123,7 @@ fn a_stop_ends_the_wait(rt: HostRuntime) -> Result<(), Fail> {
     let _at = listen_somewhere(rt.alloc(), &mut host, first)?;
     let (none, ()) = thread::join(
         &rt,
-        || host.accept().is_err(),
+        || accept_one(&mut host).is_none(),
         || stop.store(true, Ordering::SeqCst),
     );
     assert!(rt; none);
@@ -159,7 +183,7 @@ fn a_dial_is_never_joined_to_itself(rt: HostRuntime) {
     };
     let mut net = TcpNet::new(&joining);
     // A port from which systems dial, where nobody listens.
-    assert!(rt; net.dial("127.0.0.1:45678").is_err());
+    assert!(rt; dial_one(&mut net, "127.0.0.1:45678").is_none());
     // Two tries: at 10 and at 20 seconds.
     assert_eq!(rt; joining.connects.load(Ordering::SeqCst), 2);
     assert_eq!(rt; (net.links(), net.faults()), (0, 1));
@@ -173,8 +197,8 @@ fn a_name_that_is_not_resolved_is_dialled_once(rt: HostRuntime) {
         connects: AtomicU64::new(0),
     };
     let mut net = TcpNet::new(&joining);
-    assert!(rt; net.dial("no address").is_err());
-    assert!(rt; net.dial("a name:1").is_err());
+    assert!(rt; dial_one(&mut net, "no address").is_none());
+    assert!(rt; dial_one(&mut net, "a name:1").is_none());
     assert_eq!(rt; joining.connects.load(Ordering::SeqCst), 0);
     assert_eq!(rt; joining.reads.load(Ordering::SeqCst), 0);
 }
