@@ -32,8 +32,9 @@ pub fn add_alarms(text: &mut String, board: &Board) -> Result<(), NoMemory>
     text.push_str(lines.as_str())
 }
 
-/// Adds the rest of a line that shows a world: its hash, its number of actors, and the cash of its
-/// clients. It fails only where it is out of memory, and then nothing changes.
+/// Adds the end of a line that shows a world, after what names it: the world's hash, its number of
+/// actors, and the cash of its clients. It fails only where it is out of memory, and then nothing
+/// changes.
 pub fn add_world<S: Sim>(text: &mut String, world: &S) -> Result<(), NoMemory>
     ensures added { OnOk result (string_bytes text.new
         ≡ string_bytes text.old ++ world_text S.hash_of S.summary_of world.now) }

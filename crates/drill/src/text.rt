@@ -201,8 +201,7 @@ pub fn add_end_line(text: &mut String) -> Result<(), NoMemory>
     text.push_str("end\n")
 }
 
-/// Adds the rest of a line that shows a world: its hash, its number of actors, and the cash of its
-/// clients.
+/// Adds what [`crate::add_world`] adds. Out of memory, only a part of it may be there.
 #[tactic(auto, unfolding(crate::specs::Text::world_text))]
 pub(crate) fn write_world<S: Sim>(text: &mut String, world: &S) -> Result<(), NoMemory>
     ensures { OnOk result (string_bytes text.new

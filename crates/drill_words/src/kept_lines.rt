@@ -8,10 +8,10 @@ use crate::word_cursor::WordCursor;
 use crate::words::leading_blanks;
 use std::marker::Model;
 
-/// The kept lines of a text that are still to be read, from the first. Lines without words, and
-/// lines whose first word begins with `#`, are passed over.
+/// The kept lines of a text that are still to be read, from the first. Lines end at a line feed.
+/// Lines without words, and lines whose first word begins with `#`, are passed over.
 #[derive(Drop)]
-pub(crate) struct KeptLines<'a> {
+pub struct KeptLines<'a> {
     number: u32,
     rest: &'a [u8],
 }
@@ -29,8 +29,8 @@ impl<'a> Model for KeptLines<'a> {
 }
 
 impl<'a> KeptLines<'a> {
-    /// The kept lines of a text.
-    pub(crate) fn of(text: &'a [u8]) -> KeptLines<'a>
+    /// The kept lines of a text of fewer than 2^32 - 1 bytes.
+    pub fn of(text: &'a [u8]) -> KeptLines<'a>
         requires { length text.now + 1 < 2 ^ 32 }
         ensures { result ≡ kept_lines text.now }
     {
@@ -43,7 +43,7 @@ impl<'a> KeptLines<'a> {
     /// Takes the next kept line: its number in the text, from 1, and its words. None where no line
     /// is left.
     #[inline(always)]
-    pub(crate) fn next(&mut self) -> Option<(u32, WordCursor<'a>)>
+    pub fn next(&mut self) -> Option<(u32, WordCursor<'a>)>
         ensures { MatchOption result (self.old ≡ [])
             (λ line. self.old ≡ record { number = line.0; words = line.1 } ∷ self.new) }
     {

@@ -2,7 +2,10 @@
 //! client of a match plays.
 //!
 //! `read_drill` returns the [`Drill`] that a file's bytes write, or the first fault with its line,
-//! and `read_script` the [`Scripts`] with the seed.
+//! and `read_script` the [`Scripts`] with the seed. Both take the kept lines of a text from
+//! [`KeptLines`] and their words from a [`WordCursor`], as any other text of such lines may:
+//! [`fault_at`] puts the line to the fault of a word.
+//!
 //! The crate stands on `base` for lines and numbers, on `game_orders` for orders and the limits of a
 //! match, and on `frame_core` for lists of plays. Its definitions go from the text inward: the kept
 //! lines and their words (`specs/KeptLine.antt`, `specs/Words.antt`), how words are read
@@ -46,9 +49,12 @@ pub use event::Event;
 pub use event_list::EventList;
 pub use event_view::EventView;
 pub use hash::HASH_DIGITS;
+pub use kept_lines::KeptLines;
 pub use law::{lines_read_back, scripts_read_back};
 pub use limits::{MAX_DRILL_BYTES, MAX_EVENTS};
-pub use reading::read_drill;
+pub use reading::{fault_at, read_drill};
 pub use script_reading::read_script;
 pub use scripts::Scripts;
 pub use seal_orders::SealOrders;
+pub use word_cursor::WordCursor;
+pub use word_fault::WordFault;

@@ -103,8 +103,8 @@ fn read_event_on(
     read_event(clients, &mut cursor, orders).map_err(|fault| fault_at(fault, number))
 }
 
-/// The fault of a line, by that of its word.
-pub(crate) fn fault_at(fault: WordFault, line: u32) -> DrillFault
+/// The fault of the line of this number, by that of its word.
+pub fn fault_at(fault: WordFault, line: u32) -> DrillFault
     ensures { result ≡ at_line line fault }
 {
     match fault {

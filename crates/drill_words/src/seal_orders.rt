@@ -45,8 +45,6 @@ fn orders_of(part: &[Order]) -> Orders
     ensures { result ≡ part.now }
 {
     let mut orders = Orders::empty();
-    for order in part {
-        let _ = orders.try_push(*order);
-    }
+    orders.replace(part);
     orders
 }

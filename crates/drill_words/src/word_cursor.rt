@@ -12,9 +12,10 @@ use crate::words::{is_blank_line, is_text, split_numeral, split_word};
 use base::read_number;
 use std::marker::Model;
 
-/// The words of a line that are still to be read, from the left.
+/// The words of a line that are still to be read, from the left. Words are separated by spaces,
+/// tabs and carriage returns.
 #[derive(Drop)]
-pub(crate) struct WordCursor<'a> {
+pub struct WordCursor<'a> {
     rest: &'a [u8],
 }
 
@@ -30,14 +31,14 @@ impl<'a> Model for WordCursor<'a> {
 
 impl<'a> WordCursor<'a> {
     /// The words of a line.
-    pub(crate) fn of(line: &'a [u8]) -> WordCursor<'a>
+    pub fn of(line: &'a [u8]) -> WordCursor<'a>
         ensures { result ≡ words_of line.now }
     {
         WordCursor { rest: line }
     }
 
-    /// Takes the next word. None where no word is left.
-    pub(crate) fn next(&mut self) -> Option<&'a [u8]>
+    /// Takes the next word. None exactly where no word is left.
+    pub fn next(&mut self) -> Option<&'a [u8]>
         ensures { MatchOption result ((self.old ≡ []) × (self.new ≡ []))
             (λ word. self.old ≡ word.now ∷ self.new) }
     {
@@ -46,8 +47,8 @@ impl<'a> WordCursor<'a> {
         Some(word)
     }
 
-    /// Takes the next word, which has to be there.
-    pub(crate) fn required(&mut self) -> Result<&'a [u8], WordFault>
+    /// Takes the next word, which has to be there: `BadWord` exactly where no word is left.
+    pub fn required(&mut self) -> Result<&'a [u8], WordFault>
         ensures { MatchResult result (λ word. self.old ≡ word.now ∷ self.new)
             (λ fault. (self.old ≡ []) × (fault ≡ WordFault.BadWord)) }
     {
@@ -57,9 +58,9 @@ impl<'a> WordCursor<'a> {
         }
     }
 
-    /// Takes this word and no other.
+    /// Takes this word and no other: `BadWord` exactly where another one or none comes next.
     #[tactic(auto, unfolding(crate::specs::Read::after_word))]
-    pub(crate) fn word(&mut self, text: &[u8]) -> Result<(), WordFault>
+    pub fn word(&mut self, text: &[u8]) -> Result<(), WordFault>
         ensures { MatchResult result (λ _. after_word text.now self.old ≡ Ok self.new)
             (λ fault. after_word text.now self.old ≡ Err fault) }
     {
@@ -70,9 +71,10 @@ impl<'a> WordCursor<'a> {
         }
     }
 
-    /// Takes a number from `least` to `most`.
+    /// Takes a number from `least` to `most`, of one to ten digits. `BadWord` exactly where no word
+    /// is left, `BadNumber` exactly where the next one is no such number.
     #[tactic(auto, unfolding(crate::specs::Read::number_at))]
-    pub(crate) fn number(&mut self, least: u32, most: u32) -> Result<u32, WordFault>
+    pub fn number(&mut self, least: u32, most: u32) -> Result<u32, WordFault>
         ensures taken { Takes result self.new (number_at least most self.old) }
         ensures low { IfOk result (λ number. least ≤ number) }
         ensures high { IfOk result (λ number. number ≤ most) }
@@ -85,9 +87,11 @@ impl<'a> WordCursor<'a> {
         }
     }
 
-    /// Takes the number of a client, which is below the number of clients.
+    /// Takes the number of a client. `BadWord` exactly where no word is left, `BadNumber` exactly
+    /// where the next one is no number, `NoSuchClient` exactly where that is not below the number of
+    /// clients.
     #[tactic(auto, unfolding(crate::specs::Read::client_at))]
-    pub(crate) fn client(&mut self, clients: u8) -> Result<u8, WordFault>
+    pub fn client(&mut self, clients: u8) -> Result<u8, WordFault>
         ensures taken { Takes result self.new (client_at clients self.old) }
         ensures below { IfOk result (λ client. client < clients) }
     {
@@ -112,9 +116,10 @@ impl<'a> WordCursor<'a> {
         })
     }
 
-    /// Takes a hash: exactly 16 lower-case hexadecimal digits.
+    /// Takes a hash: exactly 16 lower-case hexadecimal digits. `BadWord` exactly where another word
+    /// or none comes next.
     #[tactic(auto, unfolding(crate::specs::Read::hash_at))]
-    pub(crate) fn hash(&mut self) -> Result<u64, WordFault>
+    pub fn hash(&mut self) -> Result<u64, WordFault>
         ensures { Takes result self.new (hash_at self.old) }
     {
         match read_hash(self.required()?) {
@@ -124,14 +129,14 @@ impl<'a> WordCursor<'a> {
     }
 
     /// True where no word is left.
-    pub(crate) fn is_done(&self) -> bool
+    pub fn is_done(&self) -> bool
         ensures { result ≡ none_left self.now }
     {
         is_blank_line(self.rest)
     }
 
-    /// Finds that no word is left.
-    pub(crate) fn end(&self) -> Result<(), WordFault>
+    /// Finds that no word is left: `BadWord` exactly where one is.
+    pub fn end(&self) -> Result<(), WordFault>
         ensures { MatchResult result (λ _. none_left self.now ≡ true)
             (λ fault. (none_left self.now ≡ false) × (fault ≡ WordFault.BadWord)) }
     {

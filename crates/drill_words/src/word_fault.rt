@@ -1,6 +1,6 @@
 /// The fault of the first word of a line that doesn't fit.
-#[derive(Clone, Copy, Debug)]
-pub(crate) enum WordFault {
+#[derive(Clone, Copy, Debug, PartialEq, Eq)]
+pub enum WordFault {
     /// The word is unknown, missing or too many.
     BadWord,
     /// The word stands in a number's place and is no number, or is out of its range.

@@ -19,7 +19,8 @@
 //! says it of the frames and marks as a whole (`specs/RuleLaws.antt`).
 //!
 //! [`Parts`] holds the parts in about as many bytes as a file has; a [`PartCursor`] hands them out
-//! one by one. What a replay is to a game, its frames in order and how many stand before each mark,
+//! one by one. [`read_entries`] reads the entries of one frame, as they stand in a file, from any
+//! bytes. What a replay is to a game, its frames in order and how many stand before each mark,
 //! and the replay that replaces it in the version that is written, is in `specs/Frames.antt`.
 #![tactic(auto)]
 
@@ -46,9 +47,11 @@ pub use law::{
     a_migrated_replay_is_valid, bytes_are_read_as_they_spell, bytes_have_one_first_fault,
     bytes_spell_one_replay, the_rules_are_these,
 };
-pub use limits::{FIRST_MAX_CLIENTS, FIRST_MAX_FRAMES, FIRST_VERSION, VERSION};
+pub use limits::{FIRST_MAX_CLIENTS, FIRST_MAX_FRAMES, FIRST_VERSION, GREATEST_TAG, VERSION};
 pub use part::Part;
 pub use part_cursor::PartCursor;
+pub use part_fault::PartFault;
+pub use part_reading::read_entries;
 pub use parts::Parts;
 pub use replay::Replay;
 pub use replay_fault::ReplayFault;

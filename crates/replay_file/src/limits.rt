@@ -20,7 +20,7 @@ pub const FIRST_MAX_FRAMES: u32 = 65_536;
 pub(crate) const FIRST_GREATEST_TAG: u8 = 7;
 
 /// The greatest tag of an order, that of Pace.
-pub(crate) const GREATEST_TAG: u8 = 8;
+pub const GREATEST_TAG: u8 = 8;
 
 /// The place of the version in a replay's bytes.
 pub(crate) const VERSION_AT: u64 = 4;

@@ -96,13 +96,13 @@ fn read_entry(c: &mut Cursor<'_>, greatest: u8, gone: bool) -> Result<Entry, Par
     read_play(c, greatest)
 }
 
-/// Reads an entry for each client, by rising number.
+/// Reads the entries of a frame, one for each client by rising number, at most
+/// [`MAX_CLIENTS`](game_orders::MAX_CLIENTS): a departure, or, where the client's flag says that it
+/// has not departed before, a play of orders with tags up to `greatest`. The first fault from the
+/// left is the answer: `Short` exactly where a field runs past the end, else `Bad`. Then some bytes
+/// may be taken.
 #[tactic(auto, using(crate::specs::EntriesLemmas::reading_steps))]
-pub(crate) fn read_entries(
-    c: &mut Cursor<'_>,
-    greatest: u8,
-    departed: &[bool],
-) -> Result<Frame, PartFault>
+pub fn read_entries(c: &mut Cursor<'_>, greatest: u8, departed: &[bool]) -> Result<Frame, PartFault>
     requires { length departed.now ≤ MAX_CLIENTS }
     ensures reads { Reads (entries_after greatest [] departed.now) c.old c.new result }
     ensures spelled { IfOk result (λ frame. c.old ≡ entries_bytes frame ++ c.new) }

@@ -41,8 +41,9 @@ fn hash_by<S: FirstHash>(world: &S, version: u16) -> u64
 
 impl<S: FirstHash> Replayed<S> {
     /// Goes on with a part of a replay of this version: steps the world by a frame, or compares a
-    /// mark, if none differed before.
-    pub(crate) fn pass(&mut self, part: &Part, version: u16)
+    /// mark, if none differed before. A frame has an entry for each client of the world, which has
+    /// made as many steps as there are frames so far, fewer than `MAX_FRAMES`.
+    pub fn pass(&mut self, part: &Part, version: u16)
         requires { FitsPass S.clients_of S.steps self.old part.now }
         ensures value { self.new ≡ passed S.after (hash_by S.hash_of S.first_hash_of version)
             self.old part.now }
