@@ -1,6 +1,6 @@
 /// Streams of packets to the server, and the lines that they give: the place and the words of each
 /// packet, then how many bytes are left open, or the fault and its place.
-pub(super) static ROWS: [(&[u8], &str); 25] = [
+pub(super) static ROWS: [(&[u8], &str); 30] = [
     (b"\x01", "open 1\n"),
     (b"\x01\x01", "fault LengthTooLarge 0\n"),
     (b"\x01\x00\x63", "fault BadTag 0\n"),
@@ -320,5 +320,32 @@ pub(super) static ROWS: [(&[u8], &str); 25] = [
          139 bye\n\
          142 bye\n\
          fault BadTag 145\n",
+    ),
+    (
+        b"\x0e\x00\x02\x00\x00\x00\x00\x01\x01\x01\x00\x00\x00\x02\x03\x01\x0e\x00\x02\x01\
+          \x00\x00\x00\x01\x01\x01\x00\x00\x00\x02\x03\x02",
+        "0 orders 0 move+ 1 2 3\n\
+         fault BadOrder 16\n",
+    ),
+    (
+        b"\x14\x00\x02\x00\x00\x00\x00\x02\x05\x01\x00\x00\x00\x02\x01\x05\xff\xff\xff\xff\xff\xff",
+        "0 orders 0 produce 1 258 ; produce 4294967295 65535\n\
+         open 0\n",
+    ),
+    (
+        b"\x0a\x00\x02\x07\x00\x00\x00\x02\x08\x00\x08\xff",
+        "0 orders 7 pace 0 ; pace 255\n\
+         open 0\n",
+    ),
+    (
+        b"\x12\x00\x02\x00\x00\x00\x00\x02\x07\xff\xff\xff\xff\xff\x07\x01\x00\x00\x01\x00",
+        "0 orders 0 donate 255 4294967295 ; donate 1 65536\n\
+         open 0\n",
+    ),
+    (
+        b"\x10\x00\x02\x00\x00\x00\x00\x01\x02\x01\x00\x00\x00\x02\x00\x00\x00\x00\x10\x00\
+          \x02\x01\x00\x00\x00\x01\x02\x01\x00\x00\x00\x02\x00\x00\x00\xff",
+        "0 orders 0 attack 1 2\n\
+         fault BadOrder 18\n",
     ),
 ];
