@@ -175,9 +175,12 @@ class Statuses:
             self.wrote(f'{name}: a failed write', {})
             with open(os.path.join(self.folder, 'old'), 'wb') as file:
                 file.write(b'what was there before' * 100)
+            os.chmod(os.path.join(self.folder, 'old'), 0o640)
             os.symlink('old', os.path.join(self.folder, 'link'))
             self.tally.same(f'{name} over a link', self.run(words.replace(f'{option} new', f'{option} link')), self.plain[name])
             self.tally.check(f'{name}: the link stays', os.path.islink(os.path.join(self.folder, 'link')), 'it is gone')
+            mode = os.stat(os.path.join(self.folder, 'old')).st_mode & 0o777
+            self.tally.same(f'{name}: the mode stays', oct(mode), '0o640')
             os.remove(os.path.join(self.folder, 'link'))
             self.wrote(f'{name} over a link', {'old': self.files['one_frame.replay']})
             ran = self.run(words.replace(f'{option} new', f'{option} /dev/null'))
@@ -216,14 +219,14 @@ class Statuses:
                     least = kilobytes
                     break
             if self.tally.check(f'{name}: enough memory', least, f'{LIMITS[-1]} kB are too little'):
-                for kilobytes in range(least - LIMITS.step, least, 10):
+                for kilobytes in range(least - LIMITS.step, least, 20):
                     short += self.holds_limited(name, kilobytes, self.run(words, kilobytes=kilobytes), whole)
         self.tally.check('limited memory', short, 'no run was out of memory')
 
     def holds_limited(self, name, kilobytes, ran, whole):
         """Whether a run had too little memory. One for which the loader or the system had too little never began."""
         new = self.written()
-        if b'loading shared libraries' in ran.err or (ran.status in (-9, -11) and not ran.out):
+        if ran.status in (127, -9, -11) and not ran.out:
             return False
         holds = ran == whole or (ran.status == 6 and whole.out.startswith(ran.out) and not new)
         self.tally.check(f'{name}: {kilobytes} kB', holds, ran)
