@@ -86,7 +86,8 @@ class Links:
         """The matches of the tool over loopback."""
         tool = os.path.join(TOP, 'tools/tcp_matches/run')
         for word in words:
-            ran = subprocess.run([tool, self.program, *word.split()], stdout=subprocess.PIPE, stderr=subprocess.STDOUT)
+            ran = subprocess.run([tool, self.program, *word.split()], stdout=subprocess.PIPE, stderr=subprocess.STDOUT,
+                                 timeout=PATIENCE * 20)
             self.tally.check(f'tools/tcp_matches/run .. {word}', ran.returncode == 0, ran.stdout)
 
     def of_match(self):
