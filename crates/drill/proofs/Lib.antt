@@ -12,3 +12,5 @@ pub mod SealedLemmas
 pub mod GrownLemmas
 pub mod DraftLemmas
 pub mod MadeLemmas
+pub mod DepartureLemmas
+pub mod FirstReportLemmas

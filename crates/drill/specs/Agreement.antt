@@ -1,5 +1,6 @@
 -- What the record of a drill says of its events: which event ticked a frame, which brought an
--- entry to a peer, and which sealed a play and handed it up. `record_after m events i` is the
+-- entry to a peer, which sealed a play and handed it up, which let a client leave, and which
+-- handed up a report first. `record_after m events i` is the
 -- record after the first i events.
 use Rattle.std.specs.Prelude.{◌≡◌, ℕ, ◌<◌, List, Some, Ok, slice_get, take}
 use Rattle.game_orders.specs.declared.order.Order.{Order}
@@ -10,10 +11,11 @@ use Rattle.frame_core.specs.Ready.{frame_at}
 use Rattle.frame_core.specs.Agreed.{AreReady}
 use Rattle.frame_core.specs.Grows.{Grows}
 use Rattle.frame_core.specs.Match.{Match}
-use Rattle.order_packets.specs.declared.up.Up.TheVariants.{Orders}
+use Rattle.order_packets.specs.declared.up.Up.TheVariants.{Orders, Sync, Bye as Farewell}
 use Rattle.peer_core.specs.Arrived.{ready_by}
 use Rattle.drill_words.specs.declared.event.Event.{Event}
 use Rattle.drill_words.specs.declared.event.Event.TheVariants.{Seal, Up, Down, Tick}
+use Rattle.drill_words.specs.declared.event.Event.TheVariants.{DropClient, Bye}
 use Rattle.drill.specs.Record.{Reached, Progress, peer_at, seal_of, record_of}
 
 -- The record after the first i events.
@@ -56,6 +58,43 @@ pub record WasSealed {W : Type 0}
   pub packet :
       slice_get (record_after m events up).sent number
       ≡ Some (record { client = c; packet = Orders n orders })
+
+-- One of the first i events dropped client c.
+pub record WasDropped {W : Type 0} (m : Match W) (events : List Event) (i c : ℕ) : Type 0 where
+  pub event : ℕ
+  pub before : event < i
+  pub told : slice_get events event ≡ Some (DropClient c)
+
+-- One of the first i events sent a farewell of client c, and a later one handed it up.
+pub record SaidFarewell {W : Type 0} (m : Match W) (events : List Event) (i c : ℕ) : Type 0 where
+  pub bye : ℕ
+  pub up : ℕ
+  pub number : ℕ
+  pub first : bye < up
+  pub before : up < i
+  pub told : slice_get events bye ≡ Some (Bye c)
+  pub handed : slice_get events up ≡ Some (Up number)
+  pub packet :
+      slice_get (record_after m events up).sent number
+      ≡ Some (record { client = c; packet = Farewell })
+
+-- This event handed up a report of client c that its world has this hash after frame n.
+pub record HandsUpReport {W : Type 0}
+    (m : Match W) (events : List Event) (up c n hash : ℕ) : Type 0 where
+  pub number : ℕ
+  pub handed : slice_get events up ≡ Some (Up number)
+  pub packet :
+      slice_get (record_after m events up).sent number
+      ≡ Some (record { client = c; packet = Sync n hash })
+
+-- Of the first i events the first that handed up a report of client c for frame n had this hash.
+pub record IsFirstReport {W : Type 0}
+    (m : Match W) (events : List Event) (i c n hash : ℕ) : Type 0 where
+  pub up : ℕ
+  pub before : up < i
+  pub report : HandsUpReport m events up c n hash
+  pub first :
+      (earlier other : ℕ) → earlier < up → HandsUpReport m events earlier c n other → ⊥
 
 -- From the first i events to the first j the columns only grow, so the frames that the server and
 -- the peers have ticked stay the same.

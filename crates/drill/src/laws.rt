@@ -1,13 +1,16 @@
 //! Laws of the record of a drill, for worlds of any kind.
-ghost use Rattle.std.specs.Prelude.{◌≡◌, ℕ, ◌<◌, ◌≤◌, List, Some, slice_get};
+ghost use Rattle.std.specs.Prelude.{◌≡◌, ℕ, ◌<◌, ◌≤◌, ◌⊎◌, true, List, Some, is_some, slice_get};
+ghost use Rattle.game_orders.specs.declared.limits.TheConstants.{MAX_FRAMES};
 ghost use Rattle.game_orders.specs.declared.order.Order.{Order};
 ghost use Rattle.game_orders.specs.declared.entry.Entry.{Entry};
 ghost use Rattle.frame_core.specs.Match.{Match};
 ghost use Rattle.frame_core.specs.Column.{column_of};
 ghost use Rattle.peer_core.specs.Arrived.{kept_at};
+ghost use Rattle.server_core.specs.Board.{report_at, reports_of};
 ghost use Rattle.drill_words.specs.declared.event.Event.{Event};
 ghost use Rattle.drill.specs.Agreement.{record_after, peer_after, WasToldToTick, WasFound};
-ghost use Rattle.drill.specs.Agreement.{WasSealed, ColumnsOnlyGrow};
+ghost use Rattle.drill.specs.Agreement.{WasSealed, WasDropped, SaidFarewell, HandsUpReport};
+ghost use Rattle.drill.specs.Agreement.{IsFirstReport, ColumnsOnlyGrow};
 
 use frame_core::Sim;
 
@@ -38,6 +41,26 @@ pub fn plays_were_sealed<S: Sim>()
     ensures { (m : Match S) (events : List Event) (i c n : ℕ) (orders : List Order) →
         slice_get (column_of (record_after m events i).columns c).plays n ≡ Some orders →
         WasSealed m events i c n orders }
+{}
+
+/// A law of the record: a client's departure stands in its column only if an event dropped the
+/// client, or an event sent its farewell and a later one handed that up.
+pub fn departures_were_told<S: Sim>()
+    ensures { (m : Match S) (events : List Event) (i c : ℕ) →
+        (column_of (record_after m events i).columns c).left ≡ true →
+        WasDropped m events i c ⊎ SaidFarewell m events i c }
+{}
+
+/// A law of the record: the report that is kept of a client for a frame is the first of them that
+/// an event handed up. And once one was handed up, of a client and for a frame of the match, one is
+/// kept.
+pub fn first_reports_are_kept<S: Sim>()
+    ensures only { (m : Match S) (events : List Event) (i c n hash : ℕ) →
+        report_at (reports_of (record_after m events i).reports c) n ≡ Some hash →
+        IsFirstReport m events i c n hash }
+    ensures whenever { (m : Match S) (events : List Event) (i up c n hash : ℕ) →
+        up < i → c < m.clients → n < MAX_FRAMES → HandsUpReport m events up c n hash →
+        is_some (report_at (reports_of (record_after m events i).reports c) n) ≡ true }
 {}
 
 /// A law of the record: from event to event the columns only grow, and each frame that the server

@@ -39,7 +39,8 @@ pub use drill_words::{Drill, Event, EventList, MAX_EVENTS};
 pub use drilled::Drilled;
 pub use entering::Entering;
 pub use laws::{
-    columns_only_grow, entries_arrive_when_found, peers_tick_when_told, plays_were_sealed,
+    columns_only_grow, departures_were_told, entries_arrive_when_found, first_reports_are_kept,
+    peers_tick_when_told, plays_were_sealed,
 };
 pub use made::{made_drill, made_drills_are_read};
 pub use made_limits::{

@@ -12,9 +12,9 @@ use crate::outcome::Outcome;
 use crate::peers::Peers;
 use crate::sent::Sent;
 use base::NoMemory;
-use drill_words::{Event, EventView};
+use drill_words::{Event, EventView, SealOrders};
 use frame_core::Sim;
-use game_orders::{MAX_CLIENTS, Orders};
+use game_orders::MAX_CLIENTS;
 use order_packets::Up;
 use peer_core::{Peer, Receipt};
 use server_core::{Server, UpAnswer};
@@ -60,7 +60,7 @@ impl<W: Sim> RunningMatch<W> {
             (event_of event.entry) self.old self.new result }
     {
         match event {
-            EventView::Seal { peer, orders } => self.seal(peer, orders.copy()),
+            EventView::Seal { peer, orders } => self.seal(peer, &orders),
             EventView::Up { packet } => self.up(packet),
             EventView::Down {
                 peer,
@@ -81,18 +81,21 @@ impl<W: Sim> RunningMatch<W> {
     }
 
     /// Peer `p` seals its next frame with these orders, and its packet is sent up.
-    fn seal(&mut self, p: u8, orders: Orders) -> Result<Outcome, NoMemory>
+    fn seal(&mut self, p: u8, orders: &SealOrders<'_>) -> Result<Outcome, NoMemory>
         requires whole { IsWhole self.old }
         requires own { p < self.old.clients }
         ensures clients { self.new.clients ≡ self.old.clients }
         ensures lag { self.new.lag ≡ self.old.lag }
         ensures runs { RunsEvent (match_from W.after W.hash_of W.summary_of self.old)
-            (Event.Seal p orders) self.old self.new result }
+            (Event.Seal p orders.now) self.old self.new result }
     {
         let peer = &mut self.peers[p as usize];
         match peer.seal() {
             Ok(frame) => {
-                let packet = Up::Orders { frame, orders };
+                let packet = Up::Orders {
+                    frame,
+                    orders: orders.copy(),
+                };
                 self.sent.push(Sent { client: p, packet })?;
                 Ok(Outcome::Sealed(frame))
             }
