@@ -4,6 +4,7 @@ pub mod TouchedLemmas
 pub mod ChoiceLemmas
 pub mod SceneLemmas
 pub mod OrderLemmas
+pub mod ReadyLemmas
 pub mod StepLemmas
 pub mod TellLemmas
 pub mod WaitingLemmas

@@ -7,3 +7,4 @@ pub mod Touched
 pub mod Scene
 pub mod Telling
 pub mod Ordered
+pub mod Preview

@@ -4,7 +4,7 @@ ghost use Rattle.game_tick.specs.Turn.{buried};
 ghost use Rattle.sync_hash.specs.Kept.{numbered};
 ghost use Rattle.tick_core.specs.Burial.{without_dead};
 
-use crate::live::LiveWorld;
+use crate::live_world::LiveWorld;
 use crate::scene::Scene;
 use actor_table::ActorTable;
 use game_model::Actor;

@@ -1,23 +1,29 @@
-ghost use Rattle.std.specs.Prelude.{◌≡◌, ◌+◌, ◌≤◌, ◌<◌, length, IfOk};
+ghost use Rattle.std.specs.Prelude.{◌≡◌, ◌+◌, ◌≤◌, ◌<◌, length, slice_get, IfOk};
+ghost use Rattle.std.specs.Option.{option_copied};
+ghost use Rattle.game_model.specs.Grid.{IsOn};
 ghost use Rattle.game_model.specs.ValidMap.{IsSetup};
-ghost use Rattle.game_model.specs.World.{HasClients};
+ghost use Rattle.game_model.specs.ValidWorld.{IsValidWorld};
+ghost use Rattle.game_model.specs.World.{HasClients, world_with};
 ghost use Rattle.sync_hash.specs.Kept.{IsKeptOf};
 ghost use Rattle.sync_hash.specs.WorldHash.{hash_of_1};
 ghost use Rattle.frame_core.specs.declared.sim.TheConstants.{MAX_STEPS};
 ghost use Rattle.game_tick.specs.Keeps.{TickKeeps};
+ghost use Rattle.tick_core.specs.Preview.{IsPreview};
 ghost use Rattle.tick_core.specs.Game.{game_start, game_after, game_clients, game_steps};
 
-use crate::live::LiveWorld;
+use crate::live_world::LiveWorld;
 use crate::opening::opening_world;
 use base::NoMemory;
 use frame_core::{Sim, Summary};
-use game_model::{Map, World};
+use game_model::{Actor, Head, Map, Ore, World};
 use game_orders::{Frame, MAX_CLIENTS};
+use grid_routes::Route;
 use rule_traits::Rules;
 use std::alloc::Global;
 use std::marker::Model;
 use std::rc::Rc;
 use sync_hash::Hasher;
+use world_units::CPos;
 
 /// A world of a match with 1 to `MAX_CLIENTS` clients, the rules and the map that it stands on, and
 /// the number of frames that it has been stepped by.
@@ -65,13 +71,118 @@ impl Game {
         })
     }
 
-    /// The world as it is now. Out of memory is its only error.
+    /// The game that goes on from a world that is valid after so many frames, over valid rules and
+    /// a map that keeps what maps keep for these rules. It has made so many steps, and each later
+    /// one, its hash and its summary are those of a game that came to this world by its frames. All
+    /// memory that its steps want is taken here; out of memory is the only error.
+    pub fn resume(
+        alloc: Global,
+        rules: Rc<Rules>,
+        map: Rc<Map>,
+        frames: u32,
+        w: &World,
+    ) -> Result<Game, NoMemory>
+        requires setup { IsSetup (record { rules = rules.value; map = map.value }) }
+        requires valid { IsValidWorld (record { rules = rules.value; map = map.value }) frames w.now }
+        ensures { IfOk result (λ game. game ≡ (record {
+          setup = record { rules = rules.value; map = map.value };
+          world = w.now;
+          steps = frames;
+        })) }
+    {
+        let world = w.copy(alloc)?;
+        Ok(Game {
+            live: LiveWorld::of(alloc, rules, map, world)?,
+            steps: frames,
+        })
+    }
+
+    /// The world as it is now, which is valid after as many frames as the game has made steps. Out
+    /// of memory is its only error.
     pub fn snapshot(&self, alloc: Global) -> Result<World, NoMemory>
         ensures world { IfOk result (λ world. world ≡ self.now.world) }
+        ensures valid { IsValidWorld self.now.setup self.now.steps self.now.world }
         ensures clients { HasClients self.now.world }
     {
         let _steps = self.steps;
         self.live.snapshot(alloc)
+    }
+
+    /// The number of steps so far: of the frames, where the game begins with the match.
+    pub fn step_count(&self) -> u32
+        ensures { result ≡ self.now.steps }
+    {
+        let _live = &self.live;
+        self.steps
+    }
+
+    /// The number of actors.
+    pub fn actor_count(&self) -> usize
+        ensures { result ≡ length self.now.world.actors }
+    {
+        let _steps = self.steps;
+        self.live.actor_count()
+    }
+
+    /// The i-th actor by rising id, from 0. `None` exactly where there are not so many.
+    pub fn actor_at(&self, i: usize) -> Option<&Actor>
+        ensures { option_copied result ≡ slice_get self.now.world.actors i }
+    {
+        let _steps = self.steps;
+        self.live.actor_at(i)
+    }
+
+    /// All of the world but its actors and its ore.
+    pub fn head(&self) -> &Head
+        ensures value { world_with result.now self.now.world.actors self.now.world.ore ≡ self.now.world }
+        ensures clients { HasClients self.now.world }
+    {
+        let _steps = self.steps;
+        self.live.head()
+    }
+
+    /// The ore of each cell.
+    pub fn ore(&self) -> &Ore
+        ensures { result.now ≡ self.now.world.ore }
+    {
+        let _steps = self.steps;
+        self.live.ore()
+    }
+
+    /// The rules that it stands on.
+    pub fn rules(&self) -> &Rules
+        ensures { result.now ≡ self.now.setup.rules }
+    {
+        let _steps = self.steps;
+        self.live.rules()
+    }
+
+    /// The map that it stands on.
+    pub fn map(&self) -> &Map
+        ensures { result.now ≡ self.now.setup.map }
+    {
+        let _steps = self.steps;
+        self.live.map()
+    }
+
+    /// The walk of least cost that an actor of a kind would begin now: over the terrain and the
+    /// buildings as they stand, but not around other units. Both cells are on the map. `None` comes
+    /// exactly where there is no walk, as of a kind that doesn't move, or where the cells are the
+    /// same. The game stays as it is. Out of memory is its only error.
+    pub fn route(
+        &mut self,
+        alloc: Global,
+        kind: u16,
+        from: CPos,
+        goal: CPos,
+    ) -> Result<Option<Route>, NoMemory>
+        requires from { IsOn self.old.setup.map.width self.old.setup.map.height from }
+        requires goal { IsOn self.old.setup.map.width self.old.setup.map.height goal }
+        ensures route { IfOk result (IsPreview self.old.setup self.old.world kind from goal) }
+        ensures same { self.new ≡ self.old }
+    {
+        let _steps = self.steps;
+        self.live.route(alloc, kind, from, goal)
     }
 
     /// What is kept of the world for its hash. It tells how many actors and cells were hashed.

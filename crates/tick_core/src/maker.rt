@@ -1,18 +1,33 @@
 ghost use Rattle.std.specs.Prelude.{◌≡◌, IfOk};
-ghost use Rattle.game_model.specs.Setup.{bare_setup};
+ghost use Rattle.game_model.specs.Setup.{bare_map, bare_setup};
 ghost use Rattle.game_model.specs.ValidMap.{IsSetup};
+ghost use Rattle.game_model.specs.ValidWorld.{IsValidWorld};
 
-use crate::bare::bare_map;
 use crate::game::Game;
-use base::NoMemory;
+use base::{List, NoMemory};
 use frame_core::Maker;
-use game_model::Map;
+use game_model::{BARE_CASH, Map, Ore, Tiles, World};
 use rule_traits::Rules;
 use std::alloc::Global;
 use std::marker::Model;
 use std::rc::Rc;
 
-/// Makes the opening games of matches over the same rules and the same map.
+/// The map of a match without one: one clear cell, no ore, no actors, and [`BARE_CASH`] for each
+/// client. Out of memory is the only error.
+pub fn bare_map(alloc: Global) -> Result<Map, NoMemory>
+    ensures { IfOk result (λ map. map ≡ bare_map) }
+{
+    Ok(Map {
+        width: 1,
+        height: 1,
+        terrain: Tiles::create(alloc, 1, 1)?,
+        ore: Ore::create(alloc, 1, 1)?,
+        starts: List::new(alloc),
+        cash: BARE_CASH,
+    })
+}
+
+/// Makes games of matches over the same rules and the same map.
 #[derive(Drop)]
 pub struct GameMaker {
     rules: Rc<Rules>,
@@ -50,6 +65,31 @@ impl GameMaker {
             rules: Rc::new(alloc, rules)?,
             map: Rc::new(alloc, map)?,
         })
+    }
+
+    /// The rules that its games share.
+    pub fn rules(&self) -> &Rc<Rules>
+        ensures { result.now.value ≡ self.now.rules }
+    {
+        let _map = &self.map;
+        &self.rules
+    }
+
+    /// The map that its games share.
+    pub fn map(&self) -> &Rc<Map>
+        ensures { result.now.value ≡ self.now.map }
+    {
+        let _rules = &self.rules;
+        &self.map
+    }
+
+    /// The game that goes on from a world that is valid after so many frames, as [`Game::resume`]
+    /// has it. Out of memory is its only error.
+    pub fn resume(&self, alloc: Global, frames: u32, w: &World) -> Result<Game, NoMemory>
+        requires { IsValidWorld self.now frames w.now }
+        ensures { IfOk result (λ game. game ≡ (record { setup = self.now; world = w.now; steps = frames })) }
+    {
+        Game::resume(alloc, self.rules.clone()?, self.map.clone()?, frames, w)
     }
 }
 

@@ -3,7 +3,7 @@ use crate::departures::apply_departures;
 use crate::filling::filled_table;
 use actor_table::ActorTable;
 use base::NoMemory;
-use game_model::{Blocks, Head, Map, Ore, World};
+use game_model::{Actor, Blocks, Head, Map, Ore, World};
 use game_orders::Frame;
 use grid_routes::Router;
 use rule_traits::Rules;
@@ -43,17 +43,18 @@ impl Model for Scene {
 }
 
 impl Scene {
-    ghost use Rattle.std.specs.Prelude.{◌≡◌, ◌+◌, ◌<◌, ◌^◌, IfOk, length};
-    ghost use Rattle.game_model.specs.World.{clients_of};
+    ghost use Rattle.std.specs.Prelude.{◌≡◌, ◌+◌, ◌<◌, ◌^◌, IfOk, length, slice_get};
+    ghost use Rattle.std.specs.Option.{option_copied};
+    ghost use Rattle.game_model.specs.World.{clients_of, world_with};
     ghost use Rattle.game_tick.specs.Turn.{buried};
     ghost use Rattle.game_model.specs.ValidMap.{IsSetup};
     ghost use Rattle.sync_hash.specs.Kept.{IsKeptOf};
     ghost use Rattle.sync_hash.specs.WorldHash.{hash_of, hash_of_1};
     ghost use Rattle.tick_core.specs.Scene.{IsActing};
-    ghost use Rattle.game_model.specs.ValidWorld.{IsValidWorld};
+    ghost use Rattle.tick_core.specs.Ordered.{IsReady};
     ghost use Rattle.game_tick.specs.Departures.{with_departures};
 
-    /// An opening world, with the memory for all that ticks want. Out of memory is the only error.
+    /// A valid world, with the memory for all that ticks want. Out of memory is the only error.
     pub(crate) fn of(
         alloc: Global,
         rules: Rc<Rules>,
@@ -61,7 +62,7 @@ impl Scene {
         world: World,
     ) -> Result<Scene, NoMemory>
         requires setup { IsSetup (record { rules = rules.value; map = map.value }) }
-        requires valid { IsValidWorld (record { rules = rules.value; map = map.value }) 0 world }
+        requires valid { IsReady (record { rules = rules.value; map = map.value }) world world }
         ensures { IfOk result (λ scene. scene ≡ (record { setup = record { rules = rules.value; map = map.value }; world = world })) }
     {
         let (width, height) = (map.width, map.height);
@@ -69,7 +70,7 @@ impl Scene {
         let blocks = blocks_of(alloc, &rules, &map, world.actors.as_slice())?;
         let mut router = Router::create(alloc, width, height)?;
         router.look(&map, &blocks);
-        let dice = Twister::seeded(world.seed);
+        let dice = Twister::at(world.seed, world.drawn);
         Ok(Scene {
             rules,
             map,
@@ -129,6 +130,54 @@ impl Scene {
         Ok(self.head.world_with(actors, ore))
     }
 
+    /// The number of actors.
+    pub(crate) fn actor_count(&self) -> usize
+        ensures { result ≡ length self.now.world.actors }
+    {
+        let _dice = &self.dice;
+        self.table.len()
+    }
+
+    /// The i-th actor by rising id, from 0.
+    pub(crate) fn actor_at(&self, i: usize) -> Option<&Actor>
+        ensures { option_copied result ≡ slice_get self.now.world.actors i }
+    {
+        let _dice = &self.dice;
+        self.table.nth_actor(i)
+    }
+
+    /// All of the world but its actors and its ore.
+    pub(crate) fn head(&self) -> &Head
+        ensures { world_with result.now self.now.world.actors self.now.world.ore ≡ self.now.world }
+    {
+        let _dice = &self.dice;
+        &self.head
+    }
+
+    /// The ore of each cell.
+    pub(crate) fn ore(&self) -> &Ore
+        ensures { result.now ≡ self.now.world.ore }
+    {
+        let _dice = &self.dice;
+        &self.ore
+    }
+
+    /// The rules that it stands on.
+    pub(crate) fn rules(&self) -> &Rules
+        ensures { result.now ≡ self.now.setup.rules }
+    {
+        let _dice = &self.dice;
+        &self.rules
+    }
+
+    /// The map that it stands on.
+    pub(crate) fn map(&self) -> &Map
+        ensures { result.now ≡ self.now.setup.map }
+    {
+        let _dice = &self.dice;
+        &self.map
+    }
+
     /// The number of clients.
     pub(crate) fn clients(&self) -> u8
         ensures { result ≡ clients_of self.now.world }
@@ -137,7 +186,7 @@ impl Scene {
     }
 
     /// What holds of the world at all times: it stands on a valid setup, and is one in mid-turn.
-    pub(crate) fn known(&self)
+    pub(crate) fn recall_invariant(&self)
         ensures stands { IsSetup self.now.setup }
         ensures acting { IsActing self.now.setup self.now.world }
     {

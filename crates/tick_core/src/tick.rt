@@ -5,7 +5,7 @@ ghost use Rattle.tick_core.specs.Ordered.{IsReady, subject_of};
 ghost use Rattle.game_tick.specs.Tick.{after_entry, after_turns, tick_of, with_orders};
 ghost use Rattle.game_tick.specs.Departures.{with_departures};
 
-use crate::live::LiveWorld;
+use crate::live_world::LiveWorld;
 use game_orders::{Entry, Frame, Order, Orders};
 
 /// The actor to which an order is given, if it is given to one.
@@ -102,7 +102,9 @@ impl LiveWorld {
     {
         self.scene.apply_order(client, order);
         let subject = subject_of(order);
-        let _died = self.scene.tell(&mut self.hasher, subject, None, None);
+        let _died = self
+            .scene
+            .update_hasher(&mut self.hasher, subject, None, None);
     }
 
     /// Runs so many turns.

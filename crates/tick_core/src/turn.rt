@@ -14,7 +14,7 @@ ghost use Rattle.tick_core.specs.Touched.{KeptBut};
 ghost use Rattle.tick_core.specs.Waiting.{IsDone, IsWaiting};
 
 use crate::burial::is_alive;
-use crate::live::LiveWorld;
+use crate::live_world::LiveWorld;
 use crate::scene::Scene;
 use activities::Activity;
 use actor_table::ActorTable;
@@ -110,14 +110,14 @@ fn is_done(builds: &[Build]) -> bool
 }
 
 /// One of the two, or both.
-fn either(one: bool, other: bool) -> bool
+fn or(one: bool, other: bool) -> bool
     ensures { result ≡ (one || other) }
 {
     one | other
 }
 
 /// Tells the hasher of the actor of an id, if it is there. Returns whether it has no health.
-fn tell_actor(table: &ActorTable, hasher: &mut Hasher, id: Option<u32>) -> bool
+fn update_actor_number(table: &ActorTable, hasher: &mut Hasher, id: Option<u32>) -> bool
     requires { HasPlaceFor hasher.old.actors table.now.actors id }
     ensures told { hasher.new ≡ told_of hasher.old table.now.actors id }
     ensures living { result ≡ false → LivesOf table.now.actors id }
@@ -134,7 +134,7 @@ fn tell_actor(table: &ActorTable, hasher: &mut Hasher, id: Option<u32>) -> bool
 
 /// Tells the hasher of the actors of these ids, as far as they are there: the numbers of all others
 /// are right. Returns whether one of these has no health.
-fn tell_actors(
+fn update_actor_numbers(
     table: &ActorTable,
     hasher: &mut Hasher,
     id: Option<u32>,
@@ -149,10 +149,10 @@ fn tell_actors(
     ensures living { result ≡ false → AreLive (with_some id (with_some target (with_some added []))) table.now.actors }
 {
     let _ids_rise = table.len();
-    let own = tell_actor(table, hasher, id);
-    let hit = tell_actor(table, hasher, target);
-    let new = tell_actor(table, hasher, added);
-    either(own, either(hit, new))
+    let own = update_actor_number(table, hasher, id);
+    let hit = update_actor_number(table, hasher, target);
+    let new = update_actor_number(table, hasher, added);
+    or(own, or(hit, new))
 }
 
 /// The id, where these differ.
@@ -175,7 +175,7 @@ fn if_stepped(waited: bool, added: Option<u32>, id: u32) -> Option<u32>
 }
 
 /// Tells the hasher of the ore of a cell of the map.
-fn tell_ore(ore: &Ore, hasher: &mut Hasher, cell: Option<CPos>)
+fn update_cell_number(ore: &Ore, hasher: &mut Hasher, cell: Option<CPos>)
     requires on_map { IfSome cell (IsOn ore.now.width ore.now.height) }
     requires width { hasher.old.width ≡ ore.now.width }
     requires height { hasher.old.height ≡ ore.now.height }
@@ -238,7 +238,7 @@ impl Scene {
 
     /// Tells the hasher of the actors of these ids, as far as they are there: the numbers of all
     /// others are right. Returns whether one of these has no health.
-    pub(crate) fn tell(
+    pub(crate) fn update_hasher(
         &self,
         hasher: &mut Hasher,
         id: Option<u32>,
@@ -252,17 +252,17 @@ impl Scene {
         ensures height { hasher.new.height ≡ hasher.old.height }
         ensures living { result ≡ false → AreLive (with_some id (with_some target (with_some added []))) self.now.world.actors }
     {
-        tell_actors(&self.table, hasher, id, target, added)
+        update_actor_numbers(&self.table, hasher, id, target, added)
     }
 
     /// Tells the hasher of the ore of a cell of the map.
-    fn tell_ore(&self, hasher: &mut Hasher, cell: Option<CPos>)
+    fn update_hasher_cell(&self, hasher: &mut Hasher, cell: Option<CPos>)
         requires on_map { IfSome cell (IsOn self.now.world.ore.width self.now.world.ore.height) }
         requires width { hasher.old.width ≡ self.now.world.ore.width }
         requires height { hasher.old.height ≡ self.now.world.ore.height }
         ensures { hasher.new ≡ told_ore hasher.old self.now.world.ore cell }
     {
-        tell_ore(&self.ore, hasher, cell);
+        update_cell_number(&self.ore, hasher, cell);
     }
 }
 
@@ -308,7 +308,7 @@ impl LiveWorld {
         ensures stands { IsSetup self.old.setup }
         ensures acting { IsActing self.old.setup self.old.world }
     {
-        self.scene.known();
+        self.scene.recall_invariant();
         if self.scene.is_idle_at(i) {
             return;
         }
@@ -326,21 +326,24 @@ impl LiveWorld {
         requires { self.old.world.drawn < 2 ^ 64 - 1 }
         ensures { self.new ≡ (record self.old { world = after_step self.old.setup self.old.world id }) }
     {
-        self.scene.known();
+        self.scene.recall_invariant();
         let next_id = self.scene.next_id();
         let drawn = self.scene.drawn();
         let waited = self.scene.is_waiting(id);
         self.scene.prepare(id);
-        self.scene.known();
+        self.scene.recall_invariant();
         let effects = self.scene.effects(id);
         self.scene.go_on(id);
         let target = if_changed(drawn, self.scene.drawn(), effects.target);
         let new_id = self.scene.next_id();
         let added = if_changed(u64::from(next_id), u64::from(new_id), Some(next_id));
-        self.scene.known();
+        self.scene.recall_invariant();
         let stepped = if_stepped(waited, added, id);
-        let died = self.scene.tell(&mut self.hasher, stepped, target, added);
-        self.deaths = either(self.deaths, died);
-        self.scene.tell_ore(&mut self.hasher, effects.cell);
+        let died = self
+            .scene
+            .update_hasher(&mut self.hasher, stepped, target, added);
+        self.deaths = or(self.deaths, died);
+        self.scene
+            .update_hasher_cell(&mut self.hasher, effects.cell);
     }
 }

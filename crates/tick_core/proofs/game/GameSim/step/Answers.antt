@@ -1,7 +1,7 @@
 use Rattle.std.proofs.Common.{arith}
-use Rattle.game_tick.specs.ValidWorldLemmas.{wider}
 use Rattle.game_tick.specs.KeepsLemmas.{tick_keeps}
 use Rattle.game_tick.specs.TickLemmas.{tick_valid}
+use Rattle.tick_core.proofs.ReadyLemmas.{ready_valid}
 use Rattle.tick_core.proofs.game.GameSim.step.Goals as goal
 
 pub tick-requires-clause-more : goal.tick-requires-clause-more
@@ -19,18 +19,7 @@ tick-requires-clause-draws c =
 pub tick-requires-clause-ready : goal.tick-requires-clause-ready
 tick-requires-clause-ready c =
     let live = c.self.inside.live in
-    let valid = c.self.invariant.valid in
-    record {
-      ore = valid.ore;
-      least_tick = omega arith;
-      most_tick = omega arith;
-      drawn = omega arith;
-      pace = valid.pace;
-      clients = valid.clients;
-      cash = valid.cash;
-      actors = valid.actors;
-      health = valid.health;
-    }
+    ready_valid live.setup c.self.inside.steps live.world c.self.invariant.valid
 
 -- A tick makes of a valid world one that is valid after one frame more.
 pub invariant_of-self : goal.invariant_of-self

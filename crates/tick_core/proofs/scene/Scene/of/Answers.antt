@@ -1,7 +1,6 @@
-use Rattle.std.proofs.Common.{◌≡◌, rules, arith}
+use Rattle.std.proofs.Common.{◌≡◌, rules}
 use Rattle.game_model.specs.Setup.{Setup}
 use Rattle.game_tick.specs.TurnLemmas.{mid_from_valid}
-use Rattle.game_tick.specs.ValidWorldLemmas.{wider}
 use Rattle.tick_core.specs.Scene.{IsActing}
 use Rattle.tick_core.proofs.scene.Scene.of.Goals as goal
 
@@ -10,8 +9,7 @@ invariant_of-result c =
     let setup : Setup = record { rules = c.args.rules.value; map = c.args.map.value } in
     let w = c.args.world in
     let acting : IsActing setup w =
-    mid_from_valid setup 0 w.tick w.drawn w
-    (wider setup 0 _ _ 0 w.tick w.drawn w c.requires.valid (omega arith) (omega arith) (omega arith)) in
+    mid_from_valid setup 0 w.tick w.drawn w c.requires.valid in
     let same : c.in_ok-table.table.actors ≡ w.actors = search rules in
     record {
       stands = c.requires.setup;
