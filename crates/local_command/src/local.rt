@@ -2,7 +2,7 @@ ghost use Rattle.std.specs.Prelude.{◌≡◌, ◌≤◌, ◌++◌, length, IfOk
 ghost use Rattle.drill.specs.Report.{column_lines};
 ghost use Rattle.drill.specs.Text.{world_text, end_line};
 ghost use Rattle.drill_words.specs.declared.limits.TheConstants.{MAX_DRILL_BYTES};
-ghost use Rattle.match_run.specs.Local.{longest};
+ghost use Rattle.match_run.specs.Local.{IsFilled, frames_of, longest, script_columns};
 ghost use Rattle.command_answers.specs.Stop.{ReturnsStep};
 ghost use Rattle.local_command.specs.LocalText.{local_head, local_lines, local_step};
 
@@ -55,7 +55,23 @@ fn played_text<M: Maker, G: Gate + Sync, R: Threads + Wait + Sync>(
         (M.made maker.now seed (length scripts.now)) scripts.now) }
 {
     let sim = maker.make(alloc, seed, scripts.clients())?;
-    let LocalRun { sim, table, pass } = run_local(rt, alloc, scripts, sim, gate)?;
+    let run = run_local(rt, alloc, scripts, sim, gate)?;
+    run_text(rt, alloc, scripts, run)
+}
+
+/// The text of a match of these scripts that was played.
+fn run_text<S: Sim, R: Threads + Wait + Sync>(
+    rt: &R,
+    alloc: Global,
+    scripts: &Scripts,
+    run: LocalRun<S>,
+) -> Result<Vec<u8>, NoMemory>
+    requires { IsFilled scripts.now run.table run.pass }
+    ensures { IfOk result (λ text. text.items ≡ column_lines 0 (script_columns scripts.now)
+        ++ local_head (frames_of scripts.now)
+        ++ world_text S.hash_of S.summary_of run.sim ++ end_line) }
+{
+    let LocalRun { sim, table, pass } = run;
     closed_columns_are_the_scripts();
     let columns = table.close(rt, pass);
     Ok(ended_text(alloc, &columns, &sim)?.into_bytes())
