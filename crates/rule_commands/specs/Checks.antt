@@ -28,11 +28,15 @@ trait_names kind [] = []
 trait_names kind (trait ∷ rest) =
     (if has_trait kind trait then codes " " ++ name_of trait else []) ++ trait_names kind rest
 
--- A kind: its number, its name, and the names of its traits in the order of the table.
+-- The names of all traits that a kind has, in the order of the table.
+unfoldable pub kind_traits : Kind → List ℕ
+kind_traits kind = trait_names kind all_traits
+
+-- A kind: its number, its name, and the names of its traits.
 unfoldable pub kind_line : ℕ → Kind → List ℕ
 kind_line number kind =
     codes "kind " ++ decimal number ++ codes " " ++ kind.name
-    ++ trait_names kind all_traits ++ codes "\n"
+    ++ kind_traits kind ++ codes "\n"
 
 abbrev pub kind_lines : ℕ → List Kind → List ℕ
 kind_lines number [] = []

@@ -1,8 +1,7 @@
 ghost use Rattle.std.specs.Prelude.{◌≡◌, ◌≤◌, ◌++◌, length, map, string_bytes, OnOk, IfOk};
 ghost use Rattle.std.specs.Prelude.{option_map};
-ghost use Rattle.rule_traits.specs.Traits.{all_traits};
-ghost use Rattle.rule_commands.specs.Checks.{skipped_lines, trait_names, kind_lines, check_lines};
-ghost use Rattle.rule_commands.specs.Checks.{check_step};
+ghost use Rattle.rule_commands.specs.Checks.{skipped_lines, trait_names, kind_traits, kind_lines};
+ghost use Rattle.rule_commands.specs.Checks.{check_lines, check_step};
 ghost use Rattle.command_answers.specs.Given.{given_contents};
 ghost use Rattle.rule_commands.specs.Maps.{map_lines, optional_map};
 ghost use Rattle.command_answers.specs.Stop.{ReturnsStep};
@@ -46,9 +45,9 @@ fn write_names(text: &mut String, kind: &Kind, traits: &[Trait]) -> Result<(), N
 }
 
 /// The names of a kind's traits.
+#[tactic(auto, unfolding(crate::specs::Checks::kind_traits))]
 fn write_traits(text: &mut String, kind: &Kind) -> Result<(), NoMemory>
-    ensures { OnOk result
-        (string_bytes text.new ≡ string_bytes text.old ++ trait_names kind.now all_traits) }
+    ensures { OnOk result (string_bytes text.new ≡ string_bytes text.old ++ kind_traits kind.now) }
 {
     write_names(text, kind, &Trait::ALL)
 }
