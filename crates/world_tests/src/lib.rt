@@ -17,8 +17,6 @@ mod nearest;
 #[cfg(test)]
 mod payments;
 #[cfg(test)]
-mod resumed;
-#[cfg(test)]
 mod searches;
 #[cfg(test)]
 mod ticks;
