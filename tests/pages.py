@@ -7,17 +7,25 @@ from harness import TOP, Ran, free_address, run, with_examples
 COMMAND = re.compile(r'^(?:\$ )?((?:\.\./\.\./|\./)?lockstep [^`]*)$')
 
 # Each command: its page, the command, the folder in which it is run, its status. What it prints is shown after it: in the
-# same block, or in the next one. Of a text in several commands' words, as that of the battle in the README, the page
-# shows a part; so what is shown is a piece of what is printed, and `..` in it stands for any lines, or any words.
+# same block, or in the next one. Of a long text the page shows a part, as the README of the worked schedule's; so what is
+# shown is a piece of what is printed, and `..` in it stands for any lines, or any words.
+DIFFERS = '../../lockstep replay --file differs.replay --map map rules.yaml'
+BATTLE = 'examples/battle'
 SHOWN = [
-    ('README.md', '../../lockstep drill --script battle.drill --map map rules.yaml', 'examples/battle', 0),
-    ('README.md', '../../lockstep replay --file battle.replay --map map rules.yaml', 'examples/battle', 0),
-    ('docs/DESYNC.md', '../../lockstep replay --file differs.replay --map map rules.yaml', 'examples/battle', 7),
+    ('README.md', './lockstep drill --script examples/departure.drill', '.', 0),
+    ('README.md', f'./lockstep replay --file {BATTLE}/differs.replay --map {BATTLE}/map {BATTLE}/rules.yaml', '.', 7),
+    ('docs/DESYNC.md', '../../lockstep drill --script battle.drill --map map rules.yaml', BATTLE, 0),
+    ('docs/DESYNC.md', '../../lockstep replay --file battle.replay --map map rules.yaml', BATTLE, 0),
+    ('docs/DESYNC.md', DIFFERS, BATTLE, 7),
+    ('docs/DESYNC.md', '../../lockstep worlds --file battle.replay --from 1 --to 2 --map map rules.yaml', BATTLE, 0),
     ('docs/DESYNC.md', './lockstep drill --script examples/alarm.drill', '.', 0),
     ('docs/FORMATS.md', './lockstep drill --script examples/one_frame.drill --record new.replay', '.', 0),
     ('docs/FORMATS.md', './lockstep replay --file examples/one_frame.replay', '.', 0),
     ('docs/FORMATS.md', './lockstep migrate --file examples/one_frame_old.replay --to new.replay', '.', 0),
     ('docs/FORMATS.md', './lockstep replay --file examples/one_frame.replay --map examples/battle/map examples/battle/rules.yaml', '.', 3),
+    ('docs/FORMATS.md', './lockstep save --file examples/one_frame.replay --frames 1 --to one_frame.save', '.', 0),
+    ('docs/FORMATS.md', './lockstep continue --save one_frame.save --file examples/one_frame.replay', '.', 0),
+    ('docs/FORMATS.md', './lockstep view --file examples/scout/scout.replay --client 0 --map examples/scout/map examples/scout/rules.yaml', '.', 0),
     ('docs/LOCKSTEP.md', './lockstep local --script examples/local.script', '.', 0),
     ('docs/MAPS.md', './lockstep check --map examples/maps/sample.map examples/maps/sample.yaml', '.', 0),
     ('docs/MAPS.md', './lockstep route --map examples/maps/corner.map --kind unit --from 0,1 --to 2,1 examples/maps/walker.yaml', '.', 0),
@@ -114,14 +122,28 @@ class Pages:
                 continue
             self.lines(page, command, self.bash(command, folder), status, block_after(lines, places[0]))
 
-    def of_new_replays(self):
-        """What FORMATS says that two of the commands have written."""
-        with open(os.path.join(self.top, 'examples/one_frame.replay'), 'rb') as file:
-            want = file.read()
-        for command in (it[1] for it in SHOWN if 'new.replay' in it[1]):
-            self.bash(f'rm -f new.replay; {command}', '.')
-            with open(os.path.join(self.top, 'new.replay'), 'rb') as file:
-                self.tally.same(f'docs/FORMATS.md: the file of {command}', file.read(), want)
+    def of_new_files(self):
+        """What FORMATS says that some of the commands have written: a file of the examples."""
+        for written, example in (('new.replay', 'one_frame.replay'), ('one_frame.save', 'one_frame.save')):
+            with open(os.path.join(self.top, 'examples', example), 'rb') as file:
+                want = file.read()
+            for command in (it[1] for it in SHOWN if it[1].endswith(f' {written}')):
+                self.bash(f'rm -f {written}; {command}', '.')
+                with open(os.path.join(self.top, written), 'rb') as file:
+                    self.tally.same(f'docs/FORMATS.md: the file of {command}', file.read(), want)
+
+    def of_dumps(self):
+        """The bytes of the small replay and the small save, as FORMATS has them: all of each, in order."""
+        lines = lines_of('docs/FORMATS.md')
+        for name in ('one_frame.replay', 'one_frame.save'):
+            at = next(at for at, line in enumerate(lines) if line.startswith(f'**A small one,** `examples/{name}`'))
+            rows = [re.match(r'([0-9a-f]{2})  ((?:[0-9a-f]{2} {1,2})+)', it) for it in block_after(lines, at)]
+            shown = b''
+            for row in rows:
+                self.tally.same(f'docs/FORMATS.md: {name}: a place', int(row[1], 16), len(shown))
+                shown += bytes.fromhex(row[2])
+            with open(os.path.join(self.top, 'examples', name), 'rb') as file:
+                self.tally.same(f'docs/FORMATS.md: the bytes of {name}', shown, file.read())
 
     def of_untried(self):
         """Each command of a page is tried, or a pattern."""
@@ -145,7 +167,7 @@ class Pages:
         lines = lines_of('docs/DESYNC.md')
         command = next(it for it in TRIED if ' migrate ' in it)
         places = dict(reversed(list(commands_of(lines))))
-        above = block_after(lines, places[SHOWN[2][1]])
+        above = block_after(lines, places[DIFFERS])
         ran = self.bash(command, 'examples/battle')
         self.tally.same(f'docs/DESYNC.md: {command}', ran, Ran(7, f'{above[0]}\nend\n'.encode()))
         self.tally.check('docs/DESYNC.md: no file', not os.path.exists(f'{self.top}/examples/battle/new.replay'), 'it is there')
@@ -235,7 +257,8 @@ def run_all(tally, program):
     with tempfile.TemporaryDirectory() as folder:
         it = Pages(tally, program, folder)
         it.of_shown()
-        it.of_new_replays()
+        it.of_new_files()
+        it.of_dumps()
         it.of_untried()
         it.of_refused_drill()
         it.of_refused_migration()

@@ -4,18 +4,29 @@ import os, shutil, subprocess, tempfile
 
 from harness import EXAMPLES, Ran, free_address, lacking, run, with_examples
 
-# The commands that end by themselves, in the folder of the examples. `record` and `migrate` write the file `new`.
+# The rules and the map of the battle, and of the scout.
+BATTLE = '--map battle/map battle/rules.yaml'
+SCOUT = '--map scout/map scout/rules.yaml'
+
+# The commands that end by themselves, in the folder of the examples. `record`, `migrate` and `save` write the file `new`.
 COMMANDS = {
     'drill': 'drill --script battle/battle.drill --map battle/map battle/rules.yaml',
     'record': 'drill --script one_frame.drill --record new',
     'replay': 'replay --file battle/battle.replay --map battle/map battle/rules.yaml',
     'migrate': 'migrate --file one_frame_old.replay --to new',
+    'save': 'save --file one_frame.replay --frames 1 --to new',
+    'continue': f'continue --save battle/battle.save --file battle/battle.replay {BATTLE}',
+    'view': f'view --file scout/scout.replay --client 0 {SCOUT}',
+    'worlds': f'worlds --file battle/battle.replay {BATTLE}',
     'local': 'local --script local.script',
     'make': 'make --number 1',
     'yaml': 'yaml yaml/base.yaml yaml/units.yaml',
     'check': 'check --map maps/sample.map maps/sample.yaml',
     'route': 'route --map maps/corner.map --kind unit --from 0,1 --to 2,1 maps/walker.yaml',
 }
+
+# The option of each command that writes a file, and which example has what it then writes.
+WRITERS = {'record': ('--record', 'one_frame.replay'), 'migrate': ('--to', 'one_frame.replay'), 'save': ('--to', 'one_frame.save')}
 
 # What each command that reads files says of a file of its that is missing, and of one that has a fault.
 REFUSED = {
@@ -27,6 +38,21 @@ REFUSED = {
     'replay --file one_frame.replay --map battle/map battle/rules.yaml': 'one_frame.replay 6 OtherRules',
     'migrate --file none --to new': 'none 0 Missing',
     'migrate --file one_frame.replay --to new --map battle/map battle/rules.yaml': 'one_frame.replay 6 OtherRules',
+    'save --file none --frames 1 --to new': 'none 0 Missing',
+    f'save --file one_frame.replay --frames 1 --to new {BATTLE}': 'one_frame.replay 6 OtherRules',
+    'save --file one_frame.replay --frames 2 --to new': 'one_frame.replay 0 TooFewFrames',
+    'continue --save none --file none': 'none 0 Missing',
+    'continue --save one_frame.save --file none': 'none 0 Missing',
+    'continue --save one_frame.replay --file one_frame.save': 'one_frame.replay 0 BadMagic',
+    f'continue --save one_frame.save --file one_frame.replay {BATTLE}': 'one_frame.save 6 OtherRules',
+    'continue --save one_frame.save --file short': 'short 0 TooFewFrames',
+    'continue --save one_frame.save --file other': 'other 0 OtherMatch',
+    'continue --save one_frame.save --file other_and_short': 'other_and_short 0 OtherMatch',
+    'view --file none --client 0': 'none 0 Missing',
+    'view --file one_frame.replay --client 1': 'view 0 NoSuchClient',
+    'worlds --file none': 'none 0 Missing',
+    'worlds --file one_frame.replay --to 2': 'one_frame.replay 0 TooFewFrames',
+    'worlds --file one_frame.replay --from 2 --to 0': 'one_frame.replay 0 TooFewFrames',
     'local --script none': 'none 0 Missing',
     'local --script refused.drill': 'refused.drill 3 BadWord',
     'yaml yaml/base.yaml none': 'none 0 Missing',
@@ -45,20 +71,26 @@ REFUSED = {
 
 # Commands of which one file can't be read: UNREAD stands for its name.
 UNREADABLE = ['drill --script UNREAD', 'drill --script one_frame.drill --map UNREAD', 'replay --file UNREAD',
-              'migrate --file UNREAD --to new', 'local --script UNREAD', 'yaml UNREAD', 'check maps/sample.yaml UNREAD',
+              'migrate --file UNREAD --to new', 'save --file UNREAD --frames 1 --to new',
+              'continue --save UNREAD --file one_frame.replay', 'continue --save one_frame.save --file UNREAD',
+              'view --file UNREAD --client 0', 'worlds --file UNREAD', 'local --script UNREAD', 'yaml UNREAD', 'check maps/sample.yaml UNREAD',
               'route --map UNREAD --kind unit --from 0,1 --to 2,1 maps/walker.yaml',
               'serve --at 127.0.0.1:1 --clients 1 UNREAD', 'play --at 127.0.0.1:1 --script UNREAD']
 
 # Commands whose replay has a mark that differs.
 DIFFERING = ['replay --file battle/differs.replay --map battle/map battle/rules.yaml',
-             'migrate --file battle/differs.replay --to new --map battle/map battle/rules.yaml']
+             'migrate --file battle/differs.replay --to new --map battle/map battle/rules.yaml',
+             f'continue --save battle/battle.save --file battle/differs.replay {BATTLE}']
 
 WORDS_REFUSED = Ran(2, b'refused words\n')
 READ_FAULT = Ran(4, b'fault read\n')
 
 # The lengths that files may have.
 LONGEST = {'drill --script long': 67_108_864, 'local --script long': 67_108_864, 'yaml long': 4_194_304,
-           'check maps/sample.yaml --map long': 4_194_304, 'replay --file long': 268_435_456}
+           'check maps/sample.yaml --map long': 4_194_304, 'replay --file long': 268_435_456,
+           'save --file long --frames 1 --to new': 268_435_456, 'continue --save long --file one_frame.replay': 4_194_304,
+           'continue --save one_frame.save --file long': 268_435_456, 'view --file long --client 0': 268_435_456,
+           'worlds --file long': 268_435_456}
 
 # How much memory the program is given, in kB, from little on.
 LIMITS = range(2_000, 60_000, 500)
@@ -99,22 +131,33 @@ class Statuses:
 
     def of_success(self):
         """Status 0, and the file that is then written."""
-        new = {'new': self.files['one_frame.replay']}
         for name, words in COMMANDS.items():
             self.plain[name] = ran = self.run(words)
             self.tally.same(f'{name}: status', ran.status, 0)
             self.tally.check(f'{name}: its text', ran.out.endswith(b'\n') and not ran.err, ran)
-            self.wrote(name, new if name in ('record', 'migrate') else {})
+            self.wrote(name, {'new': self.files[WRITERS[name][1]]} if name in WRITERS else {})
 
     def of_words(self):
         """Status 2."""
-        for words in ('', 'dance', 'drill --script', 'make --number 4294967296', *(f'{it} --what' for it in COMMANDS.values())):
+        for words in ('', 'dance', 'drill --script', 'make --number 4294967296', 'save --file r --frames 4294967296 --to v',
+                      'view --file r --client -1', 'worlds --file r --every 0', *(f'{it} --what' for it in COMMANDS.values())):
             self.tally.same(f'"{words}"', self.run(words), WORDS_REFUSED)
         for words in ([b'\xff'], [b'drill', b'--script', b'\xff.drill'], [b'yaml', b'\xc3']):
             self.tally.same(f'{words}, no UTF-8', self.run(words), WORDS_REFUSED)
 
+    def add(self, name, data):
+        """A file more beside the examples."""
+        with open(os.path.join(self.folder, name), 'wb') as file:
+            file.write(data)
+        self.files[name] = data
+
     def of_files(self):
-        """Status 3, of missing files, of faults, of files that are too long."""
+        """Status 3, of missing files, of faults, of what is refused, of files that are too long."""
+        replay = self.files['one_frame.replay']
+        # The seed stands from byte 14 on and the first part at byte 19; a zero byte ends a replay.
+        other = replay[:14] + b'\x09' + replay[15:]
+        for name, data in (('short', replay[:19] + b'\0'), ('other', other), ('other_and_short', other[:19] + b'\0')):
+            self.add(name, data)
         for words, what in REFUSED.items():
             self.tally.same(words, self.run(words), Ran(3, f'refused {what}\n'.encode()))
         long = os.path.join(self.folder, 'long')
@@ -167,7 +210,7 @@ class Statuses:
 
     def of_records(self):
         """Status 5 where the file can't be written, after the whole text; old files, and links to files."""
-        for name, option in (('record', '--record'), ('migrate', '--to')):
+        for name, (option, example) in WRITERS.items():
             words, whole = COMMANDS[name], self.plain[name].out
             for place in ('none/new', 'battle', '/dev/full'):
                 ran = self.run(words.replace(f'{option} new', f'{option} {place}'))
@@ -182,7 +225,7 @@ class Statuses:
             mode = os.stat(os.path.join(self.folder, 'old')).st_mode & 0o777
             self.tally.same(f'{name}: the mode stays', oct(mode), '0o640')
             os.remove(os.path.join(self.folder, 'link'))
-            self.wrote(f'{name} over a link', {'old': self.files['one_frame.replay']})
+            self.wrote(f'{name} over a link', {'old': self.files[example]})
             ran = self.run(words.replace(f'{option} new', f'{option} /dev/null'))
             self.tally.same(f'{name} into /dev/null', ran, self.plain[name])
 

@@ -70,16 +70,16 @@ def man_page(version, date):
             lines += ['.TP', f'.{mark} {roff(it.line)}', roff(it.text)]
     lines += ['.SH FILES', '.TP', '.I /usr/share/doc/lockstep/README.md', 'Where the pages begin: the formats of files, '
               'what is printed, and what is proved.', '.TP', '.I /usr/share/doc/lockstep/examples',
-              'Drills, scripts, replays, rules and maps.', '.SH SEE ALSO', '.BR lockstep\\-lint (1)']
+              'Drills, scripts, replays, rules and maps.', '.SH SEE ALSO', '.BR lockstep\\-lint (1),', '.BR lockstep\\-viewer (1)']
     return '\n'.join(lines) + '\n'
 
 
-def lint_page(document, version, date):
-    """The manual page of lockstep-lint, from the head of its script."""
-    parts = document.strip().replace('usage: lint', 'usage: lockstep-lint').split('\n\n')
-    lines = [f'.TH LOCKSTEP\\-LINT 1 "{date}" "lockstep {version}" "User Commands"', '.SH NAME',
-             r'lockstep\-lint \- tells authors of rules and maps what no refusal tells them', '.SH SYNOPSIS',
-             r'.B lockstep\-lint', usage_roff(parts[1].partition('lockstep-lint ')[2]), '.SH DESCRIPTION']
+def script_page(name, does, document, version, date):
+    """The manual page of lockstep-NAME, which does this, from the head of its script."""
+    parts = document.strip().split('\n\n')
+    lines = [f'.TH LOCKSTEP\\-{name.upper()} 1 "{date}" "lockstep {version}" "User Commands"', '.SH NAME',
+             f'lockstep\\-{name} \\- {does}', '.SH SYNOPSIS', f'.B lockstep\\-{name}',
+             usage_roff(parts[1].split(' ', 2)[2]), '.SH DESCRIPTION']
     for part in parts[2:]:
         if part.startswith('  - '):
             for item in re.split(r'\n?  - ', part)[1:]:
@@ -92,15 +92,13 @@ def lint_page(document, version, date):
 def bash_completion():
     _, found = sections()
     commands = found['Commands']
-    values = {option: value for it in commands for option, value, _ in it.options}
-    files = '|'.join(sorted(it for it, value in values.items() if value == 'FILE'))
-    others = '|'.join(sorted(it for it, value in values.items() if value != 'FILE'))
+    named = lambda it: ' '.join(option for option, value, _ in it.options if value == 'FILE')
     cases = '\n'.join(f'        {it.name}) options="{" ".join(option for option, _, _ in it.options)}"'
-                      f' files={"yes" if it.files else ""} ;;' for it in commands)
+                      f' named="{named(it)}" files={"yes" if it.files else ""} ;;' for it in commands)
     return textwrap.dedent('''\
         # Completes the command line of lockstep.
         _lockstep() {
-            local word=${COMP_WORDS[COMP_CWORD]} before=${COMP_WORDS[COMP_CWORD-1]} options= files=
+            local word=${COMP_WORDS[COMP_CWORD]} before=${COMP_WORDS[COMP_CWORD-1]} options= named= files=
             if [ "$before" = = ]; then before=${COMP_WORDS[COMP_CWORD-2]}; fi
             if [ "$word" = = ]; then
                 before=${COMP_WORDS[COMP_CWORD-1]}
@@ -111,12 +109,14 @@ def bash_completion():
                 mapfile -t COMPREPLY < <(compgen -W "@COMMANDS@ --help --version" -- "$word")
                 return
             fi
-            case $before in
-                @FILES@) mapfile -t COMPREPLY < <(compgen -f -- "$word"); return ;;
-                @OTHERS@) return ;;
-            esac
             case ${COMP_WORDS[1]} in
         @CASES@
+            esac
+            case " $named " in
+                *" $before "*) mapfile -t COMPREPLY < <(compgen -f -- "$word"); return ;;
+            esac
+            case " $options " in
+                *" $before "*) return ;;
             esac
             case $word in
                 -*) mapfile -t COMPREPLY < <(compgen -W "$options" -- "$word") ;;
@@ -124,8 +124,7 @@ def bash_completion():
             esac
         }
         complete -o filenames -F _lockstep lockstep
-        ''').replace('@COMMANDS@', ' '.join(it.name for it in commands)).replace('@FILES@', files) \
-        .replace('@OTHERS@', others).replace('@CASES@', cases)
+        ''').replace('@COMMANDS@', ' '.join(it.name for it in commands)).replace('@CASES@', cases)
 
 
 def zsh_completion():

@@ -17,7 +17,7 @@ mod sent;
 mod sent_columns;
 mod sent_reports;
 mod server_world;
-mod world_text;
+mod world_fields;
 
 use crate::checking::{Shown, run_cases};
 use crate::read_fault::ReadFault;

@@ -1,7 +1,7 @@
 ghost use Rattle.std.specs.Prelude.{◌≤◌, length};
 
 use crate::case::Case;
-use crate::world_text::world_text;
+use crate::world_fields::world_fields;
 use base::NoMemory;
 use command_answers::{GivenFiles, PlayedFile, read_played_files};
 use command_words::{MAX_FILES, MatchQuery, Request, read_words};
@@ -21,7 +21,7 @@ pub fn server_world(alloc: Global, case: &Case<'_>) -> Result<Option<String>, No
     };
     let mut disk = case.disk(alloc)?;
     match read_and_run(alloc, &query, &mut disk)? {
-        Some(world) => Ok(Some(world_text(alloc, &world)?)),
+        Some(world) => Ok(Some(world_fields(alloc, &world)?)),
         None => Ok(None),
     }
 }

@@ -1,3 +1,4 @@
 pub mod ContentsLemmas
 pub mod FilesLemmas
+pub mod AfterLemmas
 pub mod PlayedLemmas

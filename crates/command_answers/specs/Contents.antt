@@ -11,6 +11,7 @@ use Rattle.command_answers.specs.WantedFiles.{Wanted, WantedFiles}
 pub record Contents : Type 0 where
   pub rules : List (List ℕ)
   pub map_file : Option (List ℕ)
+  pub save : Option (List ℕ)
   pub script : Option (List ℕ)
   pub replay : Option (List ℕ)
 
@@ -41,15 +42,23 @@ read_optional (Some file) files = do
   bytes ← content_of file (files file.name)
   Ok (Some bytes)
 
--- Rules are read first, then the map, then the script or the replay. The first file that cannot be
--- read decides.
+-- Rules are read first, then the map, then the save, then the script or the replay. The first file
+-- that cannot be read decides.
 abbrev pub contents_of : WantedFiles → Files → Step Contents
 contents_of wanted files = do
   rules ← read_after [] wanted.rules files
   map_file ← read_optional wanted.map_file files
+  save ← read_optional wanted.save files
   script ← read_optional wanted.script files
   replay ← read_optional wanted.replay files
-  Ok (record { rules = rules; map_file = map_file; script = script; replay = replay })
+  Ok
+      (record {
+        rules = rules;
+        map_file = map_file;
+        save = save;
+        script = script;
+        replay = replay;
+      })
 
 -- The first of the files is there. Where it is not, that is answered, and no read can fail.
 abbrev pub IsFirstThere : List Wanted → Files → Type 0
@@ -74,6 +83,7 @@ IsWithinLimit (Some file) (Some bytes) = length bytes ≤ file.limit
 pub record AreContents (wanted : WantedFiles) (contents : Contents) : Type 0 where
   pub rules : AreWithinLimits wanted.rules contents.rules
   pub map_file : IsWithinLimit wanted.map_file contents.map_file
+  pub save : IsWithinLimit wanted.save contents.save
   pub script : IsWithinLimit wanted.script contents.script
   pub replay : IsWithinLimit wanted.replay contents.replay
 

@@ -4,8 +4,10 @@ use Rattle.std.specs.Global.{Vec}
 use Rattle.command_answers.specs.declared.files.GivenFiles.{GivenFiles}
 use Rattle.command_answers.specs.declared.files.PlayedFile.{PlayedFile}
 use Rattle.command_answers.specs.declared.files.PlayedFile.TheVariants.{Script, Replay}
+use Rattle.command_answers.specs.declared.paired.LimitedFile.{LimitedFile}
+use Rattle.command_answers.specs.declared.paired.PairedFiles.{PairedFiles}
 use Rattle.command_answers.specs.WantedFiles.{Wanted, WantedFiles, script_file, replay_file}
-use Rattle.command_answers.specs.WantedFiles.{rules_and_map, with_script, with_replay}
+use Rattle.command_answers.specs.WantedFiles.{rules_and_map, with_first, with_script, with_replay}
 use Rattle.command_answers.specs.Contents.{Contents}
 
 abbrev pub given_contents : GivenFiles → Contents
@@ -13,6 +15,7 @@ given_contents given =
     record {
       rules = map (λ bytes. bytes.items) given.rules.items;
       map_file = option_map (λ bytes. bytes.items) given.map_file;
+      save = None;
       script = None;
       replay = None;
     }
@@ -39,3 +42,28 @@ played_files (Replay name) names map_file = with_replay name.now (rules_and_map 
 abbrev pub played_contents : PlayedFile → GivenFiles × Vec ℕ → Contents
 played_contents (Script name) given = script_contents given
 played_contents (Replay name) given = replay_contents given
+
+-- A file by its name, with the most bytes that it may have.
+abbrev pub limited_file : LimitedFile → Wanted
+limited_file file = record { name = file.name.now; limit = file.limit }
+
+-- Rule files, a map, if one is named, and after them this file.
+abbrev pub first_files : Wanted → List (List ℕ) → Option (List ℕ) → WantedFiles
+first_files first names map_file = with_first first (rules_and_map names map_file)
+
+-- Their contents.
+abbrev pub first_contents : GivenFiles × Vec ℕ → Contents
+first_contents given = record (given_contents given.0) { save = Some given.1.items }
+
+-- Rule files, a map, if one is named, and after them this file, and then a replay of this name.
+abbrev pub paired_files :
+    Wanted → (replay : List ℕ) → List (List ℕ) → Option (List ℕ) → WantedFiles
+paired_files first replay names map_file = with_replay replay (first_files first names map_file)
+
+-- Their contents.
+abbrev pub paired_contents : PairedFiles → Contents
+paired_contents given =
+    record (given_contents given.files) {
+      save = Some given.first.items;
+      replay = Some given.second.items;
+    }

@@ -197,6 +197,9 @@ pub fn read_files<'a, D: Disk>(
     }
 }
 
+/// The most bytes of a save.
+pub const MAX_SAVE_BYTES: u32 = 4_194_304;
+
 /// The most bytes of a replay.
 pub const MAX_REPLAY_BYTES: u32 = 268_435_456;
 

@@ -16,11 +16,12 @@ use Rattle.clap.specs.declared.error.kind.ErrorKind.TheVariants.{MissingRequired
 use Rattle.clap.proofs.SimpleLemmas.{is_nil}
 use Rattle.clap.proofs.WalkLemmas.{both}
 use Rattle.world_units.specs.declared.cell.CPos.{CPos}
-use Rattle.command_words.specs.RequestPlain.{Drill, Local, MatchPlain, Migrate, Play, Replay, RequestPlain, Route, Serve}
+use Rattle.command_words.specs.RequestPlain.{Continue, Drill, Local, MatchPlain, Migrate, Play, RangePlain, Replay, RequestPlain, Route, Save, Serve, View, Worlds}
 use Rattle.command_words.specs.Commands.{option_named, required_option, number_option, required_number, bare_app, lockstep_app}
-use Rattle.command_words.specs.Reading.{is_accepted, command_request, names_in, cell_in, number_of, number_in, up_to, count_in, count_or, match_in, play_in, serve_in, migrate_in, route_in, found_request, request_of, NamesRefused, CellRefused}
+use Rattle.command_words.specs.Reading.{is_accepted, command_request, names_in, cell_in, number_of, number_in, up_to, count_in, count_or, from_one, step_or, match_in, play_in, serve_in, migrate_in, route_in, save_in, continue_in, view_in, range_in, worlds_in, found_request, request_of, NamesRefused, CellRefused}
 use Rattle.game_orders.specs.declared.limits.TheConstants.{MAX_CLIENTS, MAX_LAG}
 use Rattle.command_words.specs.declared.serve_query.TheConstants.{DEFAULT_LAG}
+use Rattle.command_words.specs.declared.world_range.TheConstants.{DEFAULT_EVERY}
 use Rattle.command_words.proofs.OnCommands.{all_commands}
 use Rattle.command_words.proofs.NumberLemmas.{Written, let_through}
 use Rattle.command_words.proofs.PlainWordsLemmas.{map_rule, names_rule, names_rules, names_shape}
@@ -73,11 +74,30 @@ replay_shape = shape_with (codes "replay") (wanted_rule (codes "file") ∷ map_r
 abbrev migrate_shape : Shape
 migrate_shape = shape_with (codes "migrate") (wanted_rule (codes "file") ∷ map_rule ∷ wanted_rule (codes "to") ∷ names_rule ∷ [])
 
+abbrev save_shape : Shape
+save_shape =
+    shape_with (codes "save")
+    (wanted_rule (codes "file") ∷ map_rule ∷ with_index 1 (filled (required_number (codes "frames") 0 4294967295)) ∷ wanted_rule (codes "to") ∷ names_rule ∷ [])
+
+abbrev continue_shape : Shape
+continue_shape = shape_with (codes "continue") (wanted_rule (codes "file") ∷ map_rule ∷ wanted_rule (codes "save") ∷ names_rule ∷ [])
+
+abbrev view_shape : Shape
+view_shape =
+    shape_with (codes "view")
+    (wanted_rule (codes "file") ∷ map_rule ∷ with_index 1 (filled (required_number (codes "client") 0 4294967295)) ∷ names_rule ∷ [])
+
+abbrev worlds_shape : Shape
+worlds_shape =
+    shape_with (codes "worlds")
+    (wanted_rule (codes "file") ∷ map_rule ∷ with_index 1 (filled (number_option (codes "from") 0 4294967295))
+    ∷ with_index 1 (filled (number_option (codes "to") 0 4294967295)) ∷ with_index 1 (filled (number_option (codes "every") 1 4294967295)) ∷ names_rule ∷ [])
+
 -- The commands, as the parse has them.
 abbrev command_shapes : List Shape
 command_shapes =
     drill_shape ∷ names_shape false (codes "yaml") ∷ names_shape true (codes "check") ∷ route_shape ∷ make_shape ∷ local_shape
-    ∷ serve_shape ∷ play_shape ∷ replay_shape ∷ migrate_shape ∷ []
+    ∷ serve_shape ∷ play_shape ∷ replay_shape ∷ migrate_shape ∷ save_shape ∷ continue_shape ∷ view_shape ∷ worlds_shape ∷ []
 
 -- What is known of rows that a command without a fault has found.
 record AreFound (s : Shape) (rows : List Row) : Type 0 where
@@ -115,6 +135,18 @@ both_required : (a b : Bool) → cond (not a || (not b || false)) (MissingRequir
 both_required true true quiet = record { first = refl; second = refl }
 both_required true false quiet = absurd (some_kind MissingRequiredArgument [] quiet)
 both_required false b quiet = absurd (some_kind MissingRequiredArgument [] quiet)
+
+-- Three arguments that have to be there.
+record ThreeGiven (a b c : Bool) : Type 0 where
+  first : a ≡ true
+  second : b ≡ true
+  third : c ≡ true
+
+three_required : (a b c : Bool) → cond (not a || (not b || (not c || false))) (MissingRequiredArgument ∷ []) [] ≡ [] → ThreeGiven a b c
+three_required true true true quiet = record { first = refl; second = refl; third = refl }
+three_required true true false quiet = absurd (some_kind MissingRequiredArgument [] quiet)
+three_required true false c quiet = absurd (some_kind MissingRequiredArgument [] quiet)
+three_required false b c quiet = absurd (some_kind MissingRequiredArgument [] quiet)
 
 -- Four arguments that have to be there.
 record AreGiven (a b c d : Bool) : Type 0 where
@@ -175,6 +207,73 @@ migrate_found words quiet =
     record {
       file = given_first c (codes "file") rows (given_row c (codes "file") rows found.full given.first);
       to = given_first c (codes "to") rows (given_row c (codes "to") rows found.full given.second);
+    }
+
+-- What is known of the options of a save to be written.
+record SaveIsThere (rows : List Row) : Type 0 where
+  file : IsThere (codes "file") rows
+  frames : HasRow save_shape.rules (codes "frames") rows
+  to : IsThere (codes "to") rows
+
+save_found : (words : List Text) → level_fault save_shape [] nothing_held words false [] ≡ [] → SaveIsThere (rows_after save_shape.rules [] words)
+save_found words quiet =
+    let c = save_shape.rules in
+    let rows = rows_after save_shape.rules [] words in
+    let found : AreFound save_shape rows = found_rows save_shape words ((refl, refl), ((refl, refl), ((refl, refl), ((refl, refl), ((refl, refl), tt))))) (λ x. refl) quiet in
+    let given : ThreeGiven (is_given (codes "file") rows) (is_given (codes "frames") rows) (is_given (codes "to") rows) =
+    three_required (is_given (codes "file") rows) (is_given (codes "frames") rows) (is_given (codes "to") rows) found.checks in
+    record {
+      file = given_first c (codes "file") rows (given_row c (codes "file") rows found.full given.first);
+      frames = given_row c (codes "frames") rows found.full given.second;
+      to = given_first c (codes "to") rows (given_row c (codes "to") rows found.full given.third);
+    }
+
+-- The options that have to be there to go on from a save are there.
+record ContinueIsThere (rows : List Row) : Type 0 where
+  file : IsThere (codes "file") rows
+  save : IsThere (codes "save") rows
+
+continue_found : (words : List Text) → level_fault continue_shape [] nothing_held words false [] ≡ [] → ContinueIsThere (rows_after continue_shape.rules [] words)
+continue_found words quiet =
+    let c = continue_shape.rules in
+    let rows = rows_after continue_shape.rules [] words in
+    let found : AreFound continue_shape rows = found_rows continue_shape words ((refl, refl), ((refl, refl), ((refl, refl), ((refl, refl), tt)))) (λ x. refl) quiet in
+    let given : BothGiven (is_given (codes "file") rows) (is_given (codes "save") rows) = both_required (is_given (codes "file") rows) (is_given (codes "save") rows) found.checks in
+    record {
+      file = given_first c (codes "file") rows (given_row c (codes "file") rows found.full given.first);
+      save = given_first c (codes "save") rows (given_row c (codes "save") rows found.full given.second);
+    }
+
+-- What is known of the options of a view.
+record ViewIsThere (rows : List Row) : Type 0 where
+  file : IsThere (codes "file") rows
+  client : HasRow view_shape.rules (codes "client") rows
+
+view_found : (words : List Text) → level_fault view_shape [] nothing_held words false [] ≡ [] → ViewIsThere (rows_after view_shape.rules [] words)
+view_found words quiet =
+    let c = view_shape.rules in
+    let rows = rows_after view_shape.rules [] words in
+    let found : AreFound view_shape rows = found_rows view_shape words ((refl, refl), ((refl, refl), ((refl, refl), ((refl, refl), tt)))) (λ x. refl) quiet in
+    let given : BothGiven (is_given (codes "file") rows) (is_given (codes "client") rows) = both_required (is_given (codes "file") rows) (is_given (codes "client") rows) found.checks in
+    record {
+      file = given_first c (codes "file") rows (given_row c (codes "file") rows found.full given.first);
+      client = given_row c (codes "client") rows found.full given.second;
+    }
+
+-- What is known of the options of worlds that are asked for.
+record WorldsAreThere (rows : List Row) : Type 0 where
+  file : IsThere (codes "file") rows
+  every : Found worlds_shape.rules (codes "every") rows
+
+worlds_found : (words : List Text) → level_fault worlds_shape [] nothing_held words false [] ≡ [] → WorldsAreThere (rows_after worlds_shape.rules [] words)
+worlds_found words quiet =
+    let c = worlds_shape.rules in
+    let rows = rows_after worlds_shape.rules [] words in
+    let found : AreFound worlds_shape rows =
+    found_rows worlds_shape words ((refl, refl), ((refl, refl), ((refl, refl), ((refl, refl), ((refl, refl), ((refl, refl), tt)))))) (λ x. refl) quiet in
+    record {
+      file = given_first c (codes "file") rows (given_row c (codes "file") rows found.full (required (is_given (codes "file") rows) found.checks));
+      every = found_or_not c (codes "every") rows found.full;
     }
 
 -- The options of a player that have to be there are there.
@@ -353,6 +452,99 @@ play_request rows there = elim (match_is (codes "script") rows there.script) [
   | inr none ↦ inr (inl none)
 ]
 
+-- A save is named where its number and the file to be written are, and the replay is.
+save_is : (rows : List Row) (frames : Option ℕ) (to : Option Text) → number_in (codes "frames") rows ≡ frames → first_of (codes "to") rows ≡ to
+    → is_some frames ≡ true → is_some to ≡ true → is_some (match_in (codes "file") rows) ≡ true → is_some (save_in rows) ≡ true
+unfolding save_in
+save_is rows None to a b there there' named = cc
+save_is rows (Some frames) None a b there there' named = cc
+save_is rows (Some frames) (Some to) a b there there' named = rw (a, b) (made_is (λ query. Save query frames to) (match_in (codes "file") rows) named)
+
+-- A number that is written is there.
+number_there : (least most : ℕ) (number : Option ℕ) → Written least most number → is_some number ≡ true
+number_there least most number written = rw written.is refl
+
+frames_there : (rows : List Row) → HasRow save_shape.rules (codes "frames") rows → is_some (number_in (codes "frames") rows) ≡ true
+frames_there rows has =
+    number_there 0 4294967295 (number_in (codes "frames") rows)
+    (row_number save_shape.rules (codes "frames") rows 0 4294967295 has (omega arith)
+    (both (is_signed_in (pos 0) (pos 4294967295) has.first) _ has.passes).0 refl)
+
+save_request : (rows : List Row) → SaveIsThere rows → HasRequest (Some (codes "save", rows))
+unfolding command_request
+save_request rows there = elim (match_is (codes "file") rows there.file) [
+  | inl named ↦ inl (save_is rows (number_in (codes "frames") rows) (first_of (codes "to") rows) refl refl (frames_there rows there.frames) there.to named)
+  | inr none ↦ inr (inl none)
+]
+
+-- To go on from a save is asked for where the save and the replay are named.
+continue_is : (rows : List Row) (save : Option Text) → first_of (codes "save") rows ≡ save → is_some save ≡ true
+    → is_some (match_in (codes "file") rows) ≡ true → is_some (continue_in rows) ≡ true
+unfolding continue_in
+continue_is rows None is there named = cc
+continue_is rows (Some save) is there named = rw is (made_is (λ query. Continue query save) (match_in (codes "file") rows) named)
+
+continue_request : (rows : List Row) → ContinueIsThere rows → HasRequest (Some (codes "continue", rows))
+unfolding command_request
+continue_request rows there = elim (match_is (codes "file") rows there.file) [
+  | inl named ↦ inl (continue_is rows (first_of (codes "save") rows) refl there.save named)
+  | inr none ↦ inr (inl none)
+]
+
+-- A view is asked for where the client and the replay are named.
+view_is : (rows : List Row) (client : Option ℕ) → number_in (codes "client") rows ≡ client → is_some client ≡ true
+    → is_some (match_in (codes "file") rows) ≡ true → is_some (view_in rows) ≡ true
+unfolding view_in
+view_is rows None is there named = cc
+view_is rows (Some client) is there named = rw is (made_is (λ query. View query client) (match_in (codes "file") rows) named)
+
+client_there : (rows : List Row) → HasRow view_shape.rules (codes "client") rows → is_some (number_in (codes "client") rows) ≡ true
+client_there rows has =
+    number_there 0 4294967295 (number_in (codes "client") rows)
+    (row_number view_shape.rules (codes "client") rows 0 4294967295 has (omega arith)
+    (both (is_signed_in (pos 0) (pos 4294967295) has.first) _ has.passes).0 refl)
+
+view_request : (rows : List Row) → ViewIsThere rows → HasRequest (Some (codes "view", rows))
+unfolding command_request
+view_request rows there = elim (match_is (codes "file") rows there.file) [
+  | inl named ↦ inl (view_is rows (number_in (codes "client") rows) refl (client_there rows there.client) named)
+  | inr none ↦ inr (inl none)
+]
+
+-- Worlds are asked for where the range and the replay are there.
+worlds_are : (rows : List Row) (range : Option RangePlain) → range_in rows ≡ range → is_some range ≡ true
+    → is_some (match_in (codes "file") rows) ≡ true → is_some (worlds_in rows) ≡ true
+unfolding worlds_in
+worlds_are rows None is there named = cc
+worlds_are rows (Some range) is there named = rw is (made_is (λ query. Worlds query range) (match_in (codes "file") rows) named)
+
+-- A number from 1 on is a step.
+stepped_or : (default most : ℕ) (number : Option ℕ) → Written 1 most number → is_some (from_one (unwrap_or number default)) ≡ true
+stepped_or default most number written = rw (written.is, le-leb 1 written.value written.above) refl
+
+every_there : (rows : List Row) → Found worlds_shape.rules (codes "every") rows → is_some (step_or DEFAULT_EVERY (codes "every") rows) ≡ true
+unfolding step_or number_in
+every_there rows (nothing none) = rw none refl
+every_there rows (something has) =
+    stepped_or DEFAULT_EVERY 4294967295 (number_in (codes "every") rows)
+    (row_number worlds_shape.rules (codes "every") rows 1 4294967295 has (omega arith)
+    (both (is_signed_in (pos 1) (pos 4294967295) has.first) _ has.passes).0 refl)
+
+range_there : (rows : List Row) → is_some (step_or DEFAULT_EVERY (codes "every") rows) ≡ true → is_some (range_in rows) ≡ true
+unfolding range_in
+range_there rows there = go (step_or DEFAULT_EVERY (codes "every") rows) refl there
+  where
+    go : (every : Option ℕ) → step_or DEFAULT_EVERY (codes "every") rows ≡ every → is_some every ≡ true → is_some (range_in rows) ≡ true
+    go None is there = cc
+    go (Some every) is there = rw is refl
+
+worlds_request : (rows : List Row) → WorldsAreThere rows → HasRequest (Some (codes "worlds", rows))
+unfolding command_request
+worlds_request rows there = elim (match_is (codes "file") rows there.file) [
+  | inl named ↦ inl (worlds_are rows (range_in rows) refl (range_there rows (every_there rows there.every)) named)
+  | inr none ↦ inr (inl none)
+]
+
 -- A number within the bounds of a count is one.
 counted : (most : ℕ) (number : Option ℕ) → Written 1 most number → is_some (option_and_then (up_to most) number) ≡ true
 counted most number written =
@@ -409,13 +601,25 @@ AllGiveRequests (s ∷ shapes) = GivesRequest s × AllGiveRequests shapes
 there_of : (s : Shape) (option : Text) (words : List Text) → FirstIsThere s option → level_fault s [] nothing_held words false [] ≡ [] → IsThere option (rows_after s.rules [] words)
 there_of s option words found quiet = given_first s.rules option (rows_after s.rules [] words) (found words quiet)
 
-replays_give_requests : AllGiveRequests (replay_shape ∷ migrate_shape ∷ [])
-replays_give_requests = (
-  λ words quiet. replay_request (rows_after replay_shape.rules [] words) (there_of replay_shape (codes "file") words replay_found quiet),
-  (λ words quiet. migrate_request (rows_after migrate_shape.rules [] words) (migrate_found words quiet), tt),
+worlds_give_requests : AllGiveRequests (view_shape ∷ worlds_shape ∷ [])
+worlds_give_requests = (
+  λ words quiet. view_request (rows_after view_shape.rules [] words) (view_found words quiet),
+  (λ words quiet. worlds_request (rows_after worlds_shape.rules [] words) (worlds_found words quiet), tt),
 )
 
-links_give_requests : AllGiveRequests (serve_shape ∷ play_shape ∷ replay_shape ∷ migrate_shape ∷ [])
+saves_give_requests : AllGiveRequests (save_shape ∷ continue_shape ∷ view_shape ∷ worlds_shape ∷ [])
+saves_give_requests = (
+  λ words quiet. save_request (rows_after save_shape.rules [] words) (save_found words quiet),
+  (λ words quiet. continue_request (rows_after continue_shape.rules [] words) (continue_found words quiet), worlds_give_requests),
+)
+
+replays_give_requests : AllGiveRequests (replay_shape ∷ migrate_shape ∷ save_shape ∷ continue_shape ∷ view_shape ∷ worlds_shape ∷ [])
+replays_give_requests = (
+  λ words quiet. replay_request (rows_after replay_shape.rules [] words) (there_of replay_shape (codes "file") words replay_found quiet),
+  (λ words quiet. migrate_request (rows_after migrate_shape.rules [] words) (migrate_found words quiet), saves_give_requests),
+)
+
+links_give_requests : AllGiveRequests (serve_shape ∷ play_shape ∷ replay_shape ∷ migrate_shape ∷ save_shape ∷ continue_shape ∷ view_shape ∷ worlds_shape ∷ [])
 links_give_requests = (
   λ words quiet. serve_request (rows_after serve_shape.rules [] words) (serve_found words quiet),
   (λ words quiet. play_request (rows_after play_shape.rules [] words) (play_found words quiet), replays_give_requests),

@@ -3,7 +3,7 @@ use Rattle.std.proofs.Common.{◌≡◌, ◌==◌, Bool, true, false, [], ◌∷
 use Rattle.clap.specs.Walk.{Text}
 use Rattle.clap.proofs.OnLiterals.{clap_on_literals}
 use Rattle.clap.proofs.SimpleLemmas.{is_false}
-use Rattle.command_words.specs.RequestPlain.{Drill, Replay, Migrate, Route, Make, Local, Serve, Play, match_alone}
+use Rattle.command_words.specs.RequestPlain.{Drill, Replay, Migrate, Save, Continue, View, Worlds, Route, Make, Local, Serve, Play, match_alone}
 use Rattle.base.specs.Numbers.{number_of}
 use Rattle.rule_values.specs.Cells.{cell_of, coordinate_of}
 use Rattle.rule_values.specs.Parts.{parts_at}
@@ -27,6 +27,32 @@ pub migrated_files_after_equals : (program file to : Text)
     → request_of (program ∷ codes "migrate" ∷ (codes "--file=" ++ file) ∷ (codes "--to=" ++ to) ∷ []) ≡ Some (Migrate (match_alone file) to)
 unfolding request_on_literals all_commands clap_on_literals
 migrated_files_after_equals program file to = refl
+
+pub save_with_options : (program file to : Text)
+    → request_of (program ∷ codes "save" ∷ (codes "--to=" ++ to) ∷ codes "--frames=4294967295" ∷ (codes "--file=" ++ file) ∷ []) ≡ Some (Save (match_alone file) 4294967295 to)
+unfolding request_on_literals all_commands clap_on_literals
+save_with_options program file to = refl
+
+pub continue_after_equals : (program save file : Text)
+    → request_of (program ∷ codes "continue" ∷ (codes "--save=" ++ save) ∷ (codes "--file=" ++ file) ∷ []) ≡ Some (Continue (match_alone file) save)
+unfolding request_on_literals all_commands clap_on_literals
+continue_after_equals program save file = refl
+
+pub view_of_a_client : (program file : Text)
+    → request_of (program ∷ codes "view" ∷ (codes "--file=" ++ file) ∷ codes "--client=4294967295" ∷ []) ≡ Some (View (match_alone file) 4294967295)
+unfolding request_on_literals all_commands clap_on_literals
+view_of_a_client program file = refl
+
+pub worlds_without_options : (program file : Text)
+    → request_of (program ∷ codes "worlds" ∷ (codes "--file=" ++ file) ∷ []) ≡ Some (Worlds (match_alone file) (record { from = 0; to = None; every = 1 }))
+unfolding request_on_literals all_commands clap_on_literals
+worlds_without_options program file = refl
+
+pub worlds_with_options : (program file map_file : Text)
+    → request_of (program ∷ codes "worlds" ∷ codes "--every=64" ∷ codes "--to=4294967295" ∷ codes "--from=7" ∷ (codes "--map=" ++ map_file) ∷ (codes "--file=" ++ file) ∷ [])
+    ≡ Some (Worlds (record { file = file; map_file = Some map_file; rules = [] }) (record { from = 7; to = Some 4294967295; every = 64 }))
+unfolding request_on_literals all_commands clap_on_literals
+worlds_with_options program file map_file = refl
 
 pub local_after_equals : (program script : Text) → request_of (program ∷ codes "local" ∷ (codes "--script=" ++ script) ∷ []) ≡ Some (Local (match_alone script))
 unfolding request_on_literals all_commands clap_on_literals

@@ -16,8 +16,8 @@ use Rattle.clap.proofs.SimpleLemmas.{is_nil}
 use Rattle.clap.proofs.WalkLemmas.{walk_stopped}
 use Rattle.command_words.specs.CommandNames.{command_of}
 use Rattle.command_words.specs.Commands.{lockstep_app}
-use Rattle.command_words.specs.RequestPlain.{RequestPlain, Drill, Yaml, Check, Route, Make, Local, Serve, Play, Replay, Migrate}
-use Rattle.command_words.specs.Reading.{is_accepted, command_request, names_in, number_in, match_in, play_in, serve_in, migrate_in, route_in, found_request, request_of}
+use Rattle.command_words.specs.RequestPlain.{RequestPlain, Drill, Yaml, Check, Route, Make, Local, Serve, Play, Replay, Migrate, Save, Continue, View, Worlds, RangePlain}
+use Rattle.command_words.specs.Reading.{is_accepted, command_request, names_in, number_in, match_in, play_in, serve_in, migrate_in, route_in, save_in, continue_in, view_in, range_in, worlds_in, found_request, request_of}
 use Rattle.command_words.proofs.OnCommands.{all_commands}
 use Rattle.command_words.proofs.LiteralLemmas.{no_words, alone}
 use Rattle.command_words.proofs.FoundValuesLemmas.{first_none, some_kind}
@@ -56,6 +56,40 @@ migrate_of found = go (first_of (codes "to") found)
     go None = tt
     go (Some to) = made_of (λ query. Migrate query to) (codes "migrate") (λ query. refl) (match_in (codes "file") found)
 
+save_of : (found : List Row) → IsOf (codes "save") (save_in found)
+unfolding save_in
+save_of found = go (number_in (codes "frames") found) (first_of (codes "to") found)
+  where
+    go : (frames : Option ℕ) (to : Option Text)
+        → IsOf (codes "save") (option_and_then (λ frames. option_and_then (λ to. option_map (λ query. Save query frames to) (match_in (codes "file") found)) to) frames)
+    go None to = tt
+    go (Some frames) None = tt
+    go (Some frames) (Some to) = made_of (λ query. Save query frames to) (codes "save") (λ query. refl) (match_in (codes "file") found)
+
+continue_of : (found : List Row) → IsOf (codes "continue") (continue_in found)
+unfolding continue_in
+continue_of found = go (first_of (codes "save") found)
+  where
+    go : (save : Option Text) → IsOf (codes "continue") (option_and_then (λ save. option_map (λ query. Continue query save) (match_in (codes "file") found)) save)
+    go None = tt
+    go (Some save) = made_of (λ query. Continue query save) (codes "continue") (λ query. refl) (match_in (codes "file") found)
+
+view_of : (found : List Row) → IsOf (codes "view") (view_in found)
+unfolding view_in
+view_of found = go (number_in (codes "client") found)
+  where
+    go : (client : Option ℕ) → IsOf (codes "view") (option_and_then (λ client. option_map (λ query. View query client) (match_in (codes "file") found)) client)
+    go None = tt
+    go (Some client) = made_of (λ query. View query client) (codes "view") (λ query. refl) (match_in (codes "file") found)
+
+worlds_of : (found : List Row) → IsOf (codes "worlds") (worlds_in found)
+unfolding worlds_in
+worlds_of found = go (range_in found)
+  where
+    go : (range : Option RangePlain) → IsOf (codes "worlds") (option_and_then (λ range. option_map (λ query. Worlds query range) (match_in (codes "file") found)) range)
+    go None = tt
+    go (Some range) = made_of (λ query. Worlds query range) (codes "worlds") (λ query. refl) (match_in (codes "file") found)
+
 request_is_of : (command : Text) (found : List Row) → IsOf command (command_request command found)
 unfolding command_request
 request_is_of command found =
@@ -68,7 +102,11 @@ request_is_of command found =
     (by_name command (codes "serve") _ _ (made_of Serve (codes "serve") (λ query. refl) (serve_in found))
     (by_name command (codes "play") _ _ (play_of found)
     (by_name command (codes "replay") _ _ (made_of Replay (codes "replay") (λ query. refl) (match_in (codes "file") found))
-    (by_name command (codes "migrate") _ _ (migrate_of found) tt)))))))))
+    (by_name command (codes "migrate") _ _ (migrate_of found)
+    (by_name command (codes "save") _ _ (save_of found)
+    (by_name command (codes "continue") _ _ (continue_of found)
+    (by_name command (codes "view") _ _ (view_of found)
+    (by_name command (codes "worlds") _ _ (worlds_of found) tt)))))))))))))
 
 -- ---- the first word, where only commands stand
 
@@ -199,7 +237,7 @@ named_of shapes one word words (Some name) same =
 
 all_one_name : HaveOneName (built lockstep_app).subs
 unfolding all_commands
-all_one_name = (refl, (refl, (refl, (refl, (refl, (refl, (refl, (refl, (refl, (refl, tt))))))))))
+all_one_name = (refl, (refl, (refl, (refl, (refl, (refl, (refl, (refl, (refl, (refl, (refl, (refl, (refl, (refl, tt))))))))))))))
 
 quiet_walk : (program word : Text) (words : List Text) → fault_of lockstep_app (program ∷ word ∷ words) ≡ []
     → walk_fault (above (built lockstep_app).top) (names_of (built lockstep_app)) (walk_from nothing_held) (word ∷ words) ≡ []

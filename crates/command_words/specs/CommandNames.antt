@@ -2,6 +2,7 @@
 use Rattle.std.specs.Prelude.{List, ℕ, codes}
 use Rattle.command_words.specs.RequestPlain.{RequestPlain, Drill, Yaml, Check, Route, Make}
 use Rattle.command_words.specs.RequestPlain.{Local, Serve, Play, Replay, Migrate}
+use Rattle.command_words.specs.RequestPlain.{Save, Continue, View, Worlds}
 
 -- The command of a request.
 abbrev pub command_of : RequestPlain → List ℕ
@@ -15,3 +16,7 @@ command_of (Serve query) = codes "serve"
 command_of (Play query at) = codes "play"
 command_of (Replay query) = codes "replay"
 command_of (Migrate query to) = codes "migrate"
+command_of (Save query frames to) = codes "save"
+command_of (Continue query save) = codes "continue"
+command_of (View query client) = codes "view"
+command_of (Worlds query range) = codes "worlds"

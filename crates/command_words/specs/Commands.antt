@@ -118,6 +118,48 @@ migrate_app =
     (with_rule (played_app (codes "migrate") (codes "file")) (required_option (codes "to")))
     file_names
 
+-- `save --file FILE --map FILE --frames N`, so far.
+unfoldable pub framed_app : App
+framed_app =
+    with_rule
+    (played_app (codes "save") (codes "file"))
+    (required_number (codes "frames") 0 4294967295)
+
+-- `save --file FILE --map FILE --frames N --to FILE RULES`, where the map may be left out.
+unfoldable pub save_app : App
+save_app = with_rule (with_rule framed_app (required_option (codes "to"))) file_names
+
+-- `continue --file FILE --map FILE --save FILE RULES`, where the map may be left out.
+unfoldable pub continue_app : App
+continue_app =
+    with_rule
+    (with_rule (played_app (codes "continue") (codes "file")) (required_option (codes "save")))
+    file_names
+
+-- `view --file FILE --map FILE --client N RULES`, where the map may be left out.
+unfoldable pub view_app : App
+view_app =
+    with_rule
+    (with_rule
+    (played_app (codes "view") (codes "file"))
+    (required_number (codes "client") 0 4294967295))
+    file_names
+
+-- `worlds --file FILE --map FILE --from N --to N`, so far.
+unfoldable pub ranged_app : App
+ranged_app =
+    with_rule
+    (with_rule
+    (played_app (codes "worlds") (codes "file"))
+    (number_option (codes "from") 0 4294967295))
+    (number_option (codes "to") 0 4294967295)
+
+-- `worlds --file FILE --map FILE --from N --to N --every N RULES`, where all but the file may be
+-- left out.
+unfoldable pub worlds_app : App
+worlds_app =
+    with_rule (with_rule ranged_app (number_option (codes "every") 1 4294967295)) file_names
+
 -- A command that one of its subcommands must follow, without words for help or the version.
 unfoldable pub bare_app : App
 bare_app = on_top (λ shape. record shape {
@@ -144,6 +186,14 @@ playing_app = with_subcommand (with_subcommand asking_app make_app.top) local_ap
 unfoldable pub linked_app : App
 linked_app = with_subcommand (with_subcommand playing_app serve_app.top) play_app.top
 
--- The whole command line.
+-- The same with those that run a replay.
+unfoldable pub replaying_app : App
+replaying_app = with_subcommand (with_subcommand linked_app replay_app.top) migrate_app.top
+
+-- The same with those that write a save and go on from it.
+unfoldable pub saving_app : App
+saving_app = with_subcommand (with_subcommand replaying_app save_app.top) continue_app.top
+
+-- The whole command line, with those that show worlds of a replay.
 unfoldable pub lockstep_app : App
-lockstep_app = with_subcommand (with_subcommand linked_app replay_app.top) migrate_app.top
+lockstep_app = with_subcommand (with_subcommand saving_app view_app.top) worlds_app.top

@@ -12,11 +12,13 @@ use Rattle.clap.specs.Faults.{fault_of}
 use Rattle.game_orders.specs.declared.limits.TheConstants.{MAX_CLIENTS, MAX_LAG}
 use Rattle.command_words.specs.declared.TheConstants.{MAX_FILES}
 use Rattle.command_words.specs.declared.serve_query.TheConstants.{DEFAULT_LAG, DEFAULT_SEED}
+use Rattle.command_words.specs.declared.world_range.TheConstants.{DEFAULT_EVERY, DEFAULT_FROM}
 use Rattle.rule_values.specs.Cells.{cell_of}
 use Rattle.world_units.specs.declared.cell.CPos.{CPos}
 use Rattle.command_words.specs.RequestPlain.{RequestPlain, Drill, Yaml, Check, Route, Make}
 use Rattle.command_words.specs.RequestPlain.{Local, Serve, Play, Replay, Migrate}
-use Rattle.command_words.specs.RequestPlain.{MatchPlain, RoutePlain, ServePlain}
+use Rattle.command_words.specs.RequestPlain.{Save, Continue, View, Worlds}
+use Rattle.command_words.specs.RequestPlain.{MatchPlain, RoutePlain, ServePlain, RangePlain}
 use Rattle.command_words.specs.Commands.{lockstep_app}
 
 -- `clap` accepts the words as a command line of `lockstep`.
@@ -60,6 +62,15 @@ count_in most name found = option_and_then (up_to most) (number_in name found)
 unfoldable pub count_or : (default most : ℕ) → Text → List Row → Option ℕ
 count_or default most name found = up_to most (unwrap_or (number_in name found) default)
 
+-- A number from 1 on.
+abbrev pub from_one : ℕ → Option ℕ
+from_one number = if nat_le 1 number then Some number else None
+
+-- The number that an option writes, where it writes one from 1 on; it may be left out for another
+-- one.
+unfoldable pub step_or : (default : ℕ) → Text → List Row → Option ℕ
+step_or default name found = from_one (unwrap_or (number_in name found) default)
+
 abbrev pub to_cell : ℕ × ℕ → CPos
 to_cell at = record { x = at.0; y = at.1 }
 
@@ -84,6 +95,46 @@ unfoldable pub migrate_in : List Row → Option RequestPlain
 migrate_in found =
     option_and_then (λ to. option_map (λ query. Migrate query to) (match_in (codes "file") found))
     (first_of (codes "to") found)
+
+-- The request to write a save of a replay: after how many frames, and to what file.
+unfoldable pub save_in : List Row → Option RequestPlain
+save_in found =
+    option_and_then (λ frames.
+    option_and_then (λ to.
+    option_map (λ query. Save query frames to) (match_in (codes "file") found))
+    (first_of (codes "to") found))
+    (number_in (codes "frames") found)
+
+-- The request to run the later frames of a replay: which, and the save to start from.
+unfoldable pub continue_in : List Row → Option RequestPlain
+continue_in found =
+    option_and_then (λ save.
+    option_map (λ query. Continue query save) (match_in (codes "file") found))
+    (first_of (codes "save") found)
+
+-- The request to show what a client has seen of a replay.
+unfoldable pub view_in : List Row → Option RequestPlain
+view_in found =
+    option_and_then (λ client.
+    option_map (λ query. View query client) (match_in (codes "file") found))
+    (number_in (codes "client") found)
+
+-- The worlds that are asked for.
+unfoldable pub range_in : List Row → Option RangePlain
+range_in found =
+    option_map (λ every. record {
+      from = unwrap_or (number_in (codes "from") found) DEFAULT_FROM;
+      to = number_in (codes "to") found;
+      every = every;
+    })
+    (step_or DEFAULT_EVERY (codes "every") found)
+
+-- The request to print worlds of a replay.
+unfoldable pub worlds_in : List Row → Option RequestPlain
+worlds_in found =
+    option_and_then (λ range.
+    option_map (λ query. Worlds query range) (match_in (codes "file") found))
+    (range_in found)
 
 -- The request to play a script over a link: which, and where the server is.
 unfoldable pub play_in : List Row → Option RequestPlain
@@ -149,6 +200,10 @@ command_request command found =
     else if bytes_eq command (codes "replay")
     then option_map Replay (match_in (codes "file") found)
     else if bytes_eq command (codes "migrate") then migrate_in found
+    else if bytes_eq command (codes "save") then save_in found
+    else if bytes_eq command (codes "continue") then continue_in found
+    else if bytes_eq command (codes "view") then view_in found
+    else if bytes_eq command (codes "worlds") then worlds_in found
     else None
 
 -- The request of the command that the words name, if they name one.
@@ -174,6 +229,10 @@ least_names command =
     else if bytes_eq command (codes "play") then Some 0
     else if bytes_eq command (codes "replay") then Some 0
     else if bytes_eq command (codes "migrate") then Some 0
+    else if bytes_eq command (codes "save") then Some 0
+    else if bytes_eq command (codes "continue") then Some 0
+    else if bytes_eq command (codes "view") then Some 0
+    else if bytes_eq command (codes "worlds") then Some 0
     else None
 
 -- The command takes positional arguments, and their number is not allowed.

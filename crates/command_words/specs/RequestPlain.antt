@@ -7,6 +7,7 @@ use Rattle.command_words.specs.declared.TheConstants.{MAX_FILES}
 use Rattle.command_words.specs.declared.match_query.MatchQuery.{MatchQuery}
 use Rattle.command_words.specs.declared.route_query.RouteQuery.{RouteQuery}
 use Rattle.command_words.specs.declared.serve_query.ServeQuery.{ServeQuery}
+use Rattle.command_words.specs.declared.world_range.WorldRange.{WorldRange}
 use Rattle.command_words.specs.declared.request.Request.{Request}
 use Rattle.command_words.specs.declared.request.Request.TheVariants as request
 
@@ -38,6 +39,13 @@ pub record ServePlain : Type 0 where
   pub map_file : Option (List ℕ)
   pub rules : List (List ℕ)
 
+-- Which worlds of a replay are asked for: those after so many frames, from this one on, up to that
+-- one or the end, one for each so many frames.
+pub record RangePlain : Type 0 where
+  pub from : ℕ
+  pub to : Option ℕ
+  pub every : ℕ
+
 pub data RequestPlain : Type 0 where
   Drill : MatchPlain → («record» : Option (List ℕ)) → RequestPlain
   Yaml : (files : List (List ℕ)) → RequestPlain
@@ -49,6 +57,10 @@ pub data RequestPlain : Type 0 where
   Play : MatchPlain → (at : List ℕ) → RequestPlain
   Replay : MatchPlain → RequestPlain
   Migrate : MatchPlain → (to : List ℕ) → RequestPlain
+  Save : MatchPlain → (frames : ℕ) → (to : List ℕ) → RequestPlain
+  Continue : MatchPlain → (save : List ℕ) → RequestPlain
+  View : MatchPlain → (client : ℕ) → RequestPlain
+  Worlds : MatchPlain → RangePlain → RequestPlain
 
 abbrev pub plain_name : Option (Bor (List ℕ)) → Option (List ℕ)
 plain_name = option_map (λ name. name.now)
@@ -82,6 +94,9 @@ plain_serve query =
       rules = query.rules;
     }
 
+abbrev pub plain_range : WorldRange → RangePlain
+plain_range range = record { from = range.from; to = range.to; every = range.every }
+
 -- The plain form of a request.
 abbrev pub plain_of : Request → RequestPlain
 plain_of (request.Drill query recorded) = Drill (plain_match query) (plain_name recorded)
@@ -94,6 +109,10 @@ plain_of (request.Serve query) = Serve (plain_serve query)
 plain_of (request.Play query at) = Play (plain_match query) at.now
 plain_of (request.Replay query) = Replay (plain_match query)
 plain_of (request.Migrate query to) = Migrate (plain_match query) to.now
+plain_of (request.Save query frames to) = Save (plain_match query) frames to.now
+plain_of (request.Continue query save) = Continue (plain_match query) save.now
+plain_of (request.View query client) = View (plain_match query) client
+plain_of (request.Worlds query range) = Worlds (plain_match query) (plain_range range)
 
 -- A request has at most `MAX_FILES` positional arguments.
 abbrev pub HasFewFiles : Request → Type 0
@@ -107,6 +126,10 @@ HasFewFiles (request.Serve query) = length query.rules ≤ MAX_FILES
 HasFewFiles (request.Play query at) = length query.rules ≤ MAX_FILES
 HasFewFiles (request.Replay query) = length query.rules ≤ MAX_FILES
 HasFewFiles (request.Migrate query to) = length query.rules ≤ MAX_FILES
+HasFewFiles (request.Save query frames to) = length query.rules ≤ MAX_FILES
+HasFewFiles (request.Continue query save) = length query.rules ≤ MAX_FILES
+HasFewFiles (request.View query client) = length query.rules ≤ MAX_FILES
+HasFewFiles (request.Worlds query range) = length query.rules ≤ MAX_FILES
 
 -- A match that is served has as many clients as a match may have.
 abbrev pub IsCount : ℕ → Type 0
@@ -115,3 +138,8 @@ IsCount clients = (1 ≤ clients) × (clients ≤ MAX_CLIENTS)
 abbrev pub HasClients : Request → Type 0
 HasClients (request.Serve query) = IsCount query.clients
 HasClients request = Unit {0}
+
+-- Worlds that are asked for are at least one frame apart.
+abbrev pub HasSteps : Request → Type 0
+HasSteps (request.Worlds query range) = 1 ≤ range.every
+HasSteps request = Unit {0}

@@ -4,7 +4,9 @@ ghost use Rattle.command_words.specs.Commands.{check_app, routed_app, ends_app, 
 ghost use Rattle.command_words.specs.Commands.{make_app, local_app, replay_app, migrate_app};
 ghost use Rattle.command_words.specs.Commands.{hosted_app, timed_app, serve_app, play_app};
 ghost use Rattle.command_words.specs.Commands.{first_app, asking_app, playing_app, linked_app};
-ghost use Rattle.command_words.specs.Commands.{lockstep_app};
+ghost use Rattle.command_words.specs.Commands.{framed_app, save_app, continue_app, view_app};
+ghost use Rattle.command_words.specs.Commands.{ranged_app, worlds_app};
+ghost use Rattle.command_words.specs.Commands.{replaying_app, saving_app, lockstep_app};
 ghost use Rattle.command_words.specs.Commands.{option_named, required_option, required_number};
 ghost use Rattle.command_words.specs.Commands.{file_names, number_option, within};
 ghost use Rattle.command_words.specs.Follows.{Follows};
@@ -21,6 +23,26 @@ use std::alloc::Global;
 #[tactic(auto, unfolding(crate::specs::Commands::lockstep_app))]
 pub(crate) fn lockstep_command<'a>(alloc: Global) -> Result<Command<'a>, NoMemory>
     ensures { IfOk result (λ command. app_of command ≡ lockstep_app) }
+{
+    saving_commands(alloc)?
+        .subcommand(view_command(alloc)?)?
+        .subcommand(worlds_command(alloc)?)
+}
+
+/// The command of the program with the subcommands that write a save and go on from it, too.
+#[tactic(auto, unfolding(crate::specs::Commands::saving_app))]
+fn saving_commands<'a>(alloc: Global) -> Result<Command<'a>, NoMemory>
+    ensures { IfOk result (Follows saving_app) }
+{
+    replaying_commands(alloc)?
+        .subcommand(save_command(alloc)?)?
+        .subcommand(continue_command(alloc)?)
+}
+
+/// The command of the program with the subcommands that run a replay, too.
+#[tactic(auto, unfolding(crate::specs::Commands::replaying_app))]
+fn replaying_commands<'a>(alloc: Global) -> Result<Command<'a>, NoMemory>
+    ensures { IfOk result (Follows replaying_app) }
 {
     linked_commands(alloc)?
         .subcommand(replay_command(alloc)?)?
@@ -204,6 +226,60 @@ fn migrate_command<'a>(alloc: Global) -> Result<Command<'a>, NoMemory>
     played_command(alloc, "migrate", "file")?
         .arg(required_option(alloc, "to"))?
         .arg(file_names(alloc))
+}
+
+#[tactic(auto, unfolding(crate::specs::Commands::save_app))]
+fn save_command<'a>(alloc: Global) -> Result<Command<'a>, NoMemory>
+    ensures { IfOk result (Follows save_app) }
+{
+    framed_command(alloc)?
+        .arg(required_option(alloc, "to"))?
+        .arg(file_names(alloc))
+}
+
+/// `save` with its first options: which replay, and after how many frames.
+#[tactic(auto, unfolding(crate::specs::Commands::framed_app))]
+fn framed_command<'a>(alloc: Global) -> Result<Command<'a>, NoMemory>
+    ensures { IfOk result (Follows framed_app) }
+{
+    played_command(alloc, "save", "file")?.arg(required_number(alloc, "frames", 0, u32::MAX))
+}
+
+#[tactic(auto, unfolding(crate::specs::Commands::continue_app))]
+fn continue_command<'a>(alloc: Global) -> Result<Command<'a>, NoMemory>
+    ensures { IfOk result (Follows continue_app) }
+{
+    played_command(alloc, "continue", "file")?
+        .arg(required_option(alloc, "save"))?
+        .arg(file_names(alloc))
+}
+
+#[tactic(auto, unfolding(crate::specs::Commands::view_app))]
+fn view_command<'a>(alloc: Global) -> Result<Command<'a>, NoMemory>
+    ensures { IfOk result (Follows view_app) }
+{
+    played_command(alloc, "view", "file")?
+        .arg(required_number(alloc, "client", 0, u32::MAX))?
+        .arg(file_names(alloc))
+}
+
+#[tactic(auto, unfolding(crate::specs::Commands::worlds_app))]
+fn worlds_command<'a>(alloc: Global) -> Result<Command<'a>, NoMemory>
+    ensures { IfOk result (Follows worlds_app) }
+{
+    ranged_command(alloc)?
+        .arg(number_option(alloc, "every", 1, u32::MAX))?
+        .arg(file_names(alloc))
+}
+
+/// `worlds` with its first options: of which replay, from where and how far.
+#[tactic(auto, unfolding(crate::specs::Commands::ranged_app))]
+fn ranged_command<'a>(alloc: Global) -> Result<Command<'a>, NoMemory>
+    ensures { IfOk result (Follows ranged_app) }
+{
+    played_command(alloc, "worlds", "file")?
+        .arg(number_option(alloc, "from", 0, u32::MAX))?
+        .arg(number_option(alloc, "to", 0, u32::MAX))
 }
 
 #[tactic(auto, unfolding(crate::specs::Commands::make_app))]

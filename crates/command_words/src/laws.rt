@@ -6,7 +6,7 @@ ghost use Rattle.command_words.specs.CommandNames.{command_of};
 ghost use Rattle.command_words.specs.Commands.{lockstep_app};
 ghost use Rattle.command_words.specs.RequestPlain.{RequestPlain, Drill, Yaml, Check, Replay};
 ghost use Rattle.command_words.specs.RequestPlain.{Migrate, Route, Make, Local, Serve, Play};
-ghost use Rattle.command_words.specs.RequestPlain.{match_alone};
+ghost use Rattle.command_words.specs.RequestPlain.{Save, Continue, View, Worlds, match_alone};
 ghost use Rattle.command_words.specs.Reading.{request_of, is_accepted, is_plain, allowed};
 ghost use Rattle.command_words.specs.Reading.{NamesRefused, CellRefused};
 
@@ -58,6 +58,55 @@ pub fn migrated_files_after_equals()
         request_of (program ∷ codes "migrate" ∷ (codes "--file=" ++ file)
         ∷ (codes "--to=" ++ to) ∷ [])
         ≡ Some (Migrate (match_alone file) to) }
+{}
+
+/// A law of the definition: each option of `save` names what it is called by, `--frames` the greatest
+/// number here.
+#[tactic(auto, using(crate::proofs::LiteralLemmas::save_with_options))]
+pub fn save_with_options()
+    ensures { (program file to : List ℕ) →
+        request_of (program ∷ codes "save" ∷ (codes "--to=" ++ to)
+        ∷ codes "--frames=4294967295" ∷ (codes "--file=" ++ file) ∷ [])
+        ≡ Some (Save (match_alone file) 4294967295 to) }
+{}
+
+/// A law of the definition: `continue --save=FILE --file=FILE` names the save and the replay,
+/// whatever they are.
+#[tactic(auto, using(crate::proofs::LiteralLemmas::continue_after_equals))]
+pub fn continue_after_equals()
+    ensures { (program save file : List ℕ) →
+        request_of (program ∷ codes "continue" ∷ (codes "--save=" ++ save)
+        ∷ (codes "--file=" ++ file) ∷ [])
+        ≡ Some (Continue (match_alone file) save) }
+{}
+
+/// A law of the definition: `view --file=FILE --client=N` names FILE, whatever it is, and N, the
+/// greatest number here.
+#[tactic(auto, using(crate::proofs::LiteralLemmas::view_of_a_client))]
+pub fn view_of_a_client()
+    ensures { (program file : List ℕ) →
+        request_of (program ∷ codes "view" ∷ (codes "--file=" ++ file)
+        ∷ codes "--client=4294967295" ∷ [])
+        ≡ Some (View (match_alone file) 4294967295) }
+{}
+
+/// A law of the definition: `worlds --file=FILE` names FILE, whatever it is. Its worlds are those
+/// after 0, 1, 2 frames and so on to the end, over no map and no rules.
+#[tactic(auto, using(crate::proofs::LiteralLemmas::worlds_without_options))]
+pub fn worlds_without_options()
+    ensures { (program file : List ℕ) →
+        request_of (program ∷ codes "worlds" ∷ (codes "--file=" ++ file) ∷ [])
+        ≡ Some (Worlds (match_alone file) (record { from = 0; to = None; every = 1 })) }
+{}
+
+/// A law of the definition: each option of `worlds` names what it is called by.
+#[tactic(auto, using(crate::proofs::LiteralLemmas::worlds_with_options))]
+pub fn worlds_with_options()
+    ensures { (program file map_file : List ℕ) →
+        request_of (program ∷ codes "worlds" ∷ codes "--every=64" ∷ codes "--to=4294967295"
+        ∷ codes "--from=7" ∷ (codes "--map=" ++ map_file) ∷ (codes "--file=" ++ file) ∷ [])
+        ≡ Some (Worlds (record { file = file; map_file = Some map_file; rules = [] })
+        (record { from = 7; to = Some 4294967295; every = 64 })) }
 {}
 
 /// A law of the definition: `local --script=FILE` names FILE, whatever it is.

@@ -6,16 +6,19 @@ ghost use Rattle.clap.specs.Matches.{found_of};
 ghost use Rattle.clap.specs.Simple.{subcommand_of, subcommand_rows_of};
 ghost use Rattle.command_words.specs.Commands.{lockstep_app};
 ghost use Rattle.command_words.specs.RequestPlain.{plain_of, plain_match, plain_route, plain_serve};
-ghost use Rattle.command_words.specs.RequestPlain.{HasClients, HasFewFiles, IsCount};
+ghost use Rattle.command_words.specs.RequestPlain.{plain_range, HasClients, HasFewFiles, HasSteps};
+ghost use Rattle.command_words.specs.RequestPlain.{IsCount};
 ghost use Rattle.command_words.specs.Reading.{is_accepted, is_allowed, command_request};
 ghost use Rattle.command_words.specs.Reading.{found_request, request_of, names_in, number_in};
 ghost use Rattle.command_words.specs.Reading.{cell_in, match_in, route_in, migrate_in};
 ghost use Rattle.command_words.specs.Reading.{count_in, count_or, up_to, serve_in, play_in};
+ghost use Rattle.command_words.specs.Reading.{step_or, from_one, range_in, worlds_in};
+ghost use Rattle.command_words.specs.Reading.{save_in, continue_in, view_in};
 
 use crate::command::lockstep_command;
 use crate::{
-    DEFAULT_LAG, DEFAULT_SEED, FileNames, MAX_FILES, MatchQuery, Request, RouteQuery, ServeQuery,
-    WordsFault,
+    DEFAULT_EVERY, DEFAULT_FROM, DEFAULT_LAG, DEFAULT_SEED, FileNames, MAX_FILES, MatchQuery,
+    Request, RouteQuery, ServeQuery, WordsFault, WorldRange,
 };
 use clap::ArgMatches;
 use clap::error::ErrorKind;
@@ -34,6 +37,7 @@ pub fn read_words<'a>(alloc: Global, words: &'a [String]) -> Result<Request<'a>,
         (λ request. request_of (map string_bytes words.now) ≡ Some (plain_of request)) }
     ensures few { IfOk result HasFewFiles }
     ensures clients { IfOk result HasClients }
+    ensures steps { IfOk result HasSteps }
     ensures refused { result ≡ Err WordsFault.Refused →
         request_of (map string_bytes words.now) ≡ None }
 {
@@ -73,6 +77,7 @@ fn named_request<'a>(alloc: Global, matches: &ArgMatches<'a>) -> Result<Request<
         (λ request. found_request (subcommand_rows_of matches.now) ≡ Some (plain_of request)) }
     ensures few { IfOk result HasFewFiles }
     ensures clients { IfOk result HasClients }
+    ensures steps { IfOk result HasSteps }
     ensures refused { result ≡ Err WordsFault.Refused →
         found_request (subcommand_rows_of matches.now) ≡ None }
 {
@@ -93,6 +98,7 @@ fn request_for<'a>(
         command_request command.now (rows_of (found_of found.now)) ≡ Some (plain_of request)) }
     ensures few { IfOk result HasFewFiles }
     ensures clients { IfOk result HasClients }
+    ensures steps { IfOk result HasSteps }
     ensures refused { result ≡ Err WordsFault.Refused →
         command_request command.now (rows_of (found_of found.now)) ≡ None }
 {
@@ -114,6 +120,10 @@ fn request_for<'a>(
         "play" => play_in(alloc, found),
         "replay" => Ok(Request::Replay(match_in(alloc, found, "file")?)),
         "migrate" => migrate_in(alloc, found),
+        "save" => save_in(alloc, found),
+        "continue" => continue_in(alloc, found),
+        "view" => view_in(alloc, found),
+        "worlds" => worlds_in(alloc, found),
         "make" => Ok(Request::Make {
             number: number_in(found, "number").ok_or(WordsFault::Refused)?,
         }),
@@ -151,6 +161,7 @@ fn migrate_in<'a>(alloc: Global, found: &ArgMatches<'a>) -> Result<Request<'a>, 
         (λ request. migrate_in (rows_of (found_of found.now)) ≡ Some (plain_of request)) }
     ensures few { IfOk result HasFewFiles }
     ensures clients { IfOk result HasClients }
+    ensures steps { IfOk result HasSteps }
     ensures refused { result ≡ Err WordsFault.Refused →
         migrate_in (rows_of (found_of found.now)) ≡ None }
 {
@@ -166,12 +177,90 @@ fn play_in<'a>(alloc: Global, found: &ArgMatches<'a>) -> Result<Request<'a>, Wor
         (λ request. play_in (rows_of (found_of found.now)) ≡ Some (plain_of request)) }
     ensures few { IfOk result HasFewFiles }
     ensures clients { IfOk result HasClients }
+    ensures steps { IfOk result HasSteps }
     ensures refused { result ≡ Err WordsFault.Refused →
         play_in (rows_of (found_of found.now)) ≡ None }
 {
     let at = value_in(found, "at").ok_or(WordsFault::Refused)?;
     let query = match_in(alloc, found, "script")?;
     Ok(Request::Play { query, at })
+}
+
+/// The request to write a save of a replay.
+#[tactic(auto, unfolding(crate::specs::Reading::save_in))]
+fn save_in<'a>(alloc: Global, found: &ArgMatches<'a>) -> Result<Request<'a>, WordsFault>
+    ensures request { IfOk result
+        (λ request. save_in (rows_of (found_of found.now)) ≡ Some (plain_of request)) }
+    ensures few { IfOk result HasFewFiles }
+    ensures clients { IfOk result HasClients }
+    ensures steps { IfOk result HasSteps }
+    ensures refused { result ≡ Err WordsFault.Refused →
+        save_in (rows_of (found_of found.now)) ≡ None }
+{
+    let frames = number_in(found, "frames").ok_or(WordsFault::Refused)?;
+    let to = value_in(found, "to").ok_or(WordsFault::Refused)?;
+    let query = match_in(alloc, found, "file")?;
+    Ok(Request::Save { query, frames, to })
+}
+
+/// The request to run the later frames of a replay from a save on.
+#[tactic(auto, unfolding(crate::specs::Reading::continue_in))]
+fn continue_in<'a>(alloc: Global, found: &ArgMatches<'a>) -> Result<Request<'a>, WordsFault>
+    ensures request { IfOk result
+        (λ request. continue_in (rows_of (found_of found.now)) ≡ Some (plain_of request)) }
+    ensures few { IfOk result HasFewFiles }
+    ensures clients { IfOk result HasClients }
+    ensures steps { IfOk result HasSteps }
+    ensures refused { result ≡ Err WordsFault.Refused →
+        continue_in (rows_of (found_of found.now)) ≡ None }
+{
+    let save = value_in(found, "save").ok_or(WordsFault::Refused)?;
+    let query = match_in(alloc, found, "file")?;
+    Ok(Request::Continue { query, save })
+}
+
+/// The request to show what a client has seen of a replay.
+#[tactic(auto, unfolding(crate::specs::Reading::view_in))]
+fn view_in<'a>(alloc: Global, found: &ArgMatches<'a>) -> Result<Request<'a>, WordsFault>
+    ensures request { IfOk result
+        (λ request. view_in (rows_of (found_of found.now)) ≡ Some (plain_of request)) }
+    ensures few { IfOk result HasFewFiles }
+    ensures clients { IfOk result HasClients }
+    ensures steps { IfOk result HasSteps }
+    ensures refused { result ≡ Err WordsFault.Refused →
+        view_in (rows_of (found_of found.now)) ≡ None }
+{
+    let client = number_in(found, "client").ok_or(WordsFault::Refused)?;
+    let query = match_in(alloc, found, "file")?;
+    Ok(Request::View { query, client })
+}
+
+/// The request to print worlds of a replay.
+#[tactic(auto, unfolding(crate::specs::Reading::worlds_in))]
+fn worlds_in<'a>(alloc: Global, found: &ArgMatches<'a>) -> Result<Request<'a>, WordsFault>
+    ensures request { IfOk result
+        (λ request. worlds_in (rows_of (found_of found.now)) ≡ Some (plain_of request)) }
+    ensures few { IfOk result HasFewFiles }
+    ensures clients { IfOk result HasClients }
+    ensures steps { IfOk result HasSteps }
+    ensures refused { result ≡ Err WordsFault.Refused →
+        worlds_in (rows_of (found_of found.now)) ≡ None }
+{
+    let range = range_in(found).ok_or(WordsFault::Refused)?;
+    let query = match_in(alloc, found, "file")?;
+    Ok(Request::Worlds { query, range })
+}
+
+/// The worlds that are asked for.
+#[tactic(auto, unfolding(crate::specs::Reading::range_in))]
+fn range_in(found: &ArgMatches<'_>) -> Option<WorldRange>
+    ensures range { option_map plain_range result ≡ range_in (rows_of (found_of found.now)) }
+    ensures steps { IfSome result (λ range. 1 ≤ range.every) }
+{
+    let every = step_or(found, "every", DEFAULT_EVERY)?;
+    let from = number_in(found, "from").unwrap_or(DEFAULT_FROM);
+    let to = number_in(found, "to");
+    Some(WorldRange { from, to, every })
 }
 
 /// The match that is to be served.
@@ -264,6 +353,24 @@ fn count_or(found: &ArgMatches<'_>, option: &str, default: u8, most: u8) -> Opti
     ensures { result ≡ count_or default most option.now (rows_of (found_of found.now)) }
 {
     up_to(most, number_in(found, option).unwrap_or(u32::from(default)))
+}
+
+/// The number that an option writes, where it writes one from 1 on; it may be left out for another
+/// one.
+#[tactic(auto, unfolding(crate::specs::Reading::step_or))]
+fn step_or(found: &ArgMatches<'_>, option: &str, default: u32) -> Option<u32>
+    ensures value { result ≡ step_or default option.now (rows_of (found_of found.now)) }
+    ensures least { IfSome result (λ step. 1 ≤ step) }
+{
+    from_one(number_in(found, option).unwrap_or(default))
+}
+
+/// The number, if it is one from 1 on.
+fn from_one(number: u32) -> Option<u32>
+    ensures value { result ≡ from_one number }
+    ensures least { IfSome result (λ step. 1 ≤ step) }
+{
+    if 1 <= number { Some(number) } else { None }
 }
 
 /// The number, if it is one from 1 to `most`.

@@ -2,6 +2,7 @@ use crate::file_names::FileNames;
 use crate::match_query::MatchQuery;
 use crate::route_query::RouteQuery;
 use crate::serve_query::ServeQuery;
+use crate::world_range::WorldRange;
 
 /// The request of an accepted command line. Each name is a word, or the part of one after `=`, as
 /// it was given.
@@ -68,5 +69,43 @@ pub enum Request<'a> {
         query: MatchQuery<'a>,
         /// The name of the file that the migrated replay is written to.
         to: &'a str,
+    },
+
+    /// `save --file FILE --frames N --to FILE --map FILE RULES`: run the first frames of the replay
+    /// that the file holds, over the map and the rules, and write a save of the world then.
+    Save {
+        /// The replay.
+        query: MatchQuery<'a>,
+        /// How many of its frames are run.
+        frames: u32,
+        /// The name of the file that the save is written to.
+        to: &'a str,
+    },
+
+    /// `continue --save FILE --file FILE --map FILE RULES`: run the later frames of the replay that
+    /// the file holds, over the map and the rules, from a save on.
+    Continue {
+        /// The replay.
+        query: MatchQuery<'a>,
+        /// The name of the save's file.
+        save: &'a str,
+    },
+
+    /// `view --file FILE --client N --map FILE RULES`: run the replay that the file holds, over the
+    /// map and the rules, and print what a client has seen and explored of the map.
+    View {
+        /// The replay.
+        query: MatchQuery<'a>,
+        /// The number of the client.
+        client: u32,
+    },
+
+    /// `worlds --file FILE --from N --to N --every N --map FILE RULES`: run the replay that the
+    /// file holds, over the map and the rules, and print its worlds.
+    Worlds {
+        /// The replay.
+        query: MatchQuery<'a>,
+        /// Which of its worlds are printed.
+        range: WorldRange,
     },
 }

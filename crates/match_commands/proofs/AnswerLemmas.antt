@@ -1,12 +1,14 @@
 -- The answer of a command that may write a file.
-use Rattle.std.proofs.Common.{◌≡◌, ◌≤◌, ◌⊎◌, ℕ, List, Option, None, Some, Result, Ok, Err, IsSome, [], refl, sym, subst, inl, inr, ◌∙◌}
-use Rattle.std.specs.Prelude.{unwrap_or}
+use Rattle.std.proofs.Common.{◌≡◌, ◌≤◌, ◌⊎◌, ℕ, Bool, true, false, List, Option, None, Some, Result, Ok, Err, IsSome, [], codes, refl, sym, subst, inl, inr, ◌∙◌}
+use Rattle.std.specs.Prelude.{unwrap_or, if◌then◌else◌, nat_lt}
 use Rattle.base.specs.Steps.{◌>>=◌}
-use Rattle.command_words.specs.RequestPlain.{MatchPlain}
+use Rattle.command_words.specs.RequestPlain.{MatchPlain, RangePlain}
 use Rattle.game_io.specs.DiskState.{DiskState}
 use Rattle.game_io.specs.SinkState.{SinkState}
 use Rattle.game_model.specs.Setup.{Setup}
 use Rattle.replay_file.specs.declared.replay.Replay.{Replay}
+use Rattle.replay_file.specs.declared.replay_fault.ReplayFault.{ReplayFault}
+use Rattle.replay_file.specs.Fault.{cause_of, place_of}
 use Rattle.replay_file.specs.Reading.{read_of}
 use Rattle.replay_run.specs.declared.difference.Difference.{Difference}
 use Rattle.replay_run.specs.Rerun.{difference_of}
@@ -15,19 +17,34 @@ use Rattle.command_answers.specs.declared.stop.Stop.{Stop}
 use Rattle.command_answers.specs.Answer.{reply_of}
 use Rattle.command_answers.specs.Causes.{causes_of}
 use Rattle.command_answers.specs.Contents.{Contents}
-use Rattle.command_answers.specs.CausesLemmas.{IsSettled, done_settled, mark_settled, answered_causes, answered_changes, none_changes}
+use Rattle.command_answers.specs.CausesLemmas.{IsSettled, done_settled, file_settled, mark_settled, answered_causes, answered_changes, none_changes}
 use Rattle.command_answers.specs.FileWrite.{name_of, OnlyChanges}
 use Rattle.command_answers.specs.Outcome.{IsAnswered}
 use Rattle.command_answers.specs.Environment.{Environment, environment}
-use Rattle.command_answers.specs.Reply.{Reply}
-use Rattle.command_answers.specs.Step.{Step, replied}
+use Rattle.command_answers.specs.Printing.{MayPrintReply}
+use Rattle.command_answers.specs.Reply.{Reply, done, refusal}
+use Rattle.command_answers.specs.Step.{Step, ended, replied}
 use Rattle.command_answers.specs.Stop.{ReturnsStep}
 use Rattle.command_answers.specs.Writing.{AnswersReply, PrintsAnswer}
 use Rattle.command_answers.specs.WritingLemmas.{answered_since}
 use Rattle.replay_commands.specs.Refusals.{read_step}
-use Rattle.replay_commands.specs.Replays.{game_rerun, mark_status, migrated_reply, migrate_reply, replay_reply}
+use Rattle.replay_commands.specs.Replays.{game_rerun, mark_status, migrated_reply, migrate_reply, replay_reply, replayed_reply}
+use Rattle.replay_run.specs.declared.replayed.Replayed.{Replayed}
+use Rattle.replay_run.specs.Rerun.{replayed_from}
+use Rattle.game_save.specs.ReadSave.{read_save_of}
+use Rattle.save_commands.specs.Refusals.{of_match, read_save_step, with_frames}
+use Rattle.save_commands.specs.Saves.{resumed_rerun, save_bytes_at, saved_reply}
+use Rattle.tick_core.specs.Game.{GameState}
 use Rattle.match_commands.specs.Replayed.{migrated_step, replayed_step, standing_step}
-use Rattle.match_commands.proofs.RequestLemmas.{Printed, stop_printed}
+use Rattle.match_commands.specs.Saves.{continued_step, saved_step}
+use Rattle.match_commands.specs.Views.{viewed_step}
+use Rattle.match_commands.specs.Worlds.{worlds_over, PrintsWorlds}
+use Rattle.match_commands.specs.Request.{text_reply}
+use Rattle.replay_run.specs.Rerun.{frame_count}
+use Rattle.view_command.specs.Views.{no_such_client, view_text}
+use Rattle.worlds_command.specs.Chosen.{chosen_of, is_beyond}
+use Rattle.worlds_command.specs.Worlds.{chosen_step}
+use Rattle.match_commands.proofs.RequestLemmas.{Printed, alone_printed, stop_printed}
 
 -- A reply to a request that names the file `written` to be written, if it names one.
 pub record Fits (written : Option (List ℕ)) (reply : Reply) : Type 0 where
@@ -118,6 +135,9 @@ pub status_settled : (difference : Option Difference) → IsSettled (mark_status
 status_settled None = done_settled
 status_settled (Some d) = mark_settled
 
+pub marks_fit : (given : Replayed GameState) → Fits None (replayed_reply given)
+marks_fit given = record { settled = status_settled given.difference; named = inl refl }
+
 pub replay_fits : (setup : Setup) (r : Replay) → Fits None (replay_reply setup r)
 replay_fits setup r = record { settled = status_settled (difference_of (game_rerun setup r) r); named = inl refl }
 
@@ -139,3 +159,94 @@ all_migrated_fits query to contents =
     bind_fits (Some to) (standing_step query.rules query.map_file contents) _ (λ made.
     bind_fits (Some to) (read_step query.file (read_of made.1 (unwrap_or contents.replay []))) _ (λ r.
     ok_fits (Some to) (migrate_reply made.0 to r) (migrate_fits made.0 to r)))
+
+-- ---- the commands on saves
+
+pub saved_fits : (query : MatchPlain) (frames : ℕ) (to : List ℕ) (contents : Contents) → AllFit (Some to) (saved_step query frames to contents)
+saved_fits query frames to contents =
+    bind_fits (Some to) (standing_step query.rules query.map_file contents) _ (λ made.
+    bind_fits (Some to) (read_step query.file (read_of made.1 (unwrap_or contents.replay []))) _ (λ r.
+    bind_fits (Some to) (with_frames query.file frames r) _ (λ long.
+    ok_fits (Some to) (saved_reply to frames (save_bytes_at made.1 frames made.0 long)) (record { settled = done_settled; named = inr refl }))))
+
+pub continued_fits : (query : MatchPlain) (save : List ℕ) (contents : Contents) → AllFit None (continued_step query save contents)
+continued_fits query save contents =
+    bind_fits None (standing_step query.rules query.map_file contents) _ (λ made.
+    bind_fits None (read_save_step save (read_save_of made.1 made.0 (unwrap_or contents.save []))) _ (λ saved.
+    bind_fits None (read_step query.file (read_of made.1 (unwrap_or contents.replay []))) _ (λ r.
+    bind_fits None (of_match query.file saved r) _ (λ same.
+    bind_fits None (with_frames query.file saved.frames same) _ (λ long.
+    ok_fits None (replayed_reply (replayed_from (resumed_rerun made.0 saved) saved.frames long))
+    (marks_fit (replayed_from (resumed_rerun made.0 saved) saved.frames long)))))))
+
+-- ---- `view`
+
+pub viewed_fits : (query : MatchPlain) (client : ℕ) (contents : Contents) → AllFit None (viewed_step query client contents)
+viewed_fits query client contents =
+    bind_fits None (standing_step query.rules query.map_file contents) _ (λ made.
+    bind_fits None (read_step query.file (read_of made.1 (unwrap_or contents.replay []))) _ (λ r.
+    choice (nat_lt client r.clients) (view_text made.0 r client)))
+  where
+    choice : (is : Bool) (text : List ℕ) → AllFit None (if is then Ok (done text) else Err no_such_client)
+    choice true text = ok_fits None (done text) (record { settled = done_settled; named = inl refl })
+    choice false text = λ reply is. absurd cc
+
+-- ---- `worlds`
+
+-- A refusal of this step is settled, and writes no file.
+abbrev pub IsRefusedAlone : {T : Type 0} → Step T → Type 0
+IsRefusedAlone step = (reply : Reply) → step ≡ Err reply → IsSettled reply.status × (reply.write ≡ None)
+
+-- A step that ends in a text, or in such a refusal, and was printed.
+ended_printed :
+    (step : Step (List ℕ)) (status : ℕ) (d d' : DiskState) (s s' : SinkState) →
+    d'.files ≡ d.files → IsRefusedAlone step → MayPrintReply (ended step done) status s s' →
+    Printed None (replied (text_reply step)) status d d' s s'
+ended_printed (Ok text) status d d' s s' same alone prints =
+    alone_printed None (done text) status d d' s s' done_settled refl same prints
+ended_printed (Err reply) status d d' s s' same alone prints =
+    alone_printed None reply status d d' s s' (alone reply refl).0 (alone reply refl).1 same prints
+
+file_alone : (name : List ℕ) (place : ℕ) (cause : List ℕ) (reply : Reply) → refusal name place cause ≡ reply → IsSettled reply.status × (reply.write ≡ None)
+file_alone name place cause reply is = subst (λ (reply : Reply). IsSettled reply.status × (reply.write ≡ None)) is (file_settled, refl)
+
+read_alone : (name : List ℕ) (read : Result Replay ReplayFault) → IsRefusedAlone (read_step name read)
+read_alone name (Ok r) reply is = absurd cc
+read_alone name (Err fault) reply is =
+    let same : refusal name (unwrap_or (place_of fault) 0) (cause_of fault) ≡ reply = cc in
+    file_alone name (unwrap_or (place_of fault) 0) (cause_of fault) reply same
+
+choice_alone : {T : Type 0} (name : List ℕ) (is : Bool) (value : T) → IsRefusedAlone (if is then Err (refusal name 0 (codes "TooFewFrames")) else Ok value)
+choice_alone name true value reply is =
+    let same : refusal name 0 (codes "TooFewFrames") ≡ reply = cc in file_alone name 0 (codes "TooFewFrames") reply same
+choice_alone name false value reply is = absurd cc
+
+bind_alone :
+    {T U : Type 0} (step : Step T) (next : T → Step U) → IsRefusedAlone step → ((value : T) → IsRefusedAlone (next value)) → IsRefusedAlone (step >>= next)
+bind_alone (Ok value) next first follows = follows value
+bind_alone (Err reply) next first follows = λ other is. let same : reply ≡ other = cc in
+    subst (λ (reply : Reply). IsSettled reply.status × (reply.write ≡ None)) same (first reply refl)
+
+worlds_alone : (query : MatchPlain) (range : RangePlain) (bytes : List ℕ) (made : Setup × ℕ) → IsRefusedAlone (worlds_over query range bytes made)
+worlds_alone query range bytes made =
+    bind_alone (chosen_step query.file range.from range.to range.every made.1 bytes) _
+    (bind_alone (read_step query.file (read_of made.1 bytes)) _ (read_alone query.file (read_of made.1 bytes))
+    (λ r. choice_alone query.file (is_beyond (chosen_of range.from range.to range.every (frame_count r)) (frame_count r))
+    (r, chosen_of range.from range.to range.every (frame_count r))))
+    (λ found reply is. absurd cc)
+
+text_after : {T : Type 0} (step : Step T) (next : T → Step (List ℕ)) → replied (step >>= λ value. text_reply (next value)) ≡ replied (text_reply (step >>= next))
+text_after (Ok value) next = refl
+text_after (Err reply) next = refl
+
+-- The worlds of a replay, or why the command ended before them.
+pub worlds_printed :
+    (query : MatchPlain) (range : RangePlain) (bytes : List ℕ) (made : Result (Setup × ℕ) Stop) (step : Step (Setup × ℕ)) (status : ℕ) (d d' : DiskState) (s s' : SinkState) →
+    d'.files ≡ d.files → ReturnsStep made (λ made. made) step → PrintsWorlds query range bytes made status s s' →
+    Printed None (replied (text_reply (step >>= worlds_over query range bytes))) status d d' s s'
+worlds_printed query range bytes (Ok made) step status d d' s s' same returns prints =
+    subst (λ step. Printed None (replied (text_reply (step >>= worlds_over query range bytes))) status d d' s s') (sym returns)
+    (ended_printed (worlds_over query range bytes made) status d d' s s' same (worlds_alone query range bytes made) prints)
+worlds_printed query range bytes (Err stop) step status d d' s s' same returns prints =
+    subst (λ reply. Printed None reply status d d' s s') (text_after step (worlds_over query range bytes))
+    (stop_printed None stop step (λ made. text_reply (worlds_over query range bytes made)) status d d' s s' same returns prints)

@@ -1,7 +1,7 @@
 -- A whole run: from the request that the words name, or that they name none.
-use Rattle.std.specs.Prelude.{option_and_then, unwrap_or}
-use Rattle.std.proofs.Common.{◌≡◌, ◌⊎◌, ℕ, List, [], Option, None, Some, Ok, Err, IsOk, IfSome, IfNone, ◌≢◌, refl, sym, subst, inl, inr, arith}
-use Rattle.command_words.specs.RequestPlain.{RequestPlain, MatchPlain, Drill, Yaml, Check, Route, Make, Local, Serve, Play, Replay, Migrate}
+use Rattle.std.specs.Prelude.{option_and_then, unwrap_or, if◌then◌else◌, nat_lt}
+use Rattle.std.proofs.Common.{◌≡◌, ◌⊎◌, ℕ, Bool, true, false, List, [], Option, None, Some, Ok, Err, IsOk, IfSome, IfNone, ◌≢◌, refl, sym, subst, inl, inr, arith}
+use Rattle.command_words.specs.RequestPlain.{RequestPlain, MatchPlain, Drill, Yaml, Check, Route, Make, Local, Serve, Play, Replay, Migrate, Save, Continue, View, Worlds}
 use Rattle.game_io.specs.Files.{Files}
 use Rattle.command_answers.specs.declared.statuses.TheConstants.{DONE, REFUSED_FILE, FAULT_READ, FAULT_WRITE, OUT_OF_MEMORY, MARK_DIFFERS}
 use Rattle.base.specs.Steps.{◌>>=◌}
@@ -21,8 +21,13 @@ use Rattle.game_model.specs.Setup.{Setup}
 use Rattle.replay_file.specs.declared.replay.Replay as file
 use Rattle.replay_file.specs.Reading.{read_of}
 use Rattle.replay_run.specs.declared.difference.Difference.{Difference}
-use Rattle.replay_run.specs.Rerun.{difference_of}
+use Rattle.replay_run.specs.Rerun.{difference_of, replayed_from}
 use Rattle.replay_commands.specs.Refusals.{read_step}
+use Rattle.game_save.specs.ReadSave.{read_save_of}
+use Rattle.save_commands.specs.Refusals.{of_match, read_save_step, with_frames}
+use Rattle.save_commands.specs.Saves.{resumed_rerun}
+use Rattle.match_commands.specs.Worlds.{told_worlds}
+use Rattle.view_command.specs.Views.{no_such_client, view_text}
 use Rattle.replay_commands.specs.Replays.{game_rerun, mark_status, migrated_reply}
 use Rattle.command_answers.specs.Reply.{Reply, done, read_fault}
 use Rattle.command_answers.specs.Outcome.{IsPrinted, IsAnswered}
@@ -41,8 +46,8 @@ text_done (Err reply) ok = absurd cc
 replayed_done : {T : Type 0} (step : Step T) (next : T → Step Reply) (Done : ℕ → Type 0) →
     ((value : T) → IsOk (next value) → Done (replied (next value)).status) →
     IsOk (step >>= next) → Done (replied (step >>= next)).status
-replayed_done (Ok value) next Done then ok = then value ok
-replayed_done (Err reply) next Done then ok = absurd cc
+replayed_done (Ok value) next Done follows ok = follows value ok
+replayed_done (Err reply) next Done follows ok = absurd cc
 
 abbrev IsReplayDone : ℕ → Type 0
 IsReplayDone status = (status ≡ DONE) ⊎ (status ≡ MARK_DIFFERS)
@@ -63,6 +68,13 @@ drill_done query None contents =
 drill_done query (Some name) contents =
     replayed_done (numbered_step query contents) _ (λ status. status ≡ DONE) (λ made ok. refl)
 
+client_done :
+    (setup : Setup) (r : file.Replay) (client : ℕ) (is : Bool) →
+    IsOk (if is then Ok (done (view_text setup r client)) else Err no_such_client) →
+    (replied (if is then Ok (done (view_text setup r client)) else Err no_such_client)).status ≡ DONE
+client_done setup r client true ok = refl
+client_done setup r client false ok = absurd cc
+
 given_done :
     (request : RequestPlain) (contents : Contents) → IsOk (answer_of request contents) → IsDone request (given_reply request contents).status
 given_done (Drill query record_file) contents ok = drill_done query record_file contents ok
@@ -81,6 +93,22 @@ given_done (Migrate query to) contents ok =
     replayed_done (standing_step query.rules query.map_file contents) _ IsReplayDone
     (λ made. replayed_done (read_step query.file (read_of made.1 (unwrap_or contents.replay []))) _ IsReplayDone
     (λ r ok. migrate_done made.0 to r (difference_of (game_rerun made.0 r) r))) ok
+given_done (Save query frames to) contents ok =
+    replayed_done (standing_step query.rules query.map_file contents) _ (λ status. status ≡ DONE)
+    (λ made. replayed_done (read_step query.file (read_of made.1 (unwrap_or contents.replay []))) _ (λ status. status ≡ DONE)
+    (λ r. replayed_done (with_frames query.file frames r) _ (λ status. status ≡ DONE) (λ long ok. refl))) ok
+given_done (Continue query save) contents ok =
+    replayed_done (standing_step query.rules query.map_file contents) _ IsReplayDone
+    (λ made. replayed_done (read_save_step save (read_save_of made.1 made.0 (unwrap_or contents.save []))) _ IsReplayDone
+    (λ saved. replayed_done (read_step query.file (read_of made.1 (unwrap_or contents.replay []))) _ IsReplayDone
+    (λ r. replayed_done (of_match query.file saved r) _ IsReplayDone
+    (λ same. replayed_done (with_frames query.file saved.frames same) _ IsReplayDone
+    (λ long ok. mark_done (replayed_from (resumed_rerun made.0 saved) saved.frames long).difference))))) ok
+given_done (View query client) contents ok =
+    replayed_done (standing_step query.rules query.map_file contents) _ (λ status. status ≡ DONE)
+    (λ made. replayed_done (read_step query.file (read_of made.1 (unwrap_or contents.replay []))) _ (λ status. status ≡ DONE)
+    (λ r ok. client_done made.0 r client (nat_lt client r.clients) ok)) ok
+given_done (Worlds query range) contents ok = text_done (told_worlds query range contents) ok
 
 read_done :
     (request : RequestPlain) (step : Step Contents) → IsOk (step >>= answer_of request) → IsDone request (replied (step >>= answer_of request)).status
@@ -158,6 +186,10 @@ request_sound (Serve query) status causes old new runs = tt
 request_sound (Play query at) status causes old new runs = tt
 request_sound (Replay query) status causes old new runs = tt
 request_sound (Migrate query to) status causes old new runs = tt
+request_sound (Save query frames to) status causes old new runs = tt
+request_sound (Continue query save) status causes old new runs = tt
+request_sound (View query client) status causes old new runs = tt
+request_sound (Worlds query range) status causes old new runs = tt
 
 -- The words name a request, which was run.
 pub request_runs :

@@ -3,7 +3,11 @@ pub mod Drills
 pub mod Made
 pub mod Locals
 pub mod Replayed
+pub mod Saves
+pub mod Views
+pub mod Worlds
 pub mod Request
+pub mod Refusing
 pub mod Run
 pub mod TopCalls
 pub mod Plays

@@ -3,11 +3,13 @@ use Rattle.std.specs.Prelude.{ℕ, List, [], map, Option, None, Some, Ok, IsOk}
 use Rattle.base.specs.Steps.{◌>>=◌}
 use Rattle.game_io.specs.Files.{Files}
 use Rattle.command_words.specs.RequestPlain.{RequestPlain, Drill, Yaml, Check, Route, Make}
-use Rattle.command_words.specs.RequestPlain.{Local, Serve, Play, Replay, Migrate}
+use Rattle.command_words.specs.RequestPlain.{Local, Serve, Play, Replay, Migrate, Save}
+use Rattle.command_words.specs.RequestPlain.{Continue, View, Worlds}
 use Rattle.command_answers.specs.Reply.{Reply, done}
 use Rattle.command_answers.specs.Step.{Step, replied}
 use Rattle.command_answers.specs.WantedFiles.{WantedFiles, no_files, rule_file}
-use Rattle.command_answers.specs.WantedFiles.{rules_and_map, with_script, with_replay}
+use Rattle.command_answers.specs.WantedFiles.{rules_and_map, with_save, with_script}
+use Rattle.command_answers.specs.WantedFiles.{with_replay}
 use Rattle.command_answers.specs.Contents.{Contents, contents_of}
 use Rattle.rule_commands.specs.RuleFiles.{yaml_step}
 use Rattle.rule_commands.specs.Checks.{check_step}
@@ -16,6 +18,9 @@ use Rattle.match_commands.specs.Drills.{drill_step}
 use Rattle.match_commands.specs.Locals.{local_match_step}
 use Rattle.match_commands.specs.Made.{make_step}
 use Rattle.match_commands.specs.Replayed.{replayed_step, migrated_step}
+use Rattle.match_commands.specs.Saves.{saved_step, continued_step}
+use Rattle.match_commands.specs.Views.{viewed_step}
+use Rattle.match_commands.specs.Worlds.{told_worlds}
 
 -- The files that a request wants to be read.
 abbrev pub wanted : RequestPlain → WantedFiles
@@ -30,6 +35,12 @@ wanted (Serve query) = rules_and_map query.rules query.map_file
 wanted (Play query at) = with_script query.file (rules_and_map query.rules query.map_file)
 wanted (Replay query) = with_replay query.file (rules_and_map query.rules query.map_file)
 wanted (Migrate query to) = with_replay query.file (rules_and_map query.rules query.map_file)
+wanted (Save query frames to) =
+    with_replay query.file (rules_and_map query.rules query.map_file)
+wanted (Continue query save) =
+    with_replay query.file (with_save save (rules_and_map query.rules query.map_file))
+wanted (View query client) = with_replay query.file (rules_and_map query.rules query.map_file)
+wanted (Worlds query range) = with_replay query.file (rules_and_map query.rules query.map_file)
 
 -- The file that a request names to be written, if it names one.
 abbrev pub written_by : RequestPlain → Option (List ℕ)
@@ -43,14 +54,18 @@ written_by (Serve query) = None
 written_by (Play query at) = None
 written_by (Replay query) = None
 written_by (Migrate query to) = Some to
+written_by (Save query frames to) = Some to
+written_by (Continue query save) = None
+written_by (View query client) = None
+written_by (Worlds query range) = None
 
 -- The reply of a command that prints a text alone, or its refusal.
 abbrev pub text_reply : Step (List ℕ) → Step Reply
 text_reply step = step >>= λ text. Ok (done text)
 
--- The reply of a command whose files have these contents, or its refusal. A map, a script and a
--- replay are there wherever one is wanted. The replies of `serve` and `play` are none of files alone
--- (`specs/Waiting.antt`): nothing here is said of them.
+-- The reply of a command whose files have these contents, or its refusal. A map, a save, a script
+-- and a replay are there wherever one is wanted. The replies of `serve` and `play` are none of files
+-- alone (`specs/Waiting.antt`): nothing here is said of them.
 abbrev pub answer_of : RequestPlain → Contents → Step Reply
 answer_of (Drill query record_file) contents = drill_step query record_file contents
 answer_of (Yaml names) contents = text_reply (yaml_step names contents.rules)
@@ -62,6 +77,10 @@ answer_of (Serve query) contents = text_reply (Ok [])
 answer_of (Play query at) contents = text_reply (Ok [])
 answer_of (Replay query) contents = replayed_step query contents
 answer_of (Migrate query to) contents = migrated_step query to contents
+answer_of (Save query frames to) contents = saved_step query frames to contents
+answer_of (Continue query save) contents = continued_step query save contents
+answer_of (View query client) contents = viewed_step query client contents
+answer_of (Worlds query range) contents = text_reply (told_worlds query range contents)
 
 -- The answer to a request whose files have these contents.
 abbrev pub given_reply : RequestPlain → Contents → Reply
@@ -75,6 +94,7 @@ answer_over request files = contents_of (wanted request) files >>= answer_of req
 abbrev pub reply_to : RequestPlain → Files → Reply
 reply_to request files = replied (answer_over request files)
 
--- Each file that the request wants is there and no longer than it may be, and none has a fault.
+-- Each file that the request wants is there and no longer than it may be, none has a fault, and
+-- what is asked for is not refused.
 abbrev pub IsFaultless : RequestPlain → Files → Type 0
 IsFaultless request files = IsOk (answer_over request files)

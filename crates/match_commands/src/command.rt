@@ -13,7 +13,9 @@ use crate::making::make_text;
 use crate::preparing::{prepare_drill, prepare_recorded};
 use crate::recording::record_drill;
 use crate::replaying::{run_migrate, run_replay};
-use crate::worlds::print_report;
+use crate::reporting::print_report;
+use crate::saving::{run_continue, run_save};
+use crate::viewing::{run_view, run_worlds_query};
 use command_answers::{
     OUT_OF_MEMORY, PlayedFile, print_stop, print_text, read_files, read_played_files, read_rules,
     refuse_words,
@@ -31,16 +33,19 @@ use std::alloc::Global;
 ///
 /// - 0, the command is done, and exactly its text was written;
 /// - 2, the words are refused;
-/// - 3, a file that they name is missing, too long, or has a fault, or there is a `RouteFault`;
-///   never of `make`, which reads no files;
+/// - 3, a file that they name is missing, too long, or has a fault, or there is a `RouteFault`; or
+///   the replay has fewer frames than `save` or `worlds` asks for, or than the save of `continue`,
+///   or is one of another match than that save, or has no such client as `view` asks for; never of
+///   `make`, which reads no files;
 /// - 4, a read failed: the disk's count of faults rose;
 /// - 5, a write failed: a count of faults rose, and a prefix of the text was written;
 /// - 6, out of memory, and a prefix of the text was written;
-/// - 7, of the commands on replays: a mark differs from the hash of the world after its frames, and
-///   exactly the text was written.
+/// - 7, of `replay`, `migrate` and `continue`: a mark that they compare differs from the hash of the
+///   world after its frames, and exactly the text was written.
 ///
-/// The file that `drill --record` or `migrate` names is written after the text. At 5 it holds what
-/// it held, nothing, or a prefix of its bytes; at every other status but 0 it is as it was.
+/// The file that `drill --record`, `migrate` or `save` names is written after the text. At 5 it
+/// holds what it held, nothing, or a prefix of its bytes; at every other status but 0 it is as it
+/// was.
 pub fn run<D: Disk, K: Sink>(alloc: Global, words: &[String], disk: &mut D, out: &mut K) -> u8
     ensures { let old = environment (D.state disk.old) (K.state out.old) in
         let new = environment (D.state disk.new) (K.state out.new) in
@@ -75,6 +80,10 @@ fn run_request<D: Disk, K: Sink>(
         Request::Make { number } => print_text(alloc, make_text(alloc, *number), out),
         Request::Replay(query) => run_replay(alloc, query, disk, out),
         Request::Migrate { query, to } => run_migrate(alloc, query, to, disk, out),
+        Request::Save { query, frames, to } => run_save(alloc, query, *frames, to, disk, out),
+        Request::Continue { query, save } => run_continue(alloc, query, save, disk, out),
+        Request::View { query, client } => run_view(alloc, query, *client, disk, out),
+        Request::Worlds { query, range } => run_worlds_query(alloc, query, *range, disk, out),
         Request::Local(_) | Request::Serve(_) | Request::Play { .. } => refuse_words(out),
     }
 }

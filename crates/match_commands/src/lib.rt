@@ -15,11 +15,15 @@ mod making;
 mod numbers;
 mod preparing;
 mod recording;
+mod refusing;
 mod replaying;
+mod reporting;
+mod saving;
 mod standing;
+mod viewing;
 mod waiting;
-mod worlds;
 
 pub use command::run;
 pub use making::made_matches_are_accepted;
+pub use refusing::refusals_are_exact;
 pub use waiting::{may_wait, run_waiting};

@@ -138,7 +138,11 @@ fn run_request<
         | Request::Route(_)
         | Request::Make { .. }
         | Request::Replay(_)
-        | Request::Migrate { .. } => refuse_words(out),
+        | Request::Migrate { .. }
+        | Request::Save { .. }
+        | Request::Continue { .. }
+        | Request::View { .. }
+        | Request::Worlds { .. } => refuse_words(out),
     }
 }
 

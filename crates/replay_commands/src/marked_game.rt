@@ -1,13 +1,15 @@
+ghost use Rattle.std.specs.Prelude.{◌≡◌};
+
 use frame_core::{Sim, Summary};
 use game_orders::Frame;
 use replay_run::FirstHash;
 use std::marker::Model;
 use tick_core::Game;
 
-/// A game with the hash of the first version, that without the pace.
+/// A game with the hash of the first version, that without the pace. Replays are run over it.
 #[derive(Drop)]
-pub(crate) struct MarkedGame {
-    pub(crate) game: Game,
+pub struct MarkedGame {
+    game: Game,
 }
 
 impl Model for MarkedGame {
@@ -16,6 +18,15 @@ impl Model for MarkedGame {
     ghost Value = { GameState };
 
     ghost view = { λ marked. marked.game };
+}
+
+impl MarkedGame {
+    /// This game.
+    pub fn of(game: Game) -> MarkedGame
+        ensures { result ≡ game }
+    {
+        MarkedGame { game }
+    }
 }
 
 impl Sim for MarkedGame {

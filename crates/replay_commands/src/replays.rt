@@ -3,20 +3,20 @@ ghost use Rattle.command_answers.specs.Answer.{reply_of};
 ghost use Rattle.command_answers.specs.Stop.{ReturnsStep};
 ghost use Rattle.replay_file.specs.Reading.{read_of};
 ghost use Rattle.replay_file.specs.ValidReplay.{IsValidReplay};
-ghost use Rattle.replay_commands.specs.Refusals.{read_step};
 ghost use Rattle.replay_commands.specs.Replays.{mark_status, migrate_reply, migrate_step};
-ghost use Rattle.replay_commands.specs.Replays.{replay_reply, replay_step, ReplaysAgain};
+ghost use Rattle.replay_commands.specs.Replays.{replay_reply, replay_step, replayed_reply};
+ghost use Rattle.replay_commands.specs.Replays.{ReplaysAgain};
 ghost use Rattle.tick_core.specs.Game.{game_clients, game_start, game_steps};
 
 use crate::marked_game::MarkedGame;
-use crate::refusal::replay_stop;
+use crate::reading::read_replay_file;
 use base::NoMemory;
 use command_answers::{Answer, DONE, FileBytes, MARK_DIFFERS, Stop};
 use frame_core::Maker;
-use replay_file::{Replay, read_replay};
+use replay_file::Replay;
 use replay_run::{
-    Difference, Migration, a_migrated_replay_gives_the_same, migrate, migrated_text, refused_text,
-    replay_text, run_replay,
+    Difference, Migration, Replayed, a_migrated_replay_gives_the_same, migrate, migrated_text,
+    refused_text, replay_text, run_replay,
 };
 use std::alloc::Global;
 use tick_core::GameMaker;
@@ -41,7 +41,23 @@ fn opening(alloc: Global, maker: &GameMaker, r: &Replay) -> Result<MarkedGame, N
     ensures fresh { IfOk result (λ world. game_steps world ≡ 0) }
 {
     let game = maker.make(alloc, r.seed, r.clients)?;
-    Ok(MarkedGame { game })
+    Ok(MarkedGame::of(game))
+}
+
+/// The answer to `replay` of what the replay of a file gave. The status is `MARK_DIFFERS` exactly
+/// where a mark differs, else `DONE`. Out of memory is the only error.
+pub fn replayed_answer(
+    alloc: Global,
+    run: &Replayed<MarkedGame>,
+) -> Result<Answer<'static>, NoMemory>
+    ensures { IfOk result (λ answer. reply_of answer ≡ replayed_reply run.now) }
+{
+    let text = replay_text(alloc, run)?;
+    Ok(Answer {
+        status: mark_status(&run.difference),
+        text: text.into_bytes(),
+        write: None,
+    })
 }
 
 /// What is answered to `replay`, of the replay of a file.
@@ -50,13 +66,7 @@ fn answer_replay(alloc: Global, maker: &GameMaker, r: &Replay) -> Result<Answer<
     ensures { IfOk result (λ answer. reply_of answer ≡ replay_reply maker.now r.now) }
 {
     let world = opening(alloc, maker, r)?;
-    let run = run_replay(world, r);
-    let text = replay_text(alloc, &run)?;
-    Ok(Answer {
-        status: mark_status(&run.difference),
-        text: text.into_bytes(),
-        write: None,
-    })
+    replayed_answer(alloc, &run_replay(world, r))
 }
 
 /// What is answered to `migrate`, of the replay of a file.
@@ -92,18 +102,6 @@ fn answer_migrate<'a>(
     }
 }
 
-/// The replay of a file with this name, of a match with these rules.
-fn read_file<'a>(alloc: Global, name: &'a str, rules: u64, bytes: &[u8]) -> Result<Replay, Stop<'a>>
-    ensures read { ReturnsStep result (λ r. r) (read_step name.now (read_of rules bytes.now)) }
-    ensures valid { IfOk result IsValidReplay }
-    ensures rules { IfOk result (λ r. r.rules ≡ rules) }
-{
-    match read_replay(alloc, bytes, rules) {
-        Ok(r) => Ok(r),
-        Err(fault) => Err(replay_stop(name, &fault)),
-    }
-}
-
 /// The answer to `replay`: the lines of the replay of a file with this name, run over the opening
 /// game that the maker makes of its seed and clients. The status is `MARK_DIFFERS` exactly where a
 /// mark differs from the hash, as the replay's version has it, of the world after the frames before
@@ -119,7 +117,7 @@ pub fn replay_answer<'a>(
     ensures { ReturnsStep result reply_of
         (replay_step name.now rules maker.now bytes.now) }
 {
-    let r = read_file(alloc, name, rules, bytes)?;
+    let r = read_replay_file(alloc, name, rules, bytes)?;
     Ok(answer_replay(alloc, maker, &r)?)
 }
 
@@ -141,6 +139,6 @@ pub fn migrate_answer<'a>(
     ensures again { IfOk result
         (λ answer. ReplaysAgain rules maker.now bytes.now (reply_of answer).write) }
 {
-    let r = read_file(alloc, name, rules, bytes)?;
+    let r = read_replay_file(alloc, name, rules, bytes)?;
     Ok(answer_migrate(alloc, to, maker, &r)?)
 }

@@ -1,1 +1,4 @@
+mod FramesLemmas
+mod PlayingLemmas
 mod RecordLawsLemmas
+mod ResumeLemmas

@@ -1,41 +1,41 @@
 -- The laws of replays.
 use Rattle.std.specs.Prelude.{◌≡◌, ◌≢◌, ℕ, zero, suc, ◌+◌, ◌<◌, ◌≤◌, ◌⊎◌, ◌==◌, Bool, true, false}
-use Rattle.std.specs.Prelude.{not, List, [], ◌∷◌, ◌++◌, length, map, slice_get}
+use Rattle.std.specs.Prelude.{nat_le, List, [], ◌∷◌, ◌++◌, length, map, slice_get}
 use Rattle.std.specs.Prelude.{Option, Some, None, unwrap_or}
-use Rattle.std.proofs.Common.{refl, sym, ap, ap₂, subst, ◌∙◌, arith, add-one, inl, inr}
+use Rattle.std.specs.List.{filter}
+use Rattle.std.proofs.Common.{refl, sym, ap, ap₂, subst, ◌∙◌, arith, inl, inr}
 use Rattle.std.proofs.lemmas.Bool.Decides.{nat_tests}
 use Rattle.game_orders.specs.declared.entry.Entry.{Entry}
 use Rattle.frame_core.specs.Column.{Column}
 use Rattle.frame_core.specs.FoldLemmas.{folded_same}
-use Rattle.frame_core.specs.Match.{Match, agreed_hash, agreed_world}
+use Rattle.frame_core.specs.Match.{Match, agreed_world}
 use Rattle.frame_core.specs.Ready.{frame_at}
-use Rattle.replay_file.specs.declared.limits.TheConstants.{VERSION}
 use Rattle.replay_file.specs.declared.part.Part.{Part}
 use Rattle.replay_file.specs.declared.part.Part.TheVariants.{Frame, Mark}
 use Rattle.replay_file.specs.declared.replay.Replay.{Replay}
 use Rattle.replay_file.specs.Frames.{frames_of, marks_after, marks_of}
 use Rattle.replay_file.specs.MigratedLemmas.{anew, migrated_frames, migrated_marks}
 use Rattle.replay_run.specs.declared.difference.Difference.{Difference}
-use Rattle.replay_run.specs.declared.replayed.Replayed.{Replayed}
 use Rattle.replay_run.specs.RecordLaws.{AllAgree, IsLeastDifference, agreed_replayed, rerun_of}
 use Rattle.replay_run.specs.Recording.{hash_after_frame, recorded, replay_of}
 use Rattle.replay_run.specs.Rerun.{Rerun, differs, difference_at, difference_of, first_difference}
+use Rattle.replay_run.specs.Rerun.{marks_from}
 use Rattle.replay_run.specs.Rerun.{frame_count, frame_in, hash_in, migrated_over, replayed, world_in}
-use Rattle.replay_run.specs.RerunLemmas.{same_replayed}
+use Rattle.replay_run.specs.RerunLemmas.{kept_marks, same_replayed}
 
 -- ---- the least difference
 
 -- Marks stand after at least so many frames.
-marks_from :
+marks_stand :
     (n : ℕ) (parts : List Part) (i : ℕ) (mark : ℕ × ℕ) →
     slice_get (marks_after n parts) i ≡ Some mark → n ≤ mark.0
-marks_from n [] i mark at = absurd cc
-marks_from n (Frame entries ∷ parts) i mark at =
-    omega (arith, marks_from (n + 1) parts i mark at)
-marks_from n (Mark hash ∷ parts) zero mark at =
+marks_stand n [] i mark at = absurd cc
+marks_stand n (Frame entries ∷ parts) i mark at =
+    omega (arith, marks_stand (n + 1) parts i mark at)
+marks_stand n (Mark hash ∷ parts) zero mark at =
     let same : (n, hash) ≡ mark = cc in
     omega (arith, ap (λ (m : ℕ × ℕ). m.0) same)
-marks_from n (Mark hash ∷ parts) (suc i) mark at = marks_from n parts i mark at
+marks_stand n (Mark hash ∷ parts) (suc i) mark at = marks_stand n parts i mark at
 
 first_differs :
     (hash_at : ℕ → ℕ) (n hash : ℕ) (rest : List (ℕ × ℕ)) (d : Difference) →
@@ -106,7 +106,7 @@ least_from hash_at n (Mark hash ∷ parts) d is =
           here = sym here ∙ ap hash_at frames;
           differs = λ same. unequal hash (hash_at n) other (file ∙ same ∙ sym here);
           least = λ i mark at never.
-              omega (arith, frames, marks_from n (Mark hash ∷ parts) i mark at);
+              omega (arith, frames, marks_stand n (Mark hash ∷ parts) i mark at);
         }
 
 pub least_difference :
@@ -160,7 +160,44 @@ pub no_difference :
     AllAgree hash_at (marks_of parts)
 no_difference hash_at parts none = agree_from hash_at (marks_of parts) none
 
-pub ruleset difference_laws = (least_difference, no_difference)
+-- The marks with so many frames or more before them are those of some parts, after some frames.
+late_marks :
+    (from n : ℕ) (parts : List Part) →
+    (m : ℕ) × (rest : List Part)
+    × (filter (λ mark. nat_le from mark.0) (marks_after n parts) ≡ marks_after m rest)
+late_marks from n [] = (n, [], refl)
+late_marks from n (Frame entries ∷ parts) = late_marks from (n + 1) parts
+late_marks from n (Mark hash ∷ parts) =
+    by_test (nat_le from n) refl (late_marks from n parts)
+  where
+    by_test :
+        (test : Bool) → nat_le from n ≡ test →
+        (m : ℕ) × (rest : List Part)
+        × (filter (λ mark. nat_le from mark.0) (marks_after n parts) ≡ marks_after m rest) →
+        (m : ℕ) × (rest : List Part)
+        × (filter (λ mark. nat_le from mark.0) (marks_after n (Mark hash ∷ parts))
+        ≡ marks_after m rest)
+    by_test true is later =
+        let late : from ≤ n = grind (arith, nat_tests) in
+        (n, Mark hash ∷ parts, kept_marks from n (Mark hash ∷ parts) late)
+    by_test false is later = (later.0, later.1, rw is later.2)
+
+pub least_later :
+    (hash_at : ℕ → ℕ) (from : ℕ) (parts : List Part) (d : Difference) →
+    first_difference hash_at (marks_from from parts) ≡ Some d →
+    IsLeastDifference hash_at (marks_from from parts) d
+least_later hash_at from parts d is =
+    let late = late_marks from 0 parts in
+    subst (λ (marks : List (ℕ × ℕ)). IsLeastDifference hash_at marks d) (sym late.2)
+    (least_from hash_at late.0 late.1 d (ap (first_difference hash_at) (sym late.2) ∙ is))
+
+pub no_later :
+    (hash_at : ℕ → ℕ) (from : ℕ) (parts : List Part) →
+    first_difference hash_at (marks_from from parts) ≡ None →
+    AllAgree hash_at (marks_from from parts)
+no_later hash_at from parts none = agree_from hash_at (marks_from from parts) none
+
+pub ruleset difference_laws = (least_difference, no_difference, least_later, no_later)
 
 -- Marks that agree.
 none_differs :

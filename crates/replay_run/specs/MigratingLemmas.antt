@@ -3,7 +3,7 @@ use Rattle.std.specs.Prelude.{◌≡◌, ℕ, ◌+◌, ◌<◌, ◌≤◌, ◌^�
 use Rattle.std.specs.Prelude.{length, Option, Some, None}
 use Rattle.std.specs.Global.{Vec}
 use Rattle.std.specs.List.{AllByRecursion}
-use Rattle.std.proofs.Common.{refl, sym, ap, ap₂, subst, ◌∙◌, arith, append_assoc}
+use Rattle.std.proofs.Common.{refl, sym, ap, subst, ◌∙◌, arith, append_assoc}
 use Rattle.std.proofs.lemmas.List.{append-nil}
 use Rattle.game_orders.specs.declared.limits.TheConstants.{MAX_FRAMES}
 use Rattle.replay_file.specs.declared.limits.TheConstants.{VERSION}
@@ -12,7 +12,7 @@ use Rattle.replay_file.specs.declared.part.Part.TheVariants.{Frame, Mark}
 use Rattle.replay_file.specs.declared.replay.Replay.{Replay}
 use Rattle.replay_file.specs.declared.standing.Standing.{Standing}
 use Rattle.replay_file.specs.FirstFault.{Spells}
-use Rattle.replay_file.specs.Frames.{frames_of, marked_anew, marks_after, marks_of}
+use Rattle.replay_file.specs.Frames.{frames_of, marked_anew, marks_after}
 use Rattle.replay_file.specs.MigratedLemmas.{migrated_valid}
 use Rattle.replay_file.specs.PartBytes.{part_bytes, parts_bytes, end_bytes, FitsPart}
 use Rattle.replay_file.specs.PartRules.{after_part, opening, EachMayFollow}
@@ -24,8 +24,8 @@ use Rattle.replay_run.specs.declared.migration.Migration.TheVariants.{Migrated}
 use Rattle.replay_run.specs.Migrating.{marked_part, marks_in, Migrates}
 use Rattle.replay_run.specs.Passing.{first_of, passed}
 use Rattle.replay_run.specs.Rerun.{Rerun, difference_of, first_difference, frame_count}
-use Rattle.replay_run.specs.Rerun.{hash_in, mark_count, mark_hash, migrated_over, world_in}
-use Rattle.replay_run.specs.RerunLemmas.{IsSoFar, difference_last}
+use Rattle.replay_run.specs.Rerun.{hash_from, mark_count, mark_hash, migrated_over, world_in}
+use Rattle.replay_run.specs.RerunLemmas.{IsSoFar, difference_last, difference_zero, world_zero}
 
 -- No mark stands directly after a mark, so there are few.
 one_more : Bool → ℕ
@@ -76,7 +76,7 @@ pub record IsWritten {W : Type 0}
 -- Nothing but the header was written.
 pub written_begins :
     {W : Type 0} (run : Rerun W) (r : Replay) (head written : List ℕ) (left : List Part)
-    (so_far : Replayed W) → IsValidReplay r → IsSoFar run r left so_far → left ≡ r.parts →
+    (so_far : Replayed W) → IsValidReplay r → IsSoFar run 0 r left so_far → left ≡ r.parts →
     written ≡ head → IsWritten run r head left 0 written 0
 written_begins run r head written left so_far valid is all headed =
     let here : IsWritten run r head r.parts 0 head 0 = record {
@@ -91,7 +91,7 @@ written_begins run r head written left so_far valid is all headed =
 -- One more part was written.
 written_more :
     {W : Type 0} (run : Rerun W) (r : Replay) (head : List ℕ) (part : Part) (left : List Part)
-    (so_far : Replayed W) (old new : List ℕ) (marks more : ℕ) → IsSoFar run r (part ∷ left) so_far →
+    (so_far : Replayed W) (old new : List ℕ) (marks more : ℕ) → IsSoFar run 0 r (part ∷ left) so_far →
     new ≡ old ++ part_bytes (marked_part
     (run.hash (passed run.after (mark_hash run r.version) so_far part).world) part) →
     FitsPart (marked_part
@@ -110,7 +110,8 @@ written_more run r head (Frame entries) left so_far old new marks more is added 
       few = written.few;
     }
 written_more run r head (Mark file) left so_far old new marks more is added fits one written =
-    let here : run.hash so_far.world ≡ new_hash run r so_far.frames = ap run.hash is.world in
+    let here : run.hash so_far.world ≡ new_hash run r so_far.frames =
+    ap run.hash (is.world ∙ world_zero run r.parts so_far.frames) in
     let rest = parts_bytes (marked_anew (new_hash run r) so_far.frames left) in
     record {
       bytes =
@@ -139,15 +140,15 @@ FitsAt run part so_far = FitsPart (marked_part (run.hash so_far.world) part)
 pub written_step :
     {W : Type 0} (run : Rerun W) (r : Replay) (head : List ℕ) (part : Part)
     (left rest : List Part) (so_far next : Replayed W) (old new : List ℕ) (marks more : ℕ) →
-    IsSoFar run r left so_far → left ≡ part ∷ rest →
+    IsSoFar run 0 r left so_far → left ≡ part ∷ rest →
     next ≡ passed run.after (mark_hash run r.version) so_far part →
     new ≡ old ++ part_bytes (marked_part (run.hash next.world) part) →
     FitsPart (marked_part (run.hash next.world) part) → more ≡ marks_in part →
     IsWritten run r head left so_far.frames old marks →
     IsWritten run r head rest next.frames new (marks + more)
 written_step run r head part left rest so_far next old new marks more is taken passes added fits few written =
-    let there : IsSoFar run r (part ∷ rest) so_far =
-    subst (λ (parts : List Part). IsSoFar run r parts so_far) taken is in
+    let there : IsSoFar run 0 r (part ∷ rest) so_far =
+    subst (λ (parts : List Part). IsSoFar run 0 r parts so_far) taken is in
     let before : IsWritten run r head (part ∷ rest) so_far.frames old marks =
     subst (λ (parts : List Part). IsWritten run r head parts so_far.frames old marks) taken written in
     subst (IsWrittenAt run r head rest new (marks + more)) (sym passes)
@@ -176,16 +177,18 @@ marks_fit_left run r head part left rest frames written marks more taken few is 
 -- A difference that was found is that of the replay.
 pub difference_found :
     {W : Type 0} (run : Rerun W) (r : Replay) (left : List Part) (so_far : Replayed W)
-    (d : Difference) → IsSoFar run r left so_far → so_far.difference ≡ Some d →
+    (d : Difference) → IsSoFar run 0 r left so_far → so_far.difference ≡ Some d →
     difference_of run r ≡ Some d
 difference_found run r left so_far d is found =
-    sym is.difference ∙ ap (λ (o : Option Difference). first_of o (first_difference (hash_in run r) (marks_after so_far.frames left))) found
+    sym (difference_zero run r) ∙ sym is.difference
+    ∙ ap (λ (o : Option Difference).
+    first_of o (first_difference (hash_from run 0 r) (marks_after so_far.frames left))) found
 
 -- All was written.
 pub all_written :
     {W : Type 0} (run : Rerun W) (r : Replay) (so_far : Replayed W) (left : List Part)
     (head written : List ℕ) (bytes : Vec ℕ) (marks : ℕ) → IsValidReplay r → FitsReplay r →
-    head ≡ header_bytes VERSION r.rules r.seed r.clients → IsSoFar run r left so_far →
+    head ≡ header_bytes VERSION r.rules r.seed r.clients → IsSoFar run 0 r left so_far →
     so_far.difference ≡ None → left ≡ [] →
     IsWritten run r head left so_far.frames written marks → bytes.items ≡ written ++ end_bytes →
     Migrates run r (Migrated bytes so_far.frames marks)
@@ -193,8 +196,8 @@ unfolding replay_bytes
 all_written run r so_far left head written bytes marks valid fits headed is none ended all finished =
     let new = migrated_over run r in
     let header = header_bytes VERSION r.rules r.seed r.clients in
-    let last : IsSoFar run r [] so_far =
-    subst (λ (parts : List Part). IsSoFar run r parts so_far) ended is in
+    let last : IsSoFar run 0 r [] so_far =
+    subst (λ (parts : List Part). IsSoFar run 0 r parts so_far) ended is in
     let whole : IsWritten run r head [] so_far.frames written marks =
     subst (λ (parts : List Part). IsWritten run r head parts so_far.frames written marks) ended
     all in
@@ -216,7 +219,7 @@ all_written run r so_far left head written bytes marks valid fits headed is none
           (body ∙ ap (λ (h : List ℕ). h ++ parts_bytes new.parts) headed)
           ∙ append_assoc header (parts_bytes new.parts) end_bytes;
     } in (
-      sym (difference_last run r so_far last) ∙ none,
+      sym (difference_zero run r) ∙ sym (difference_last run 0 r so_far last) ∙ none,
       spells,
       omega (arith, last.count),
       omega (arith, whole.count),

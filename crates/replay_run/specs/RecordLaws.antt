@@ -1,5 +1,5 @@
 -- What replays of matches, and migrated ones, give.
-use Rattle.std.specs.Prelude.{◌≡◌, ◌≢◌, ℕ, ◌≤◌, List, Option, Some, None, slice_get}
+use Rattle.std.specs.Prelude.{◌≡◌, ◌≢◌, ℕ, ◌≤◌, List, Some, None, slice_get}
 use Rattle.frame_core.specs.Column.{Column}
 use Rattle.frame_core.specs.Match.{Match, agreed_world}
 use Rattle.replay_run.specs.declared.difference.Difference.{Difference}

@@ -1,6 +1,6 @@
 -- The replay of a match is valid, and its bytes are those that were written.
 use Rattle.std.specs.Prelude.{◌≡◌, ℕ, zero, suc, ◌+◌, ◌<◌, ◌≤◌, ◌^◌, Bool, true, false, not, ◌&&◌}
-use Rattle.std.specs.Prelude.{List, [], ◌∷◌, ◌++◌, length, map, replicate, slice_get}
+use Rattle.std.specs.Prelude.{List, [], ◌∷◌, ◌++◌, length, replicate, slice_get}
 use Rattle.std.specs.Prelude.{Option, Some, None, Result, Ok, Err, IfOk, slice_index_or}
 use Rattle.std.specs.Global.{Vec}
 use Rattle.std.specs.List.{AllByRecursion, list_any}
@@ -13,22 +13,21 @@ use Rattle.game_orders.specs.declared.limits.TheConstants.{MAX_CLIENTS, MAX_FRAM
 use Rattle.game_orders.specs.Entry.{is_play}
 use Rattle.frame_core.specs.declared.ready.Ready.TheVariants.{Yes}
 use Rattle.frame_core.specs.Agreed.{AreReady}
-use Rattle.frame_core.specs.Column.{Column, entry_from, has_at}
+use Rattle.frame_core.specs.Column.{Column, entry_from}
 use Rattle.frame_core.specs.Input.{ready_from}
 use Rattle.frame_core.specs.Match.{Match}
-use Rattle.frame_core.specs.Ready.{each_at, frame_at, frame_of, inputs_of, or_leave, ready_at}
+use Rattle.frame_core.specs.Ready.{each_at, frame_at, frame_of, inputs_of, or_leave}
 use Rattle.server_core.specs.Served.{agreed_marks}
 use Rattle.server_core.specs.ServedLemmas.{agreed_mark}
 use Rattle.replay_file.specs.declared.limits.TheConstants.{VERSION}
 use Rattle.replay_file.specs.declared.part.Part.{Part}
 use Rattle.replay_file.specs.declared.part.Part.TheVariants.{Frame, Mark}
-use Rattle.replay_file.specs.declared.replay.Replay.{Replay}
 use Rattle.replay_file.specs.declared.standing.Standing.{Standing}
 use Rattle.replay_file.specs.EntriesLemmas.{entries_known}
 use Rattle.replay_file.specs.FirstFault.{Spells}
 use Rattle.replay_file.specs.OrdersLemmas.{all_added}
 use Rattle.replay_file.specs.PartBytes.{part_bytes, parts_bytes, end_bytes, FitsPart}
-use Rattle.replay_file.specs.PartRules.{after_part, after_parts, departed_in, most_frames, opening}
+use Rattle.replay_file.specs.PartRules.{after_part, after_parts, departed_in, opening}
 use Rattle.replay_file.specs.PartRules.{EachMayFollow, FrameMayFollow, StayDeparted}
 use Rattle.replay_file.specs.ReplayBytes.{header_bytes, replay_bytes}
 use Rattle.replay_file.specs.ReplayLemmas.{bytes_more, follow_more, standing_more}

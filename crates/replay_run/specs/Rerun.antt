@@ -1,8 +1,8 @@
 -- What the replay of a match is over an opening world: the worlds that its frames make, the marks
 -- that differ from their hashes, and the replay with marks of the version that is written.
-use Rattle.std.specs.Prelude.{ℕ, ◌==◌, Bool, not, List, [], length}
+use Rattle.std.specs.Prelude.{ℕ, ◌+◌, ◌-◌, ◌==◌, nat_le, nat_lt, Bool, not, List, [], length}
 use Rattle.std.specs.Prelude.{slice_get, Option, option_map, unwrap_or}
-use Rattle.std.specs.List.{find}
+use Rattle.std.specs.List.{filter, find}
 use Rattle.game_orders.specs.declared.entry.Entry.{Entry}
 use Rattle.frame_core.specs.declared.summary.Summary.{Summary}
 use Rattle.frame_core.specs.Fold.{folded}
@@ -87,3 +87,47 @@ replayed run r =
 -- the world there.
 abbrev pub migrated_over : {W : Type 0} → Rerun W → Replay → Replay
 migrated_over run r = migrated (λ n. run.hash (world_in run r.parts n)) r
+
+-- ---- runs from a frame on, over a world that has so many frames before it
+
+-- The world after the frames 0 to n - 1 of the parts, where the run's world is that after the first
+-- `from` of them.
+abbrev pub world_from : {W : Type 0} → Rerun W → (from : ℕ) → List Part → ℕ → W
+world_from run from parts n =
+    folded run.after run.start (λ k. frame_in parts (from + k)) (n - from)
+
+abbrev pub hash_from : {W : Type 0} → Rerun W → (from : ℕ) → Replay → ℕ → ℕ
+hash_from run from r n = mark_hash run r.version (world_from run from r.parts n)
+
+-- The marks that have so many frames or more before them.
+abbrev pub marks_from : (from : ℕ) → List Part → List (ℕ × ℕ)
+marks_from from parts = filter (λ mark. nat_le from mark.0) (marks_of parts)
+
+-- Those that have fewer.
+abbrev pub marks_before : (from : ℕ) → List Part → List (ℕ × ℕ)
+marks_before from parts = filter (λ mark. nat_lt mark.0 from) (marks_of parts)
+
+abbrev pub difference_from : {W : Type 0} → Rerun W → (from : ℕ) → Replay → Option Difference
+difference_from run from r = first_difference (hash_from run from r) (marks_from from r.parts)
+
+-- What a run from a frame on gives: all frames of the replay count, and the marks before are not
+-- compared.
+abbrev pub replayed_from : {W : Type 0} → Rerun W → (from : ℕ) → Replay → Replayed W
+replayed_from run from r =
+    record {
+      difference = difference_from run from r;
+      frames = frame_count r;
+      world = world_from run from r.parts (frame_count r);
+    }
+
+-- The run that goes on from the world after the first frames of the replay.
+abbrev pub resumed_at : {W : Type 0} → Rerun W → (from : ℕ) → Replay → Rerun W
+resumed_at run from r = record run { start = world_in run r.parts from }
+
+-- What a whole replay gives, with the differing mark among those that have so many frames or more
+-- before them.
+abbrev pub replayed_late : {W : Type 0} → Rerun W → (from : ℕ) → Replay → Replayed W
+replayed_late run from r =
+    record (replayed run r) {
+      difference = first_difference (hash_in run r) (marks_from from r.parts);
+    }

@@ -1,11 +1,12 @@
 //! A match of two clients over the least world, recorded, run again and migrated.
 ghost use Rattle.std.specs.Prelude.{◌≡◌};
+ghost use Rattle.replay_file.specs.ValidReplay.{IsValidReplay};
 
 use super::*;
 use frame_core::Tally;
 use game_orders::Orders;
 use order_packets::Up;
-use replay_file::read_replay;
+use replay_file::{Replay, read_replay};
 use server_core::Server;
 use std::alloc::Global;
 use std::process::Abort;
@@ -115,6 +116,32 @@ fn replays_are_run(rt: HostRuntime) -> Result<(), Fail> {
     ];
     for (bytes, mark) in &rows {
         prints(&rt, rt.alloc(), bytes, mark)?;
+    }
+    Ok(())
+}
+
+/// Goes on from the world after so many frames, and compares what is printed with what is wanted.
+fn goes_on(rt: &impl Abort, alloc: Global, from: u32, r: &Replay, mark: &str) -> Result<(), Fail>
+    requires valid { IsValidReplay r.now }
+    requires clients { r.now.clients ≡ 2 }
+{
+    assert!(rt; from <= frame_count(r));
+    let world = world_after(Tally::new(), r, from);
+    let text = replay_text(alloc, &run_replay_from(world, from, r))?;
+    let mut want = String::from_str(alloc, mark)?;
+    want.push_str(END)?;
+    assert_eq!(rt; text, want);
+    Ok(())
+}
+
+#[test]
+fn replays_go_on_from_each_frame(rt: HostRuntime) -> Result<(), Fail> {
+    let first = "mark 1 file 0000000000000002 here 0000000000000003\n";
+    let last = "mark 2 file 0000000000000006 here 0000000000000005\n";
+    let r = read_replay(rt.alloc(), &changed(&changed(&RECORD, 38, 6), 25, 2), 7)?;
+    assert!(&rt; r.clients == 2);
+    for (from, mark) in [(0, first), (1, first), (2, last)] {
+        goes_on(&rt, rt.alloc(), from, &r, mark)?;
     }
     Ok(())
 }

@@ -2,7 +2,8 @@
 
 use base::NoMemory;
 use command_words::{
-    FileNames, MAX_FILES, MatchQuery, Request, RouteQuery, ServeQuery, WordsFault, read_words,
+    FileNames, MAX_FILES, MatchQuery, Request, RouteQuery, ServeQuery, WordsFault, WorldRange,
+    read_words,
 };
 use std::alloc::{AllocError, Global};
 use std::fmt::Write;
@@ -325,7 +326,106 @@ play|--script=|--at= => play at <> <>
 play|--at|a|--script|s|--map|m => play at <a> <s> map <m>
 play|r|--at=--map|q|--map|m|--script|s|--|--at|a => play at <--map> <s> map <m> <r> <q> <--at> <a>
 play|--at|-|--script|-|play => play at <-> <-> <play>
-play|--at|a|--script|s|serve => play at <a> <s> <serve>";
+play|--at|a|--script|s|serve => play at <a> <s> <serve>
+## Words that would save a replay, go on from a save or show worlds, and that are refused.
+# `save`: a replay, a number of frames and a file to write, each once.
+save => refused
+save|--file|f|--frames|1 => refused
+save|--file|f|--to|t => refused
+save|--frames|1|--to|t => refused
+save|f|--frames|1|--to|t => refused
+save|--file|f|--frames|1|--file|f|--to|t => refused
+save|--file|f|--frames|1|--frames|1|--to|t => refused
+save|--file|f|--frames|1|--to|t|--to|t => refused
+save|--file|f|--frames|--to|t => refused
+save|--file|f|--frames| |--to|t => refused
+save|--file|f|--frames|1.0|--to|t => refused
+save|--file|f|--frames=-1|--to|t => refused
+save|--file|f|--frames|-0|--to|t => refused
+save|--file|f|--frames|4294967296|--to|t => refused
+save|--file|f|--client|1|--to|t => refused
+save|--file|f|--frames|1|--to|t|--save|s => refused
+save|--file|f|--frames|1|--to|-t => refused
+saves|--file|f|--frames|1|--to|t => refused
+# `continue`: a save and a replay, each once.
+continue => refused
+continue|--file|f => refused
+continue|--save|s => refused
+continue|--save|s|f => refused
+continue|--save=s|--map|m => refused
+continue|k|--save=s|--file|f|--save=s => refused
+continue|--save|s|--file|f|--file|f => refused
+continue|--save|s|--file|f|--map|m|--map|m => refused
+continue|--save|--file|f => refused
+continue|--save|s|--file|f|--to|t => refused
+continue|--save|s|--file|f|--frames|1 => refused
+# `view`: a replay and a client, each once.
+view => refused
+view|--file|f => refused
+view|--file|f|--map=m => refused
+view|k|--client|65537 => refused
+view|--file|f|0 => refused
+view|--file|f|--client => refused
+view|--file|f|--client|0|--client|0 => refused
+view|--file|f|--client|0|--file|f => refused
+view|--file|f|--client|1e1 => refused
+view|--file=f|k|--client=1.0 => refused
+view|--client=-1|--map|m|--file|f => refused
+view|--client=4294967296|--file|f => refused
+view|--client=18446744073709551616|--file|f => refused
+view|--file|f|--client|0|--frames|1 => refused
+# `worlds`: a replay, and each number at most once; worlds are at least one frame apart.
+worlds => refused
+worlds|f => refused
+worlds|--from|0|--to|1|--every|1 => refused
+worlds|--file|f|--file|f => refused
+worlds|--file|f|--from|1|--from|1 => refused
+worlds|--file|f|--to|1|--to|1 => refused
+worlds|--file|f|--every|1|--every|1 => refused
+worlds|--file|f|--every|0 => refused
+worlds|--file|f|--every=-0 => refused
+worlds|--file|f|--every|+00 => refused
+worlds|--file|f|--every|4294967296 => refused
+worlds|--file|f|--from|4294967296 => refused
+worlds|--file|f|--from=-1 => refused
+worlds|--file|f|--to|4294967296 => refused
+worlds|--file|f|--to=-1 => refused
+worlds|--file|f|--to|end => refused
+worlds|--file|f|--to => refused
+worlds|--file|f|--every= => refused
+worlds|--file|f|--frames|1 => refused
+world|--file|f => refused
+# There are no such commands and no such option.
+compare|--file|f|--with|g => refused
+datagrams|--script|s => refused
+local|--script|s|--bots|1 => refused
+## Words that save a replay, go on from a save or show worlds, with the request that they name.
+save|--file|f|--frames|1|--to|t => save 1 to <t> <f>
+save|--to=t|--frames=0|--file=f => save 0 to <t> <f>
+save|--file|f|--frames|+7|--to|f => save 7 to <f> <f>
+save|--file|f|--frames=-0|--to= => save 0 to <> <f>
+save|--file=|--frames|004294967295|--to|- => save 4294967295 to <-> <>
+save|a|--map=m|--to=--file|b|--frames|256|--file|f|--|--to|c \
+    => save 256 to <--file> <f> map <m> <a> <b> <--to> <c>
+continue|--save|s|--file|f => continue from <s> <f>
+continue|--file=s|--save=f => continue from <f> <s>
+continue|=|k|--save|w|--file=r => continue from <w> <r> <=> <k>
+continue|--save=--file|--file=|a|--map|m|--|--save => continue from <--file> <> map <m> <a> <--save>
+view|--file|f|--client|0 => view 0 <f>
+view|--client=15|--file=f => view 15 <f>
+view|--file|f|--client|+1 => view 1 <f>
+view|--file|f|--client|4294967295 => view 4294967295 <f>
+view|k|--file|f|--map=m|--client|007|l|--|--client => view 7 <f> map <m> <k> <l> <--client>
+worlds|--file|f => worlds 0 end 1 <f>
+worlds|--file=f|--from=0|--every=1 => worlds 0 end 1 <f>
+worlds|--file|f|--to|0 => worlds 0 0 1 <f>
+worlds|--file|f|--from|9|--to|3 => worlds 9 3 1 <f>
+worlds|--file|f|--every|64 => worlds 0 end 64 <f>
+worlds|--every|+0002|--to|+9|--from=-0|--file|f => worlds 0 9 2 <f>
+worlds|--file|f|--from|4294967295|--to|4294967295|--every|4294967295 \
+    => worlds 4294967295 4294967295 4294967295 <f>
+worlds|a|--to=3|--map|m|b|--file=--to|--|--every|0 \
+    => worlds 0 3 1 <--to> map <m> <a> <b> <--every> <0>";
 
 /// Commands, each with the request without a name and with what it begins with before 64 names.
 const COMMANDS_OF_NAMES: &str = "\
@@ -337,7 +437,11 @@ local|--script|s => local <s> => local <s>
 replay|--file|f => replay <f> => replay <f>
 migrate|--file|f|--to|t => migrate to <t> <f> => migrate to <t> <f>
 play|--at|a|--script|s => play at <a> <s> => play at <a> <s>
-serve|--at|a|--clients|2 => serve <a> 2 2 1 => serve <a> 2 2 1";
+serve|--at|a|--clients|2 => serve <a> 2 2 1 => serve <a> 2 2 1
+save|--file|f|--frames|1|--to|t => save 1 to <t> <f> => save 1 to <t> <f>
+continue|--save|s|--file|f => continue from <s> <f> => continue from <s> <f>
+view|--file|f|--client|0 => view 0 <f> => view 0 <f>
+worlds|--file|f => worlds 0 end 1 <f> => worlds 0 end 1 <f>";
 
 const REFUSED: &str = "refused";
 
@@ -409,6 +513,35 @@ fn put_serve(text: &mut String, query: &ServeQuery<'_>) -> Result<(), NoMemory> 
     put_rules(text, query.map_file, &query.rules)
 }
 
+/// Adds a save of a replay, after its number of frames and the file that it is written to.
+fn put_save(
+    text: &mut String,
+    frames: u32,
+    to: &str,
+    query: &MatchQuery<'_>,
+) -> Result<(), NoMemory> {
+    text.push_str("save")?;
+    put_number(text, ' ', frames)?;
+    put_name(text, " to", to)?;
+    put_match(text, "", query)
+}
+
+/// Adds worlds of a replay, after their range.
+fn put_worlds(
+    text: &mut String,
+    range: WorldRange,
+    query: &MatchQuery<'_>,
+) -> Result<(), NoMemory> {
+    text.push_str("worlds")?;
+    put_number(text, ' ', range.from)?;
+    match range.to {
+        Some(to) => put_number(text, ' ', to)?,
+        None => text.push_str(" end")?,
+    }
+    put_number(text, ' ', range.every)?;
+    put_match(text, "", query)
+}
+
 /// Adds a drill, after the file that its replay is written to, if one is named.
 fn put_drill(
     text: &mut String,
@@ -437,6 +570,17 @@ fn put_request(text: &mut String, request: &Request<'_>) -> Result<(), NoMemory>
             put_name(text, "migrate to", to)?;
             put_match(text, "", query)
         }
+        Request::Save { query, frames, to } => put_save(text, *frames, to, query),
+        Request::Continue { query, save } => {
+            put_name(text, "continue from", save)?;
+            put_match(text, "", query)
+        }
+        Request::View { query, client } => {
+            text.push_str("view")?;
+            put_number(text, ' ', *client)?;
+            put_match(text, "", query)
+        }
+        Request::Worlds { query, range } => put_worlds(text, *range, query),
         Request::Make { number } => {
             text.push_str("make")?;
             put_number(text, ' ', *number)

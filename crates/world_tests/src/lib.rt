@@ -19,4 +19,6 @@ mod payments;
 #[cfg(test)]
 mod searches;
 #[cfg(test)]
+mod shrouds;
+#[cfg(test)]
 mod ticks;

@@ -14,6 +14,18 @@ returns-in-Replay g c = rw (c.in-Replay.is) (request_runs _ _ _ _ _ c.run_replay
 pub returns-in-Migrate : goal.returns-in-Migrate
 returns-in-Migrate g c = rw (c.in-Migrate.is) (request_runs _ _ _ _ _ c.run_migrate.ensures)
 
+pub returns-in-Save : goal.returns-in-Save
+returns-in-Save g c = rw (c.in-Save.is) (request_runs _ _ _ _ _ c.run_save.ensures)
+
+pub returns-in-Continue : goal.returns-in-Continue
+returns-in-Continue g c = rw (c.in-Continue.is) (request_runs _ _ _ _ _ c.run_continue.ensures)
+
+pub returns-in-View : goal.returns-in-View
+returns-in-View g c = rw (c.in-View.is) (request_runs _ _ _ _ _ c.run_view.ensures)
+
+pub returns-in-Worlds : goal.returns-in-Worlds
+returns-in-Worlds g c = rw (c.in-Worlds.is) (request_runs _ _ _ _ _ c.run_worlds_query.ensures)
+
 pub returns-in-Yaml : goal.returns-in-Yaml
 returns-in-Yaml g c = rw (c.in-Yaml.is) (request_runs _ _ _ _ _ c.run_yaml.ensures)
 

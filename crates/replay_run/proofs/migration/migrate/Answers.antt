@@ -2,9 +2,10 @@ use Rattle.std.proofs.Common.{rules, refl, ◌∙◌, ◌≡◌}
 use Rattle.std.specs.Prelude.{None}
 use Rattle.replay_file.specs.declared.limits.TheConstants.{VERSION}
 use Rattle.replay_file.specs.ReplayBytes.{header_bytes}
-use Rattle.replay_run.specs.MigratingLemmas.{all_written, written_begins, written_step}
+use Rattle.replay_run.specs.MigratingLemmas.{all_written, difference_found, written_begins}
+use Rattle.replay_run.specs.MigratingLemmas.{written_step}
 use Rattle.replay_run.specs.Rerun.{rerun_over}
-use Rattle.replay_run.specs.RerunLemmas.{IsSoFar, begins, part_step}
+use Rattle.replay_run.specs.RerunLemmas.{IsSoFar, begins, part_step, skips_none}
 use Rattle.replay_run.proofs.migration.migrate.Goals as goal
 
 pub loop-part-init : goal.loop-part-init
@@ -14,9 +15,9 @@ loop-part-init g c =
     rerun_over g.S.Sim.after g.S.Sim.hash_of g.S.FirstHash.first_hash_of g.S.Sim.summary_of
     c.args.world in
     let so_far :
-    IsSoFar run r c.iter-left.result
+    IsSoFar run 0 r c.iter-left.result
     (record { difference = None; frames = 0; world = c.args.world }) =
-    begins _ _ _ _ c.requires.valid c.iter-left.ensures refl refl refl in (
+    begins _ _ _ _ _ c.requires.valid (skips_none _ _ c.iter-left.ensures) refl refl refl in (
       c.requires.clients,
       c.requires.fresh,
       refl,
@@ -36,13 +37,22 @@ loop-part-preserved g c =
       c.pass.ensures.clients ∙ is.0,
       c.pass.ensures.steps is.1,
       none,
-      part_step _ _ _ _ _ _ _ is.3 c.in-Some.ensures c.pass.ensures.value,
+      part_step _ _ _ _ _ _ _ _ is.3 c.in-Some.ensures c.pass.ensures.value,
       written_step run r (header_bytes VERSION r.rules r.seed r.clients) c.in-Some.part
           c.loop-part.left c.next.new.self c.loop-part.run c.pass.new.self c.loop-part.writer
           c.write_anew.new.writer c.loop-part.marks c.in_ok-marks.field-0 is.3 c.in-Some.ensures
           c.pass.ensures.value c.in_ok-marks.ensures.written c.in_ok-marks.ensures.fits
           c.in_ok-marks.ensures.marks is.4,
     )
+
+pub returns-in-Some-difference : goal.returns-in-Some-difference
+returns-in-Some-difference g c =
+    let run =
+    rerun_over g.S.Sim.after g.S.Sim.hash_of g.S.FirstHash.first_hash_of g.S.Sim.summary_of
+    c.args.world in
+    difference_found run c.args.r.now c.next.new.self c.pass.new.self c.in-Some-difference.difference
+    (part_step _ _ _ _ _ _ _ _ c.loop-part.invariant.3 c.in-Some.ensures c.pass.ensures.value)
+    (search rules)
 
 pub returns : goal.returns
 returns g c =

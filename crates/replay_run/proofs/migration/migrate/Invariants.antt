@@ -16,7 +16,7 @@ invariant-loop-part g l =
     × IsSoFar
     (rerun_over g.S.Sim.after g.S.Sim.hash_of g.S.FirstHash.first_hash_of g.S.Sim.summary_of
     l.fn.world)
-    l.r l.left l.run
+    0 l.r l.left l.run
     × IsWritten
     (rerun_over g.S.Sim.after g.S.Sim.hash_of g.S.FirstHash.first_hash_of g.S.Sim.summary_of
     l.fn.world)

@@ -1,0 +1,9 @@
+pub mod BodyAgainLemmas
+pub mod ClientLemmas
+pub mod CrewLemmas
+pub mod EachLemmas
+pub mod JoinLemmas
+pub mod LengthLemmas
+pub mod OreLemmas
+pub mod WorldAgainLemmas
+pub mod WritingLemmas

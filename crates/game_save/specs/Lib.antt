@@ -1,0 +1,7 @@
+pub mod Fault
+pub mod Fields
+pub mod Crew
+pub mod ActorReading
+pub mod WorldReading
+pub mod SaveBytes
+pub mod ReadSave

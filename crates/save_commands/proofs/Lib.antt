@@ -1,0 +1,3 @@
+mod ContinueLemmas
+mod GameLemmas
+mod SaveLemmas

@@ -1,0 +1,3 @@
+pub mod SpelledBodyLemmas
+pub mod SpelledLemmas
+pub mod SpelledWorldLemmas

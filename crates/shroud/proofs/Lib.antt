@@ -1,0 +1,6 @@
+mod DiscLemmas
+mod PlaceLemmas
+mod ChangeLemmas
+mod RowLemmas
+mod TallyLemmas
+mod ShownLemmas

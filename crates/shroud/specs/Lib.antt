@@ -1,0 +1,11 @@
+pub mod Explored
+pub mod Grids
+pub mod GridsLemmas
+pub mod Sights
+pub mod ShroudState
+pub mod Laws
+pub mod LawsLemmas
+pub mod Viewers
+pub mod Discs
+pub mod Spots
+pub mod Tally

@@ -1,0 +1,4 @@
+pub mod ViewText
+pub mod ViewTextLemmas
+pub mod Views
+pub mod Watching

@@ -1,0 +1,3 @@
+mod FieldLemmas
+pub mod TellingLemmas
+mod WorldLemmas

@@ -1,0 +1,4 @@
+pub mod Numbers
+pub mod Printing
+pub mod PrintingLemmas
+pub mod WorldText
