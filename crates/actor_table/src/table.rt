@@ -21,12 +21,23 @@ use std::marker::Model;
 use world_units::{CPos, WAngle};
 
 /// The actors of a world, at most [`MAX_ACTORS`], by rising id and by cell. No two hold one cell.
-#[derive(Drop)]
 pub struct ActorTable {
     roster: Roster,
     cells: CellIndex,
     kinds: KindIndex,
     idle: IdleMarks,
+}
+
+// By hand, so that what drops one needs no proof of how its parts are dropped.
+impl Drop for ActorTable {
+    fn drop(self) {
+        let Self {
+            roster: _,
+            cells: _,
+            kinds: _,
+            idle: _,
+        } = self;
+    }
 }
 
 impl Model for ActorTable {

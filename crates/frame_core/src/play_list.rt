@@ -12,10 +12,16 @@ use std::marker::Model;
 
 /// The orders of one client, frame by frame from 0. A play takes 8 bytes, and each of its orders
 /// 12.
-#[derive(Drop)]
 pub struct PlayList {
     parts: Vec<PlayPart>,
     pool: Vec<Order>,
+}
+
+// By hand, so that what drops one needs no proof of how its parts are dropped.
+impl Drop for PlayList {
+    fn drop(self) {
+        let Self { parts: _, pool: _ } = self;
+    }
 }
 
 impl Model for PlayList {

@@ -55,7 +55,7 @@ impl Body {
 }
 
 /// One actor of a world: a unit or a building.
-#[derive(Debug, Drop)]
+#[derive(Debug)]
 pub struct Actor {
     /// Its id, at least 1, which no other actor of the match ever has.
     pub id: u32,
@@ -65,6 +65,18 @@ pub struct Actor {
     pub cell: CPos,
     /// What else it is.
     pub body: Body,
+}
+
+// By hand, so that what drops one needs no proof of how its parts are dropped.
+impl Drop for Actor {
+    fn drop(self) {
+        let Self {
+            id: _,
+            kind: _,
+            cell: _,
+            body: _,
+        } = self;
+    }
 }
 
 impl Actor {

@@ -21,7 +21,6 @@ pub struct Start {
 pub type StartList = List<Start>;
 
 /// A map: its size, its ground, and what stands on it when a match begins.
-#[derive(Drop)]
 pub struct Map {
     /// The number of columns, 1 to [`crate::MAX_SIDE`].
     pub width: u8,
@@ -35,4 +34,18 @@ pub struct Map {
     pub starts: StartList,
     /// The cash of each client at the start, at most [`crate::MAX_CASH`].
     pub cash: u32,
+}
+
+// By hand, so that what drops one needs no proof of how its parts are dropped.
+impl Drop for Map {
+    fn drop(self) {
+        let Self {
+            width: _,
+            height: _,
+            terrain: _,
+            ore: _,
+            starts: _,
+            cash: _,
+        } = self;
+    }
 }

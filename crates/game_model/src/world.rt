@@ -1,5 +1,5 @@
 ghost use Rattle.std.specs.Prelude.{◌≡◌};
-ghost use Rattle.game_model.specs.World.{world_with};
+ghost use Rattle.game_model.specs.World.{head_of, world_with};
 
 use crate::actor::ActorList;
 use crate::ore::Ore;
@@ -31,7 +31,6 @@ pub struct Head {
 }
 
 /// All that a match has brought about so far.
-#[derive(Drop)]
 pub struct World {
     /// The number of turns so far, at most 4,294,967,295.
     pub tick: u32,
@@ -51,6 +50,53 @@ pub struct World {
     pub actors: ActorList,
     /// The ore of each cell.
     pub ore: Ore,
+}
+
+// By hand, so that what drops one needs no proof of how its parts are dropped.
+impl Drop for World {
+    fn drop(self) {
+        let Self {
+            tick: _,
+            seed: _,
+            drawn: _,
+            next_id: _,
+            pace: _,
+            cash: _,
+            gone: _,
+            actors: _,
+            ore: _,
+        } = self;
+    }
+}
+
+impl World {
+    /// All of the world but its actors: the head, and the ore of each cell.
+    pub fn into_head_and_ore(self) -> (Head, Ore)
+        ensures head { result.0 ≡ head_of self }
+        ensures ore { result.1 ≡ self.ore }
+    {
+        let Self {
+            tick,
+            seed,
+            drawn,
+            next_id,
+            pace,
+            cash,
+            gone,
+            actors: _,
+            ore,
+        } = self;
+        let head = Head {
+            tick,
+            seed,
+            drawn,
+            next_id,
+            pace,
+            cash,
+            gone,
+        };
+        (head, ore)
+    }
 }
 
 impl Head {

@@ -14,11 +14,18 @@ use std::marker::Model;
 /// [`MAX_CLIENTS`]. In it a Leave means that the client has departed, at this frame or before it.
 ///
 /// A frame that was cleared is filled again in place, so one frame serves a whole match.
-#[derive(Debug, Drop)]
+#[derive(Debug)]
 pub struct Frame {
     // The first `len` are the frame's. Those after them are left over, for their room.
     held: ArrayVec<Entry, PER_CLIENT_ROOM>,
     len: usize,
+}
+
+// By hand, so that what drops one needs no proof of how its parts are dropped.
+impl Drop for Frame {
+    fn drop(self) {
+        let Self { held: _, len: _ } = self;
+    }
 }
 
 impl Model for Frame {

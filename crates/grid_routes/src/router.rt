@@ -22,11 +22,21 @@ use std::marker::Model;
 use world_units::CPos;
 
 /// Finds routes over maps of one size.
-#[derive(Drop)]
 pub struct Router {
     width: u8,
     height: u8,
     findings: Findings,
+}
+
+// By hand, so that what drops one needs no proof of how its parts are dropped.
+impl Drop for Router {
+    fn drop(self) {
+        let Self {
+            width: _,
+            height: _,
+            findings: _,
+        } = self;
+    }
 }
 
 impl Model for Router {

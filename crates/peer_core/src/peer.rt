@@ -21,7 +21,6 @@ use std::alloc::Global;
 use std::marker::Model;
 
 /// One client of a match, with its own world.
-#[derive(Drop)]
 pub struct Peer<S: Sim> {
     me: u8,
     clients: u8,
@@ -32,6 +31,22 @@ pub struct Peer<S: Sim> {
     // the frame of a tick, filled anew each time, so that its room is made once
     frame: Frame,
     sim: S,
+}
+
+// By hand, so that what drops one needs no proof of how its parts are dropped.
+impl<S: Sim> Drop for Peer<S> {
+    fn drop(self) {
+        let Self {
+            me: _,
+            clients: _,
+            lag: _,
+            entries: _,
+            ticked: _,
+            sealed: _,
+            frame: _,
+            sim: _,
+        } = self;
+    }
 }
 
 impl<S: Sim> Model for Peer<S> {
@@ -145,7 +160,17 @@ impl<S: Sim> Peer<S> {
     pub fn into_sim(self) -> S
         ensures { result ≡ self.world }
     {
-        self.sim
+        let Self {
+            me: _,
+            clients: _,
+            lag: _,
+            entries: _,
+            ticked: _,
+            sealed: _,
+            frame: _,
+            sim,
+        } = self;
+        sim
     }
 
     /// Delivers the agreed entry of client `c`, which is below the number of clients, at frame

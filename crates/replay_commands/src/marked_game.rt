@@ -7,9 +7,15 @@ use std::marker::Model;
 use tick_core::Game;
 
 /// A game with the hash of the first version, that without the pace. Replays are run over it.
-#[derive(Drop)]
 pub struct MarkedGame {
     game: Game,
+}
+
+// By hand, so that what drops one needs no proof of how its parts are dropped.
+impl Drop for MarkedGame {
+    fn drop(self) {
+        let Self { game: _ } = self;
+    }
 }
 
 impl Model for MarkedGame {

@@ -10,11 +10,21 @@ use std::marker::Model;
 
 /// A replay that is played back: the world after the frames so far, one frame at a time. Its marks
 /// are passed over.
-#[derive(Drop)]
 pub struct Playback<'a, S: Sim> {
     left: PartCursor<'a>,
     frames: u32,
     world: S,
+}
+
+// By hand, so that what drops one needs no proof of how its parts are dropped.
+impl<'a, S: Sim> Drop for Playback<'a, S> {
+    fn drop(self) {
+        let Self {
+            left: _,
+            frames: _,
+            world: _,
+        } = self;
+    }
 }
 
 impl<'a, S: Sim> Model for Playback<'a, S> {
@@ -92,7 +102,12 @@ impl<'a, S: Sim> Playback<'a, S> {
         ensures world { result ≡ self.entry.world }
         ensures made { S.steps result ≡ self.entry.frames }
     {
-        self.world
+        let Self {
+            left: _,
+            frames: _,
+            world,
+        } = self;
+        world
     }
 }
 

@@ -14,10 +14,16 @@ use std::marker::Model;
 ///
 /// Rules are always valid: each number of a field is in its range, and each kind that a kind needs
 /// is there.
-#[derive(Drop)]
 pub struct Rules {
     kinds: Vec<Kind>,
     rows: BuildRows,
+}
+
+// By hand, so that what drops one needs no proof of how its parts are dropped.
+impl Drop for Rules {
+    fn drop(self) {
+        let Self { kinds: _, rows: _ } = self;
+    }
 }
 
 impl Model for Rules {
@@ -50,7 +56,8 @@ impl Rules {
         ensures value { result.items ≡ self }
         ensures valid { AreValidRules self }
     {
-        self.kinds
+        let Self { kinds, rows: _ } = self;
+        kinds
     }
 
     /// The kinds by their numbers.

@@ -18,7 +18,6 @@ use std::alloc::Global;
 use std::marker::Model;
 
 /// The server of a match, with its own world.
-#[derive(Drop)]
 pub struct Server<S: Sim> {
     columns: Columns,
     board: Board,
@@ -26,6 +25,19 @@ pub struct Server<S: Sim> {
     // the frame of a tick, filled anew each time, so that its room is made once
     frame: Frame,
     sim: S,
+}
+
+// By hand, so that what drops one needs no proof of how its parts are dropped.
+impl<S: Sim> Drop for Server<S> {
+    fn drop(self) {
+        let Self {
+            columns: _,
+            board: _,
+            ticked: _,
+            frame: _,
+            sim: _,
+        } = self;
+    }
 }
 
 impl<S: Sim> Model for Server<S> {

@@ -1,6 +1,7 @@
 ghost use Rattle.std.specs.Prelude.{◌≡◌, ◌+◌, ◌≤◌, ◌<◌, length, slice_get, IfOk};
 ghost use Rattle.std.specs.Option.{option_copied};
 ghost use Rattle.game_model.specs.Grid.{IsOn};
+ghost use Rattle.game_model.specs.declared.limits.TheConstants.{MAX_ACTORS};
 ghost use Rattle.game_model.specs.ValidMap.{IsSetup};
 ghost use Rattle.game_model.specs.ValidWorld.{IsValidWorld};
 ghost use Rattle.game_model.specs.World.{HasClients, world_with};
@@ -27,10 +28,16 @@ use world_units::CPos;
 
 /// A world of a match with 1 to `MAX_CLIENTS` clients, the rules and the map that it stands on, and
 /// the number of frames that it has been stepped by.
-#[derive(Drop)]
 pub struct Game {
     live: LiveWorld,
     steps: u32,
+}
+
+// By hand, so that what drops one needs no proof of how its parts are dropped.
+impl Drop for Game {
+    fn drop(self) {
+        let Self { live: _, steps: _ } = self;
+    }
 }
 
 impl Model for Game {
@@ -116,9 +123,10 @@ impl Game {
         self.steps
     }
 
-    /// The number of actors.
+    /// The number of actors, at most `MAX_ACTORS`.
     pub fn actor_count(&self) -> usize
-        ensures { result ≡ length self.now.world.actors }
+        ensures count { result ≡ length self.now.world.actors }
+        ensures most { result ≤ MAX_ACTORS }
     {
         let _steps = self.steps;
         self.live.actor_count()

@@ -71,20 +71,13 @@ impl Scene {
         let mut router = Router::create(alloc, width, height)?;
         router.look(&map, &blocks);
         let dice = Twister::at(world.seed, world.drawn);
+        let (head, ore) = world.into_head_and_ore();
         Ok(Scene {
             rules,
             map,
-            head: Head {
-                tick: world.tick,
-                seed: world.seed,
-                drawn: world.drawn,
-                next_id: world.next_id,
-                pace: world.pace,
-                cash: world.cash,
-                gone: world.gone,
-            },
+            head,
             table,
-            ore: world.ore,
+            ore,
             blocks,
             router,
             dice,
