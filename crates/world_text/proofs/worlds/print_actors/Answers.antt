@@ -12,7 +12,7 @@ loop-i-init g c = prints_none _ _
 pub unreachable-requires : goal.unreachable-requires
 unreachable-requires g c =
     is_there c.args.game.now.world.actors c.loop-i.i
-    (omega (arith, c.loop-i-test.true, c.actor_count-i-end.ensures))
+    (omega (arith, c.loop-i-test.true, c.actor_count-i-end.ensures.count))
     (sym c.actor_at.ensures ∙ ap option_copied c.in_default.is)
 
 pub loop-i-preserved : goal.loop-i-preserved
