@@ -87,6 +87,20 @@ pub struct ComparedFiles {
     pub second: Option<Vec<u8>>,
 }
 
+impl ComparedFiles {
+    ghost use Rattle.std.specs.Prelude.{◌≡◌, [], option_map, unwrap_or};
+
+    /// The bytes of the second file, none where it was not read.
+    pub fn second_bytes(&self) -> &[u8]
+        ensures { result.now ≡ unwrap_or (option_map (λ bytes. bytes.items) self.now.second) [] }
+    {
+        match &self.second {
+            Some(bytes) => bytes.as_slice(),
+            None => &[],
+        }
+    }
+}
+
 /// Whether the bytes begin as those of a save, with `LSSV`.
 pub fn begins_save(bytes: &[u8]) -> bool
     ensures { result ≡ begins_save bytes.now }
