@@ -1,5 +1,5 @@
 use Rattle.std.proofs.Common.{ap, arith}
-use Rattle.worlds_command.proofs.ChosenLemmas.{all_printed, at_most_one, begins, few_chosen, next_world}
+use Rattle.worlds_command.proofs.ChosenLemmas.{all_counted, all_printed, at_most_one, begins, few_chosen, next_world}
 use Rattle.worlds_command.proofs.LineLemmas.{failed_prints}
 use Rattle.worlds_command.proofs.frames.print_chosen.Goals as goal
 
@@ -34,4 +34,9 @@ loop-n-preserved g c =
 pub returns-clause-prints : goal.returns-clause-prints
 returns-clause-prints g c =
     all_printed c.args.game c.args.r.now c.args.chosen.now _ _ c.loop-n.n c.loop-n.count _
+    c.loop-n.invariant c.loop-n-test.false
+
+pub returns-clause-counts : goal.returns-clause-counts
+returns-clause-counts g c well =
+    all_counted c.args.game c.args.r.now c.args.chosen.now _ _ c.loop-n.n c.loop-n.count _
     c.loop-n.invariant c.loop-n-test.false
