@@ -1,6 +1,7 @@
 pub mod RequestLemmas
 pub mod FilesLemmas
 pub mod AnswerLemmas
+pub mod ComparedLemmas
 pub mod RefusingLemmas
 pub mod DrillLemmas
 pub mod MadeLemmas

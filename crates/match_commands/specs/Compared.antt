@@ -14,10 +14,17 @@ abbrev pub first_step : (name first : List ℕ) → Step (List ℕ)
 first_step name first =
     if is_too_long first then Err (refusal name 0 (codes "TooLong")) else Ok first
 
+-- The reply to `compare` over the first file's bytes, or the first fault: those of the rules and the
+-- map come before those of the two files.
+abbrev pub compared_over :
+    MatchPlain → (second : List ℕ) → Contents → (first : List ℕ) → Step Reply
+compared_over query second contents first = do
+  made ← standing_step query.rules query.map_file contents
+  compare_step query.file second made.1 made.0 first (unwrap_or contents.replay [])
+
 -- The reply to `compare`, or the first fault: that the first file is too long, where the second was
--- not read, comes before those of the rules and the map, and these before those of the two files.
+-- not read, comes before all others.
 abbrev pub compared_step : MatchPlain → (second : List ℕ) → Contents → Step Reply
 compared_step query second contents = do
   first ← first_step query.file (unwrap_or contents.first [])
-  made ← standing_step query.rules query.map_file contents
-  compare_step query.file second made.1 made.0 first (unwrap_or contents.replay [])
+  compared_over query second contents first

@@ -6,7 +6,7 @@ ghost use Rattle.command_answers.specs.Causes.{causes_of};
 ghost use Rattle.command_answers.specs.Given.{compared_contents};
 ghost use Rattle.command_answers.specs.Environment.{environment};
 ghost use Rattle.command_answers.specs.Stop.{ReturnsStep};
-ghost use Rattle.match_commands.specs.Compared.{compared_step, first_step};
+ghost use Rattle.match_commands.specs.Compared.{compared_over, compared_step, first_step};
 ghost use Rattle.match_commands.specs.Run.{RunsRequest};
 
 use crate::standing::read_standing;
@@ -33,6 +33,32 @@ fn check_first<'a>(name: &'a str, first: &[u8]) -> Result<(), Stop<'a>>
     }
 }
 
+/// The answer to `compare` with the file of this name, where the first has no more bytes than it may
+/// have.
+fn answer_over<'a>(
+    alloc: Global,
+    query: &MatchQuery<'a>,
+    second: &'a str,
+    given: &ComparedFiles,
+) -> Result<Answer<'a>, Stop<'a>>
+    requires { length given.now.files.rules.items ≤ MAX_FILES }
+    ensures { ReturnsStep result reply_of
+        (compared_over (plain_match query.now) second.now (compared_contents given.now)
+        given.now.first.items) }
+{
+    let names = query.rules.as_slice();
+    let (maker, number) = read_standing(alloc, names, query.map_file, &given.files)?;
+    compare_answer(
+        alloc,
+        query.file,
+        second,
+        number,
+        &maker,
+        &given.first,
+        given.second_bytes(),
+    )
+}
+
 /// The answer to `compare` with the file of this name.
 fn answer_compare<'a>(
     alloc: Global,
@@ -45,17 +71,7 @@ fn answer_compare<'a>(
         (compared_step (plain_match query.now) second.now (compared_contents given.now)) }
 {
     check_first(query.file, &given.first)?;
-    let names = query.rules.as_slice();
-    let (maker, number) = read_standing(alloc, names, query.map_file, &given.files)?;
-    compare_answer(
-        alloc,
-        query.file,
-        second,
-        number,
-        &maker,
-        &given.first,
-        given.second_bytes(),
-    )
+    answer_over(alloc, query, second, given)
 }
 
 /// The command `compare`: reads rule files, a map for them, if one is named, and two saves or two
