@@ -1,6 +1,6 @@
 -- The answer of a command that may write a file.
 use Rattle.std.proofs.Common.{◌≡◌, ◌≤◌, ◌⊎◌, ℕ, Bool, true, false, List, Option, None, Some, Result, Ok, Err, IsSome, [], codes, refl, sym, subst, inl, inr, ◌∙◌}
-use Rattle.std.specs.Prelude.{unwrap_or, if◌then◌else◌, nat_lt}
+use Rattle.std.specs.Prelude.{◌==◌, unwrap_or, if◌then◌else◌, nat_lt, length}
 use Rattle.base.specs.Steps.{◌>>=◌}
 use Rattle.command_words.specs.RequestPlain.{MatchPlain, RangePlain}
 use Rattle.game_io.specs.DiskState.{DiskState}
@@ -10,9 +10,10 @@ use Rattle.replay_file.specs.declared.replay.Replay.{Replay}
 use Rattle.replay_file.specs.declared.replay_fault.ReplayFault.{ReplayFault}
 use Rattle.replay_file.specs.Fault.{cause_of, place_of}
 use Rattle.replay_file.specs.Reading.{read_of}
-use Rattle.replay_run.specs.declared.difference.Difference.{Difference}
+use Rattle.replay_run.specs.declared.difference.Difference as mark
 use Rattle.replay_run.specs.Rerun.{difference_of}
 use Rattle.command_answers.specs.declared.answer.Answer.{Answer}
+use Rattle.command_answers.specs.declared.statuses.TheConstants.{DONE, MARK_DIFFERS}
 use Rattle.command_answers.specs.declared.stop.Stop.{Stop}
 use Rattle.command_answers.specs.Answer.{reply_of}
 use Rattle.command_answers.specs.Causes.{causes_of}
@@ -25,7 +26,12 @@ use Rattle.command_answers.specs.Printing.{MayPrintReply}
 use Rattle.command_answers.specs.Reply.{Reply, done, refusal}
 use Rattle.command_answers.specs.Step.{Step, ended, replied}
 use Rattle.command_answers.specs.Stop.{ReturnsStep}
+use Rattle.command_answers.specs.WantedFiles.{begins_save}
 use Rattle.command_answers.specs.Writing.{AnswersReply, PrintsAnswer}
+use Rattle.compare_command.specs.Comparing.{compared_reply, saves_step, replays_step}
+use Rattle.compare_command.specs.Difference.{Difference}
+use Rattle.compare_command.specs.Replays.{replay_differences}
+use Rattle.compare_command.specs.Saves.{save_differences}
 use Rattle.command_answers.specs.WritingLemmas.{answered_since}
 use Rattle.replay_commands.specs.Refusals.{read_step}
 use Rattle.replay_commands.specs.Replays.{game_rerun, mark_status, migrated_reply, migrate_reply, replay_reply, replayed_reply}
@@ -35,6 +41,7 @@ use Rattle.game_save.specs.ReadSave.{read_save_of}
 use Rattle.save_commands.specs.Refusals.{of_match, read_save_step, with_frames}
 use Rattle.save_commands.specs.Saves.{resumed_rerun, save_bytes_at, saved_reply}
 use Rattle.tick_core.specs.Game.{GameState}
+use Rattle.match_commands.specs.Compared.{compared_step, first_step}
 use Rattle.match_commands.specs.Replayed.{migrated_step, replayed_step, standing_step}
 use Rattle.match_commands.specs.Saves.{continued_step, saved_step}
 use Rattle.match_commands.specs.Views.{viewed_step}
@@ -131,7 +138,7 @@ answer_printed written (Err stop) step status d d1 d' s s' same later fits retur
 
 -- ---- the commands on replays
 
-pub status_settled : (difference : Option Difference) → IsSettled (mark_status difference)
+pub status_settled : (difference : Option mark.Difference) → IsSettled (mark_status difference)
 status_settled None = done_settled
 status_settled (Some d) = mark_settled
 
@@ -141,7 +148,7 @@ marks_fit given = record { settled = status_settled given.difference; named = in
 pub replay_fits : (setup : Setup) (r : Replay) → Fits None (replay_reply setup r)
 replay_fits setup r = record { settled = status_settled (difference_of (game_rerun setup r) r); named = inl refl }
 
-migrated_fits : (setup : Setup) (to : List ℕ) (r : Replay) (difference : Option Difference) → Fits (Some to) (migrated_reply setup to r difference)
+migrated_fits : (setup : Setup) (to : List ℕ) (r : Replay) (difference : Option mark.Difference) → Fits (Some to) (migrated_reply setup to r difference)
 migrated_fits setup to r None = record { settled = done_settled; named = inr refl }
 migrated_fits setup to r (Some d) = record { settled = mark_settled; named = inl refl }
 
@@ -172,12 +179,37 @@ saved_fits query frames to contents =
 pub continued_fits : (query : MatchPlain) (save : List ℕ) (contents : Contents) → AllFit None (continued_step query save contents)
 continued_fits query save contents =
     bind_fits None (standing_step query.rules query.map_file contents) _ (λ made.
-    bind_fits None (read_save_step save (read_save_of made.1 made.0 (unwrap_or contents.save []))) _ (λ saved.
+    bind_fits None (read_save_step save (read_save_of made.1 made.0 (unwrap_or contents.first []))) _ (λ saved.
     bind_fits None (read_step query.file (read_of made.1 (unwrap_or contents.replay []))) _ (λ r.
     bind_fits None (of_match query.file saved r) _ (λ same.
     bind_fits None (with_frames query.file saved.frames same) _ (λ long.
     ok_fits None (replayed_reply (replayed_from (resumed_rerun made.0 saved) saved.frames long))
     (marks_fit (replayed_from (resumed_rerun made.0 saved) saved.frames long)))))))
+
+-- ---- `compare`
+
+compared_settled : (none : Bool) → IsSettled (if none then DONE else MARK_DIFFERS)
+compared_settled true = done_settled
+compared_settled false = mark_settled
+
+compared_reply_fits : (differences : List Difference) → AllFit None (Ok (compared_reply differences))
+compared_reply_fits differences =
+    ok_fits None (compared_reply differences) (record { settled = compared_settled (length differences == 0); named = inl refl })
+
+pub compared_fits : (query : MatchPlain) (second : List ℕ) (contents : Contents) → AllFit None (compared_step query second contents)
+compared_fits query second contents =
+    bind_fits None (first_step query.file (unwrap_or contents.first [])) _ (λ first.
+    bind_fits None (standing_step query.rules query.map_file contents) _ (λ made.
+    both_kinds first (unwrap_or contents.replay []) made.1 made.0 (begins_save first)))
+  where
+    both_kinds : (bytes others : List ℕ) (rules : ℕ) (setup : Setup) (saves : Bool)
+        → AllFit None (if saves then saves_step query.file second rules setup bytes others else replays_step query.file second rules bytes others)
+    both_kinds bytes others rules setup true =
+        bind_fits None (read_save_step query.file (read_save_of rules setup bytes)) _ (λ a.
+        bind_fits None (read_save_step second (read_save_of rules setup others)) _ (λ b. compared_reply_fits (save_differences a b)))
+    both_kinds bytes others rules setup false =
+        bind_fits None (read_step query.file (read_of rules bytes)) _ (λ r.
+        bind_fits None (read_step second (read_of rules others)) _ (λ s. compared_reply_fits (replay_differences r s)))
 
 -- ---- `view`
 

@@ -19,7 +19,7 @@ use Rattle.match_commands.proofs.RequestLemmas.{Printed, request_given, request_
 
 -- The contents of no files.
 abbrev pub no_contents : Contents
-no_contents = record { rules = []; map_file = None; save = None; script = None; replay = None }
+no_contents = record { rules = []; map_file = None; first = None; script = None; replay = None }
 
 -- The files were read, and the answer to their contents was printed.
 pub all_given :
@@ -65,7 +65,7 @@ nothing_read request text step status d s s' wants later' returns answers prints
       told (Some files) = refl
 
       untold : (o : Option Files) → IfNone o (AreContents no_files no_contents)
-      untold None = record { rules = tt; map_file = tt; save = tt; script = tt; replay = tt }
+      untold None = record { rules = tt; map_file = tt; first = tt; script = tt; replay = tt }
       untold (Some files) = tt
 
 -- One of them was not.

@@ -61,7 +61,7 @@ continues_so :
     Accepts query contents made r → AcceptsSave save contents made saved → answer_of (Continue query save) contents ≡ fitted query made.0 saved r
 continues_so query save contents made saved r accepts save_accepts =
     then_is _ made _ accepts.stands
-    ∙ then_is (read_save_step save (read_save_of made.1 made.0 (unwrap_or contents.save []))) saved _ save_accepts
+    ∙ then_is (read_save_step save (read_save_of made.1 made.0 (unwrap_or contents.first []))) saved _ save_accepts
     ∙ then_is (read_step query.file (read_of made.1 (unwrap_or contents.replay []))) r _ accepts.reads
 
 -- The test of a match, by its two parts.

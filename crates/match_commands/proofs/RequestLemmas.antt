@@ -172,7 +172,7 @@ abbrev pub rules_alone : List (List ℕ) → WantedFiles
 rules_alone names = record no_files { rules = map rule_file names }
 
 abbrev pub rule_contents : List (List ℕ) → Contents
-rule_contents rules = record { rules = rules; map_file = None; save = None; script = None; replay = None }
+rule_contents rules = record { rules = rules; map_file = None; first = None; script = None; replay = None }
 
 rules_in_order : (names : List (List ℕ)) → in_order (rules_alone names) ≡ map rule_file names
 rules_in_order names = append-nil (map rule_file names)
@@ -189,7 +189,7 @@ pub rules_untold :
     IfNone o (AreWithinLimits (map rule_file names) contents) →
     IfNone o (AreContents (rules_alone names) (rule_contents contents))
 rules_untold names contents o =
-    map_none o (λ given. record { rules = given; map_file = tt; save = tt; script = tt; replay = tt })
+    map_none o (λ given. record { rules = given; map_file = tt; first = tt; script = tt; replay = tt })
 
 rules_stop :
     (names : List (List ℕ)) (stop : Stop) (files : Files) (R : Type 0) →

@@ -1,12 +1,13 @@
 -- A whole run: from the request that the words name, or that they name none.
-use Rattle.std.specs.Prelude.{option_and_then, unwrap_or, if◌then◌else◌, nat_lt}
+use Rattle.std.specs.Prelude.{◌==◌, option_and_then, unwrap_or, if◌then◌else◌, nat_lt, length}
 use Rattle.std.proofs.Common.{◌≡◌, ◌⊎◌, ℕ, Bool, true, false, List, [], Option, None, Some, Ok, Err, IsOk, IfSome, IfNone, ◌≢◌, refl, sym, subst, inl, inr, arith}
-use Rattle.command_words.specs.RequestPlain.{RequestPlain, MatchPlain, Drill, Yaml, Check, Route, Make, Local, Serve, Play, Replay, Migrate, Save, Continue, View, Worlds}
+use Rattle.command_words.specs.RequestPlain.{RequestPlain, MatchPlain, Drill, Yaml, Check, Route, Make, Local, Serve, Play, Replay, Migrate, Save, Continue, View, Worlds, Compare}
 use Rattle.game_io.specs.Files.{Files}
 use Rattle.command_answers.specs.declared.statuses.TheConstants.{DONE, REFUSED_FILE, FAULT_READ, FAULT_WRITE, OUT_OF_MEMORY, MARK_DIFFERS}
 use Rattle.base.specs.Steps.{◌>>=◌}
 use Rattle.command_answers.specs.Step.{Step, replied}
 use Rattle.command_answers.specs.Contents.{Contents, contents_of}
+use Rattle.command_answers.specs.WantedFiles.{begins_save}
 use Rattle.rule_commands.specs.RuleFiles.{yaml_step}
 use Rattle.rule_commands.specs.Checks.{check_step}
 use Rattle.rule_commands.specs.Routes.{route_step}
@@ -20,13 +21,18 @@ use Rattle.match_commands.specs.Replayed.{standing_step}
 use Rattle.game_model.specs.Setup.{Setup}
 use Rattle.replay_file.specs.declared.replay.Replay as file
 use Rattle.replay_file.specs.Reading.{read_of}
-use Rattle.replay_run.specs.declared.difference.Difference.{Difference}
+use Rattle.replay_run.specs.declared.difference.Difference as mark
 use Rattle.replay_run.specs.Rerun.{difference_of, replayed_from}
 use Rattle.replay_commands.specs.Refusals.{read_step}
 use Rattle.game_save.specs.ReadSave.{read_save_of}
 use Rattle.save_commands.specs.Refusals.{of_match, read_save_step, with_frames}
 use Rattle.save_commands.specs.Saves.{resumed_rerun}
+use Rattle.match_commands.specs.Compared.{first_step}
 use Rattle.match_commands.specs.Worlds.{told_worlds}
+use Rattle.compare_command.specs.Comparing.{compare_step, compared_reply, saves_step, replays_step}
+use Rattle.compare_command.specs.Difference.{Difference}
+use Rattle.compare_command.specs.Replays.{replay_differences}
+use Rattle.compare_command.specs.Saves.{save_differences}
 use Rattle.view_command.specs.Views.{no_such_client, view_text}
 use Rattle.replay_commands.specs.Replays.{game_rerun, mark_status, migrated_reply}
 use Rattle.command_answers.specs.Reply.{Reply, done, read_fault}
@@ -52,11 +58,11 @@ replayed_done (Err reply) next Done follows ok = absurd cc
 abbrev IsReplayDone : ℕ → Type 0
 IsReplayDone status = (status ≡ DONE) ⊎ (status ≡ MARK_DIFFERS)
 
-mark_done : (difference : Option Difference) → IsReplayDone (mark_status difference)
+mark_done : (difference : Option mark.Difference) → IsReplayDone (mark_status difference)
 mark_done None = inl refl
 mark_done (Some d) = inr refl
 
-migrate_done : (setup : Setup) (to : List ℕ) (r : file.Replay) (difference : Option Difference) → IsReplayDone (migrated_reply setup to r difference).status
+migrate_done : (setup : Setup) (to : List ℕ) (r : file.Replay) (difference : Option mark.Difference) → IsReplayDone (migrated_reply setup to r difference).status
 migrate_done setup to r None = inl refl
 migrate_done setup to r (Some d) = inr refl
 
@@ -74,6 +80,31 @@ client_done :
     (replied (if is then Ok (done (view_text setup r client)) else Err no_such_client)).status ≡ DONE
 client_done setup r client true ok = refl
 client_done setup r client false ok = absurd cc
+
+-- The status of `compare`.
+compared_done : (differences : List Difference) → IsReplayDone (compared_reply differences).status
+compared_done differences = go (length differences == 0)
+  where
+    go : (none : Bool) → IsReplayDone (if none then DONE else MARK_DIFFERS)
+    go true = inl refl
+    go false = inr refl
+
+compare_done :
+    (first second : List ℕ) (rules : ℕ) (setup : Setup) (others bytes : List ℕ) →
+    IsOk (compare_step first second rules setup bytes others) → IsReplayDone (replied (compare_step first second rules setup bytes others)).status
+compare_done first second rules setup others bytes = go (begins_save bytes)
+  where
+    go : (saves : Bool)
+        → IsOk (if saves then saves_step first second rules setup bytes others else replays_step first second rules bytes others)
+        → IsReplayDone (replied (if saves then saves_step first second rules setup bytes others else replays_step first second rules bytes others)).status
+    go true ok =
+        replayed_done (read_save_step first (read_save_of rules setup bytes)) _ IsReplayDone
+        (λ a. replayed_done (read_save_step second (read_save_of rules setup others)) _ IsReplayDone
+        (λ b ok. compared_done (save_differences a b))) ok
+    go false ok =
+        replayed_done (read_step first (read_of rules bytes)) _ IsReplayDone
+        (λ r. replayed_done (read_step second (read_of rules others)) _ IsReplayDone
+        (λ s ok. compared_done (replay_differences r s))) ok
 
 given_done :
     (request : RequestPlain) (contents : Contents) → IsOk (answer_of request contents) → IsDone request (given_reply request contents).status
@@ -99,7 +130,7 @@ given_done (Save query frames to) contents ok =
     (λ r. replayed_done (with_frames query.file frames r) _ (λ status. status ≡ DONE) (λ long ok. refl))) ok
 given_done (Continue query save) contents ok =
     replayed_done (standing_step query.rules query.map_file contents) _ IsReplayDone
-    (λ made. replayed_done (read_save_step save (read_save_of made.1 made.0 (unwrap_or contents.save []))) _ IsReplayDone
+    (λ made. replayed_done (read_save_step save (read_save_of made.1 made.0 (unwrap_or contents.first []))) _ IsReplayDone
     (λ saved. replayed_done (read_step query.file (read_of made.1 (unwrap_or contents.replay []))) _ IsReplayDone
     (λ r. replayed_done (of_match query.file saved r) _ IsReplayDone
     (λ same. replayed_done (with_frames query.file saved.frames same) _ IsReplayDone
@@ -109,6 +140,10 @@ given_done (View query client) contents ok =
     (λ made. replayed_done (read_step query.file (read_of made.1 (unwrap_or contents.replay []))) _ (λ status. status ≡ DONE)
     (λ r ok. client_done made.0 r client (nat_lt client r.clients) ok)) ok
 given_done (Worlds query range) contents ok = text_done (told_worlds query range contents) ok
+given_done (Compare query second) contents ok =
+    replayed_done (first_step query.file (unwrap_or contents.first [])) _ IsReplayDone
+    (λ first. replayed_done (standing_step query.rules query.map_file contents) _ IsReplayDone
+    (λ made. compare_done query.file second made.1 made.0 (unwrap_or contents.replay []) first)) ok
 
 read_done :
     (request : RequestPlain) (step : Step Contents) → IsOk (step >>= answer_of request) → IsDone request (replied (step >>= answer_of request)).status
@@ -190,6 +225,7 @@ request_sound (Save query frames to) status causes old new runs = tt
 request_sound (Continue query save) status causes old new runs = tt
 request_sound (View query client) status causes old new runs = tt
 request_sound (Worlds query range) status causes old new runs = tt
+request_sound (Compare query second) status causes old new runs = tt
 
 -- The words name a request, which was run.
 pub request_runs :

@@ -10,7 +10,7 @@ use Rattle.game_io.specs.Files.{Files}
 use Rattle.game_io.specs.NetState.{NetState}
 use Rattle.game_io.specs.SinkState.{SinkState}
 use Rattle.game_io.specs.SourceState.{SourceState}
-use Rattle.command_words.specs.RequestPlain.{RequestPlain, ServePlain, Drill, Yaml, Check, Route, Make, Local, Serve, Play, Replay, Migrate, Save, Continue, View, Worlds}
+use Rattle.command_words.specs.RequestPlain.{RequestPlain, ServePlain, Drill, Yaml, Check, Route, Make, Local, Serve, Play, Replay, Migrate, Save, Continue, View, Worlds, Compare}
 use Rattle.command_answers.specs.declared.statuses.TheConstants.{OUT_OF_MEMORY}
 use Rattle.command_answers.specs.declared.stop.Stop.{Stop}
 use Rattle.command_answers.specs.declared.stop.Stop.TheVariants.{NoMemory}
@@ -123,6 +123,7 @@ request_waits (Save query frames to) d s net console = none_waits d s net consol
 request_waits (Continue query save) d s net console = none_waits d s net console
 request_waits (View query client) d s net console = none_waits d s net console
 request_waits (Worlds query range) d s net console = none_waits d s net console
+request_waits (Compare query second) d s net console = none_waits d s net console
 request_waits (Serve query) d s net console =
     let all = rules_and_map query.rules query.map_file in
     let old = with_links d s net console in

@@ -6,6 +6,7 @@ pub mod Replayed
 pub mod Saves
 pub mod Views
 pub mod Worlds
+pub mod Compared
 pub mod Request
 pub mod Refusing
 pub mod Run

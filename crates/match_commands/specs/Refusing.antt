@@ -24,7 +24,7 @@ pub record Accepts (query : MatchPlain) (contents : Contents) (made : Setup × �
 -- So is the save of this name, which is read before the replay.
 abbrev pub AcceptsSave : (save : List ℕ) → Contents → Setup × ℕ → Saved → Type 0
 AcceptsSave save contents made saved =
-    read_save_step save (read_save_of made.1 made.0 (unwrap_or contents.save [])) ≡ Ok saved
+    read_save_step save (read_save_of made.1 made.0 (unwrap_or contents.first [])) ≡ Ok saved
 
 -- The step is refused with this reply exactly where this is so.
 pub record IsRefusedWhere (so : Type 0) (step : Step Reply) (reply : Reply) : Type 0 where

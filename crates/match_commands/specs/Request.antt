@@ -4,16 +4,17 @@ use Rattle.base.specs.Steps.{◌>>=◌}
 use Rattle.game_io.specs.Files.{Files}
 use Rattle.command_words.specs.RequestPlain.{RequestPlain, Drill, Yaml, Check, Route, Make}
 use Rattle.command_words.specs.RequestPlain.{Local, Serve, Play, Replay, Migrate, Save}
-use Rattle.command_words.specs.RequestPlain.{Continue, View, Worlds}
+use Rattle.command_words.specs.RequestPlain.{Continue, View, Worlds, Compare}
 use Rattle.command_answers.specs.Reply.{Reply, done}
 use Rattle.command_answers.specs.Step.{Step, replied}
 use Rattle.command_answers.specs.WantedFiles.{WantedFiles, no_files, rule_file}
 use Rattle.command_answers.specs.WantedFiles.{rules_and_map, with_save, with_script}
-use Rattle.command_answers.specs.WantedFiles.{with_replay}
+use Rattle.command_answers.specs.WantedFiles.{with_replay, with_compared}
 use Rattle.command_answers.specs.Contents.{Contents, contents_of}
 use Rattle.rule_commands.specs.RuleFiles.{yaml_step}
 use Rattle.rule_commands.specs.Checks.{check_step}
 use Rattle.rule_commands.specs.Routes.{route_step}
+use Rattle.match_commands.specs.Compared.{compared_step}
 use Rattle.match_commands.specs.Drills.{drill_step}
 use Rattle.match_commands.specs.Locals.{local_match_step}
 use Rattle.match_commands.specs.Made.{make_step}
@@ -41,6 +42,8 @@ wanted (Continue query save) =
     with_replay query.file (with_save save (rules_and_map query.rules query.map_file))
 wanted (View query client) = with_replay query.file (rules_and_map query.rules query.map_file)
 wanted (Worlds query range) = with_replay query.file (rules_and_map query.rules query.map_file)
+wanted (Compare query second) =
+    with_compared query.file second (rules_and_map query.rules query.map_file)
 
 -- The file that a request names to be written, if it names one.
 abbrev pub written_by : RequestPlain → Option (List ℕ)
@@ -58,13 +61,14 @@ written_by (Save query frames to) = Some to
 written_by (Continue query save) = None
 written_by (View query client) = None
 written_by (Worlds query range) = None
+written_by (Compare query second) = None
 
 -- The reply of a command that prints a text alone, or its refusal.
 abbrev pub text_reply : Step (List ℕ) → Step Reply
 text_reply step = step >>= λ text. Ok (done text)
 
--- The reply of a command whose files have these contents, or its refusal. A map, a save, a script
--- and a replay are there wherever one is wanted. The replies of `serve` and `play` are none of files
+-- The reply of a command whose files have these contents, or its refusal. A map, a first
+-- file, a script and a replay are there wherever one is wanted. The replies of `serve` and `play` are none of files
 -- alone (`specs/Waiting.antt`): nothing here is said of them.
 abbrev pub answer_of : RequestPlain → Contents → Step Reply
 answer_of (Drill query record_file) contents = drill_step query record_file contents
@@ -81,6 +85,7 @@ answer_of (Save query frames to) contents = saved_step query frames to contents
 answer_of (Continue query save) contents = continued_step query save contents
 answer_of (View query client) contents = viewed_step query client contents
 answer_of (Worlds query range) contents = text_reply (told_worlds query range contents)
+answer_of (Compare query second) contents = compared_step query second contents
 
 -- The answer to a request whose files have these contents.
 abbrev pub given_reply : RequestPlain → Contents → Reply

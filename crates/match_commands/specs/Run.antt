@@ -1,6 +1,7 @@
 -- A run of the program: what it answers, prints and leaves, by its causes.
 use Rattle.std.specs.Prelude.{◌≡◌, ◌≢◌, ℕ, ◌⊎◌, Option, None, IfSome, IfNone, option_and_then}
 use Rattle.command_words.specs.RequestPlain.{RequestPlain, Make, Replay, Migrate, Continue}
+use Rattle.command_words.specs.RequestPlain.{Compare}
 use Rattle.game_io.specs.Files.{Files}
 use Rattle.command_answers.specs.declared.statuses.TheConstants.{DONE, REFUSED_WORDS, REFUSED_FILE}
 use Rattle.command_answers.specs.declared.statuses.TheConstants.{FAULT_READ, FAULT_WRITE}
@@ -45,12 +46,13 @@ IsUntoldAnswer request status causes old new =
     ⊎ ((status ≡ OUT_OF_MEMORY) × IsUnchanged old new))
 
 -- The status where nothing fails, the files are without a fault and nothing is refused. Which of
--- the two a command on a replay answers, the reply tells: 7 exactly where a mark that it compares
--- differs.
+-- two a command answers, the reply tells: on a replay 7 exactly where a mark that it compares
+-- differs, of `compare` exactly where there is a difference.
 abbrev pub IsDone : RequestPlain → ℕ → Type 0
 IsDone (Replay query) status = (status ≡ DONE) ⊎ (status ≡ MARK_DIFFERS)
 IsDone (Migrate query to) status = (status ≡ DONE) ⊎ (status ≡ MARK_DIFFERS)
 IsDone (Continue query save) status = (status ≡ DONE) ⊎ (status ≡ MARK_DIFFERS)
+IsDone (Compare query second) status = (status ≡ DONE) ⊎ (status ≡ MARK_DIFFERS)
 IsDone request status = status ≡ DONE
 
 -- `make` is not refused for a fault: it reads no files, and those that are built in have none.
@@ -84,7 +86,7 @@ pub record Runs
   pub untold :
       IfSome request (λ request.
       IfNone old.disk.files (IsUntoldAnswer request status causes old new))
-  -- Status 0, 7 of a command on a replay, or 6: where the files are there and without a fault,
+  -- Status 0, 7 of a command that has it, or 6: where the files are there and without a fault,
   -- nothing is refused, and nothing failed in the run.
   pub complete :
       IsQuiet causes →

@@ -20,5 +20,5 @@ saved_step query frames to contents = do
 abbrev pub continued_step : MatchPlain → (save : List ℕ) → Contents → Step Reply
 continued_step query save contents = do
   made ← standing_step query.rules query.map_file contents
-  continue_step save query.file made.1 made.0 (unwrap_or contents.save [])
+  continue_step save query.file made.1 made.0 (unwrap_or contents.first [])
       (unwrap_or contents.replay [])

@@ -9,6 +9,7 @@ ghost use Rattle.match_commands.specs.Request.{written_by};
 ghost use Rattle.match_commands.specs.Run.{Runs, RunsRequest};
 ghost use Rattle.match_commands.specs.TopCalls.{returning, returning_request};
 
+use crate::comparing::run_compare;
 use crate::making::make_text;
 use crate::preparing::{prepare_drill, prepare_recorded};
 use crate::recording::record_drill;
@@ -41,7 +42,7 @@ use std::alloc::Global;
 /// - 5, a write failed: a count of faults rose, and a prefix of the text was written;
 /// - 6, out of memory, and a prefix of the text was written;
 /// - 7, of `replay`, `migrate` and `continue`: a mark that they compare differs from the hash of the
-///   world after its frames, and exactly the text was written.
+///   world after its frames; of `compare`: its two files differ; and exactly the text was written.
 ///
 /// The file that `drill --record`, `migrate` or `save` names is written after the text. At 5 it
 /// holds what it held, nothing, or a prefix of its bytes; at every other status but 0 it is as it
@@ -84,6 +85,7 @@ fn run_request<D: Disk, K: Sink>(
         Request::Continue { query, save } => run_continue(alloc, query, save, disk, out),
         Request::View { query, client } => run_view(alloc, query, *client, disk, out),
         Request::Worlds { query, range } => run_worlds_query(alloc, query, *range, disk, out),
+        Request::Compare { query, second } => run_compare(alloc, query, second, disk, out),
         Request::Local(_) | Request::Serve(_) | Request::Play { .. } => refuse_words(out),
     }
 }

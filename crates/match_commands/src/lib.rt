@@ -9,6 +9,7 @@
 #![tactic(auto)]
 
 mod command;
+mod comparing;
 mod hosting;
 mod linking;
 mod making;

@@ -11,8 +11,8 @@ ghost use Rattle.match_commands.specs.Saves.{continued_step, saved_step};
 
 use crate::standing::read_standing;
 use command_answers::{
-    Answer, GivenFiles, LimitedFile, MAX_SAVE_BYTES, PairedFiles, PlayedFile, Stop, print_answer,
-    print_stop, read_paired_files, read_played_files,
+    Answer, GivenFiles, PairedFiles, PlayedFile, Stop, print_answer, print_stop, read_paired_files,
+    read_played_files,
 };
 use command_words::{MAX_FILES, MatchQuery};
 use game_io::{Disk, Sink};
@@ -55,8 +55,8 @@ fn answer_continue<'a>(
         query.file,
         number,
         &maker,
-        &given.first,
-        &given.second,
+        &given.save,
+        &given.replay,
     )
 }
 
@@ -109,11 +109,7 @@ pub(crate) fn run_continue<D: Disk, K: Sink>(
         (causes_of None old new) old new }
 {
     let names = query.rules.as_slice();
-    let first = LimitedFile {
-        name: save,
-        limit: MAX_SAVE_BYTES,
-    };
-    match read_paired_files(alloc, disk, names, query.map_file, first, query.file) {
+    match read_paired_files(alloc, disk, names, query.map_file, save, query.file) {
         Ok(given) => {
             let answer = answer_continue(alloc, query, save, &given);
             print_answer(alloc, disk, answer, out)

@@ -142,7 +142,8 @@ fn run_request<
         | Request::Save { .. }
         | Request::Continue { .. }
         | Request::View { .. }
-        | Request::Worlds { .. } => refuse_words(out),
+        | Request::Worlds { .. }
+        | Request::Compare { .. } => refuse_words(out),
     }
 }
 

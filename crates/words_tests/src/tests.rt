@@ -327,7 +327,7 @@ play|--at|a|--script|s|--map|m => play at <a> <s> map <m>
 play|r|--at=--map|q|--map|m|--script|s|--|--at|a => play at <--map> <s> map <m> <r> <q> <--at> <a>
 play|--at|-|--script|-|play => play at <-> <-> <play>
 play|--at|a|--script|s|serve => play at <a> <s> <serve>
-## Words that would save a replay, go on from a save or show worlds, and that are refused.
+## Words that would save a replay, go on from a save, show worlds or compare, and that are refused.
 # `save`: a replay, a number of frames and a file to write, each once.
 save => refused
 save|--file|f|--frames|1 => refused
@@ -395,11 +395,26 @@ worlds|--file|f|--to => refused
 worlds|--file|f|--every= => refused
 worlds|--file|f|--frames|1 => refused
 world|--file|f => refused
+# `compare`: two files, each once.
+compare => refused
+compare|f|g => refused
+compare|--file|f => refused
+compare|--with|g => refused
+compare|--file|f|g => refused
+compare|--file|f|--with => refused
+compare|--file|--with|g => refused
+compare|--file|f|--with|g|--file|f => refused
+compare|--file|f|--with|g|--with|g => refused
+compare|--file|f|--with|g|--map|m|--map|m => refused
+compare|--file|f|--with|-g => refused
+compare|--file|f|--save|g => refused
+compare|--file|f|--with|g|--to|t => refused
+compares|--file|f|--with|g => refused
 # There are no such commands and no such option.
-compare|--file|f|--with|g => refused
 datagrams|--script|s => refused
 local|--script|s|--bots|1 => refused
-## Words that save a replay, go on from a save or show worlds, with the request that they name.
+## Words that save a replay, go on from a save, show worlds or compare, with the request that they
+## name.
 save|--file|f|--frames|1|--to|t => save 1 to <t> <f>
 save|--to=t|--frames=0|--file=f => save 0 to <t> <f>
 save|--file|f|--frames|+7|--to|f => save 7 to <f> <f>
@@ -425,7 +440,12 @@ worlds|--every|+0002|--to|+9|--from=-0|--file|f => worlds 0 9 2 <f>
 worlds|--file|f|--from|4294967295|--to|4294967295|--every|4294967295 \
     => worlds 4294967295 4294967295 4294967295 <f>
 worlds|a|--to=3|--map|m|b|--file=--to|--|--every|0 \
-    => worlds 0 3 1 <--to> map <m> <a> <b> <--every> <0>";
+    => worlds 0 3 1 <--to> map <m> <a> <b> <--every> <0>
+compare|--file|f|--with|g => compare with <g> <f>
+compare|--with=f|--file=g => compare with <f> <g>
+compare|--file|f|--with|f => compare with <f> <f>
+compare|=|k|--with|b|--file=a => compare with <b> <a> <=> <k>
+compare|--with=--file|--file=|a|--map|m|--|--with => compare with <--file> <> map <m> <a> <--with>";
 
 /// Commands, each with the request without a name and with what it begins with before 64 names.
 const COMMANDS_OF_NAMES: &str = "\
@@ -441,7 +461,8 @@ serve|--at|a|--clients|2 => serve <a> 2 2 1 => serve <a> 2 2 1
 save|--file|f|--frames|1|--to|t => save 1 to <t> <f> => save 1 to <t> <f>
 continue|--save|s|--file|f => continue from <s> <f> => continue from <s> <f>
 view|--file|f|--client|0 => view 0 <f> => view 0 <f>
-worlds|--file|f => worlds 0 end 1 <f> => worlds 0 end 1 <f>";
+worlds|--file|f => worlds 0 end 1 <f> => worlds 0 end 1 <f>
+compare|--file|f|--with|g => compare with <g> <f> => compare with <g> <f>";
 
 const REFUSED: &str = "refused";
 
@@ -581,6 +602,10 @@ fn put_request(text: &mut String, request: &Request<'_>) -> Result<(), NoMemory>
             put_match(text, "", query)
         }
         Request::Worlds { query, range } => put_worlds(text, *range, query),
+        Request::Compare { query, second } => {
+            put_name(text, "compare with", second)?;
+            put_match(text, "", query)
+        }
         Request::Make { number } => {
             text.push_str("make")?;
             put_number(text, ' ', *number)

@@ -26,6 +26,9 @@ returns-in-View g c = rw (c.in-View.is) (request_runs _ _ _ _ _ c.run_view.ensur
 pub returns-in-Worlds : goal.returns-in-Worlds
 returns-in-Worlds g c = rw (c.in-Worlds.is) (request_runs _ _ _ _ _ c.run_worlds_query.ensures)
 
+pub returns-in-Compare : goal.returns-in-Compare
+returns-in-Compare g c = rw (c.in-Compare.is) (request_runs _ _ _ _ _ c.run_compare.ensures)
+
 pub returns-in-Yaml : goal.returns-in-Yaml
 returns-in-Yaml g c = rw (c.in-Yaml.is) (request_runs _ _ _ _ _ c.run_yaml.ensures)
 

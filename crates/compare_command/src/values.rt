@@ -1,0 +1,25 @@
+use activities::Activity;
+use game_model::{Build, Leg};
+use game_orders::Entry;
+use world_units::CPos;
+
+/// Two values of one kind: that of the first file, then that of the second.
+#[derive(Clone, Copy, Debug)]
+pub(crate) enum Values<'a> {
+    /// Two numbers.
+    Numbers(u64, u64),
+    /// Two flags, printed as 1 and 0.
+    Flags(bool, bool),
+    /// Two cells.
+    Cells(CPos, CPos),
+    /// Two legs, or none.
+    Legs(Option<Leg>, Option<Leg>),
+    /// What two actors are to do.
+    Acts(&'a [Activity], &'a [Activity]),
+    /// What two actors are to build.
+    Builds(&'a [Build], &'a [Build]),
+    /// Two entries of a client.
+    Entries(&'a Entry, &'a Entry),
+    /// Two hashes.
+    Hashes(u64, u64),
+}
