@@ -2,6 +2,8 @@ pub mod Comparing
 pub mod Difference
 pub mod Each
 pub mod Found
+pub mod JoinedWords
 pub mod Lines
+pub mod Merging
 pub mod Replays
 pub mod Saves

@@ -8,8 +8,11 @@
 
 mod actors;
 mod comparing;
+mod difference_lines;
 mod entry_words;
 mod found;
+mod items;
+mod joined_words;
 mod replays;
 mod same;
 mod saves;
