@@ -3,5 +3,7 @@ mod FoundLemmas
 mod IdLemmas
 mod ListLemmas
 mod MergeLemmas
+mod ReplayLemmas
+mod ReplyLemmas
 mod SameLemmas
 mod WordLemmas

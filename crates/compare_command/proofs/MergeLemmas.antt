@@ -1,5 +1,5 @@
 -- Two lists of actors that are gone over at once.
-use Rattle.std.specs.Prelude.{◌≡◌, ℕ, ◌+◌, ◌≤◌, ◌<◌, nat_lt, Bool, true, false, List, [], ◌∷◌, ◌++◌}
+use Rattle.std.specs.Prelude.{◌≡◌, ℕ, zero, suc, ◌+◌, ◌≤◌, ◌<◌, nat_lt, Bool, true, false, List, [], ◌∷◌, ◌++◌}
 use Rattle.std.specs.Prelude.{drop, length, slice_get, Option, Some, None, if◌then◌else◌}
 use Rattle.std.proofs.Common.{refl, sym, ap, ap₂, ◌∙◌, arith}
 use Rattle.std.proofs.lemmas.Option.{slice_get_past, slice_get_within}
@@ -122,3 +122,12 @@ takes_next actors others i j (Some p) (Some q) taken here there is within beside
       beside = omega (arith, is_within others j q there);
       some = omega arith;
     }
+
+-- One of the lists has an actor left.
+pub some_left :
+    {X : Type 0} (items : List X) (i : ℕ) (p : Option X) → i < length items →
+    p ≡ slice_get items i → p ≡ None → ⊥
+some_left [] i p within here none = absurd (omega (arith, within))
+some_left (x ∷ items) zero p within here none = absurd cc
+some_left (x ∷ items) (suc i) p within here none =
+    some_left items i p (omega (arith, within)) here none

@@ -7,3 +7,4 @@ pub mod Lines
 pub mod Merging
 pub mod Replays
 pub mod Saves
+pub mod Walking

@@ -1,5 +1,5 @@
 //! The differences of two saves.
-ghost use Rattle.std.specs.Prelude.{◌≡◌, ◌<◌, ◌%◌, ◌/◌, length, Some, OnOk};
+ghost use Rattle.std.specs.Prelude.{◌≡◌, ◌<◌, ◌%◌, ◌/◌, length, slice_get, Some, OnOk};
 ghost use Rattle.std.specs.Option.{option_copied};
 ghost use Rattle.compare_command.specs.declared.subject.Subject.TheVariants.{Cash, Gone};
 ghost use Rattle.compare_command.specs.declared.subject.Subject.TheVariants.{Ore as OfOre};
@@ -97,13 +97,24 @@ fn compare_client(found: &mut Found, client: u8, a: &World, b: &World) -> Result
     ensures { OnOk result (found.new ≡ with_found found.old
         (client_differences a.now b.now client)) }
 {
-    let at = usize::from(client);
-    let cash = item_of(a.cash.as_slice(), at);
-    let other_cash = item_of(b.cash.as_slice(), at);
+    let (cash, other_cash) = (cash_of(a, client), cash_of(b, client));
     compare_cash(found, client, cash, other_cash)?;
-    let gone = item_of(a.gone.as_slice(), at);
-    let other_gone = item_of(b.gone.as_slice(), at);
+    let (gone, other_gone) = (gone_of(a, client), gone_of(b, client));
     compare_gone(found, client, gone, other_gone)
+}
+
+/// The cash of a client, if there is such a client.
+fn cash_of(w: &World, client: u8) -> Option<&u32>
+    ensures { option_copied result ≡ slice_get w.now.cash client }
+{
+    item_of(w.cash.as_slice(), usize::from(client))
+}
+
+/// The departure flag of a client, if there is such a client.
+fn gone_of(w: &World, client: u8) -> Option<&bool>
+    ensures { option_copied result ≡ slice_get w.now.gone client }
+{
+    item_of(w.gone.as_slice(), usize::from(client))
 }
 
 /// Finds that of a client's cash, if both have it.
