@@ -3,7 +3,10 @@ mod FoundLemmas
 mod IdLemmas
 mod ListLemmas
 mod MergeLemmas
+mod NoneLemmas
+mod ReplayLawLemmas
 mod ReplayLemmas
 mod ReplyLemmas
 mod SameLemmas
+mod SaveLawLemmas
 mod WordLemmas

@@ -28,6 +28,7 @@ merged_step (p ∷ actors) (q ∷ others) = by_tests (nat_lt p.id q.id) (nat_lt 
   where
     taken : Bool → Bool → ℕ × ℕ
     taken less more = if less then (1, 0) else (if more then (0, 1) else (1, 1))
+
     by_tests : (less more : Bool) →
         (if less then OnlyFirst p.id ∷ merged actors (q ∷ others)
         else (if more then OnlySecond q.id ∷ merged (p ∷ actors) others

@@ -3,6 +3,7 @@ pub mod Difference
 pub mod Each
 pub mod Found
 pub mod JoinedWords
+pub mod Laws
 pub mod Lines
 pub mod Merging
 pub mod Replays

@@ -85,8 +85,14 @@ fn compare_fields(found: &mut Found, p: &Actor, q: &Actor) -> Result<(), NoMemor
     let id = p.id;
     found.compare(Subject::Actor(id, Field::Kind), mid_numbers(p.kind, q.kind))?;
     let (owner, other) = (p.body.owner, q.body.owner);
-    found.compare(Subject::Actor(id, Field::Owner), small_numbers(owner, other))?;
-    found.compare(Subject::Actor(id, Field::Cell), Values::Cells(p.cell, q.cell))?;
+    found.compare(
+        Subject::Actor(id, Field::Owner),
+        small_numbers(owner, other),
+    )?;
+    found.compare(
+        Subject::Actor(id, Field::Cell),
+        Values::Cells(p.cell, q.cell),
+    )?;
     compare_places(found, id, &p.body, &q.body)?;
     compare_counts(found, id, &p.body, &q.body)?;
     compare_plans(found, id, &p.body, &q.body)
@@ -106,7 +112,10 @@ fn compare_places(found: &mut Found, id: u32, p: &Body, q: &Body) -> Result<(), 
         (place_differences id p.now q.now)) }
 {
     let (facing, other) = (p.facing.units(), q.facing.units());
-    found.compare(Subject::Actor(id, Field::Facing), mid_numbers(facing, other))?;
+    found.compare(
+        Subject::Actor(id, Field::Facing),
+        mid_numbers(facing, other),
+    )?;
     found.compare(Subject::Actor(id, Field::Leg), Values::Legs(p.leg, q.leg))
 }
 
@@ -116,9 +125,15 @@ fn compare_counts(found: &mut Found, id: u32, p: &Body, q: &Body) -> Result<(), 
     ensures { OnOk result (found.new ≡ with_found found.old
         (count_differences id p.now q.now)) }
 {
-    found.compare(Subject::Actor(id, Field::Health), numbers(p.health, q.health))?;
+    found.compare(
+        Subject::Actor(id, Field::Health),
+        numbers(p.health, q.health),
+    )?;
     found.compare(Subject::Actor(id, Field::Load), mid_numbers(p.load, q.load))?;
-    found.compare(Subject::Actor(id, Field::Reload), mid_numbers(p.reload, q.reload))
+    found.compare(
+        Subject::Actor(id, Field::Reload),
+        mid_numbers(p.reload, q.reload),
+    )
 }
 
 /// Finds those of what an actor is to do and to build.

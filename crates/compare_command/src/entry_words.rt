@@ -93,9 +93,7 @@ fn add_order(text: &mut String, order: &Order) -> Result<(), NoMemory>
             add_order_with(text, "produce", *actor, u32::from(*kind))
         }
         Order::Cancel { actor } => add_order_of(text, "cancel", *actor),
-        Order::Donate { to, amount } => {
-            add_order_with(text, "donate", u32::from(*to), *amount)
-        }
+        Order::Donate { to, amount } => { add_order_with(text, "donate", u32::from(*to), *amount) }
         Order::Pace { ticks } => add_order_of(text, "pace", u32::from(*ticks)),
     }
 }
@@ -133,12 +131,7 @@ fn add_order_at(
 }
 
 /// Adds an order's word and its two numbers.
-fn add_order_with(
-    text: &mut String,
-    word: &str,
-    first: u32,
-    second: u32,
-) -> Result<(), NoMemory>
+fn add_order_with(text: &mut String, word: &str, first: u32, second: u32) -> Result<(), NoMemory>
     ensures { OnOk result (string_bytes text.new ≡ string_bytes text.old
         ++ ((word.now ++ number_word first) ++ number_word second)) }
 {
@@ -161,9 +154,5 @@ fn add_queued(text: &mut String, word: &str, queued: bool) -> Result<(), NoMemor
         (string_bytes text.new ≡ string_bytes text.old ++ queued_word word.now queued) }
 {
     text.push_str(word)?;
-    if queued {
-        write!(text, "+")
-    } else {
-        Ok(())
-    }
+    if queued { write!(text, "+") } else { Ok(()) }
 }

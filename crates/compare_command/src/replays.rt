@@ -59,12 +59,7 @@ fn compare_matches(
 
 /// Finds those of the least of so many frames that differs, where both have as many clients.
 #[tactic(auto, using(crate::proofs::FoundLemmas::found_steps))]
-fn compare_entries(
-    found: &mut Found,
-    count: u32,
-    r: &Replay,
-    s: &Replay,
-) -> Result<(), NoMemory>
+fn compare_entries(found: &mut Found, count: u32, r: &Replay, s: &Replay) -> Result<(), NoMemory>
     ensures { OnOk result (found.new ≡ with_found found.old
         (entries_to count r.now s.now)) }
 {

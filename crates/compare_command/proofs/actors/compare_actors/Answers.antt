@@ -14,7 +14,7 @@ loop-i-preserved c =
     let some : option_copied c.item_of.result ≡ None →
     option_copied c.item_of-in-loop-i.result ≡ None → ⊥ =
     elim c.if-i-actors.branch [
-      then-i-actors w ↦ λ none none'. some_left actors c.loop-i.i _ w.if-i-actors.true c.item_of.ensures none
+      | then-i-actors w ↦ λ none none'. some_left actors c.loop-i.i _ w.if-i-actors.true c.item_of.ensures none
       | else-i-actors+then-j-others w ↦ λ none none'. some_left others c.loop-i.j _ w.if-j-others.true c.item_of-in-loop-i.ensures none'
     ] in
     let took =
