@@ -4,7 +4,7 @@ use game_orders::Entry;
 use world_units::CPos;
 
 /// Two values of one kind: that of the first file, then that of the second.
-#[derive(Clone, Copy, Debug)]
+#[derive(Clone, Copy)]
 pub(crate) enum Values<'a> {
     /// Two numbers.
     Numbers(u64, u64),
