@@ -205,11 +205,18 @@ class Pages:
             file.write(source)
         river = os.path.join(there, RIVER)
         saved = subprocess.run(['/bin/bash', '-c', THERE], cwd=river, stdin=subprocess.DEVNULL, stdout=subprocess.PIPE)
-        self.tally.same(f'docs/DESYNC.md: {THERE}: status', saved.returncode, 0)
+        lines = lines_of('docs/DESYNC.md')
+        shown = block_after(lines, dict(commands_of(lines))[THERE])
+        self.lines('docs/DESYNC.md', THERE, Ran(saved.returncode, saved.stdout), 0, shown)
         with open(os.path.join(river, 'there.save'), 'rb') as new, open(os.path.join(TOP, RIVER, 'there.save'), 'rb') as old:
             self.tally.same('docs/DESYNC.md: there.save', old.read(), new.read())
+        before = THERE.replace('269', '268').replace('there', 'before')
+        ran, here = run('/bin/bash', ['-c', before], river), self.bash(before, RIVER)
+        self.tally.same('docs/DESYNC.md: the save before', ran, here)
+        with open(os.path.join(river, 'before.save'), 'rb') as new, open(os.path.join(self.top, RIVER, 'before.save'), 'rb') as old:
+            self.tally.same('docs/DESYNC.md: before.save', new.read(), old.read())
         ran = run('/bin/bash', ['-c', '../../lockstep replay --file river.replay --map map rules.yaml'], river)
-        told = re.search(r'its first line is `(mark [^`]+)`', ' '.join(lines_of('docs/DESYNC.md')))
+        told = re.search(r'its first line is `(mark [^`]+)`', ' '.join(lines))
         holds = told and ran.status == 7 and ran.out.startswith(f'{told[1]}\n'.encode())
         self.tally.check('docs/DESYNC.md: the mark of the other machine', holds, ran)
 
