@@ -74,18 +74,18 @@ cell_found width place cells others bales other now new here there found =
 -- A client.
 pub client_found :
     {T E : Type 0} (result : Result T E) (a b : World) (client : ℕ) (cash cash' : Option ℕ)
-    (gone gone' : Option Bool) (old mid new : FoundState) → cash ≡ slice_get a.cash client →
-    cash' ≡ slice_get b.cash client → gone ≡ slice_get a.gone client →
-    gone' ≡ slice_get b.gone client →
+    (flag flag' : Option Bool) (old mid new : FoundState) → cash ≡ slice_get a.cash client →
+    cash' ≡ slice_get b.cash client → flag ≡ slice_get a.gone client →
+    flag' ≡ slice_get b.gone client →
     mid ≡ with_found old (compared_if (Cash client) Numbers cash cash') →
-    OnOk result (new ≡ with_found mid (compared_if (Gone client) Flags gone gone')) →
+    OnOk result (new ≡ with_found mid (compared_if (Gone client) Flags flag flag')) →
     OnOk result (new ≡ with_found old (client_differences a b client))
-client_found (Ok done) a b client cash cash' gone gone' old mid new one two three four first last =
+client_found (Ok done) a b client cash cash' flag flag' old mid new one two three four first last =
     then_found old mid new (compared_if (Cash client) Numbers (slice_get a.cash client)
     (slice_get b.cash client)) (compared_if (Gone client) Flags (slice_get a.gone client)
     (slice_get b.gone client))
     (first ∙ ap₂ (λ (c d : Option ℕ). with_found old (compared_if (Cash client) Numbers c d)) one two)
     (last ∙ ap₂ (λ (c d : Option Bool). with_found mid (compared_if (Gone client) Flags c d)) three
     four)
-client_found (Err fault) a b client cash cash' gone gone' old mid new one two three four first last =
+client_found (Err fault) a b client cash cash' flag flag' old mid new one two three four first last =
     tt

@@ -9,4 +9,5 @@ mod ReplayLemmas
 mod ReplyLemmas
 mod SameLemmas
 mod SaveLawLemmas
+mod TrueLemmas
 mod WordLemmas

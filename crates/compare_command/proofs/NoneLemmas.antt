@@ -17,20 +17,10 @@ use Rattle.compare_command.specs.Difference.{Difference, Values, Differs, Number
 use Rattle.compare_command.specs.Difference.{Legs, Acts, Builds, Entries, Hashes, are_same, compared}
 use Rattle.compare_command.specs.Difference.{compared_if, same_build, same_builds, same_flag}
 use Rattle.compare_command.specs.Difference.{same_leg}
-use Rattle.compare_command.specs.Each.{each, least}
+use Rattle.compare_command.specs.Each.{each}
+use Rattle.compare_command.specs.Laws.{AreEqual}
 
 -- ---- values that are the same are equal
-
--- The two values are equal.
-abbrev pub AreEqual : Values → Type 0
-AreEqual (Numbers a b) = a ≡ b
-AreEqual (Flags a b) = a ≡ b
-AreEqual (Cells a b) = a ≡ b
-AreEqual (Legs a b) = a ≡ b
-AreEqual (Acts a b) = a ≡ b
-AreEqual (Builds a b) = a ≡ b
-AreEqual (Entries a b) = a ≡ b
-AreEqual (Hashes a b) = a ≡ b
 
 flag_decides : (a b : Bool) → Decides (same_flag a b) (a ≡ b)
 flag_decides true true = ((λ same. refl), (λ same. refl))
@@ -67,7 +57,7 @@ build_decides a b =
       (λ same. both.1 (ap (λ (l : Build). l.kind) same, ap (λ (l : Build). l.left) same)),
     )
 
-same_decides : (v : Values) → Decides (are_same v) (AreEqual v)
+pub same_decides : (v : Values) → Decides (are_same v) (AreEqual v)
 unfolding are_same
 same_decides (Numbers a b) = Decides-eqb a b
 same_decides (Flags a b) = flag_decides a b

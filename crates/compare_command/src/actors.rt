@@ -1,7 +1,6 @@
 //! The differences of the actors of two saves.
 ghost use Rattle.std.specs.Prelude.{◌≡◌, Some, IfOk, OnOk};
 ghost use Rattle.std.specs.Option.{option_copied};
-ghost use Rattle.compare_command.specs.Difference.{Numbers, values_of};
 ghost use Rattle.compare_command.specs.Found.{with_found};
 ghost use Rattle.compare_command.specs.Merging.{merged, next_differences, next_taken};
 ghost use Rattle.compare_command.specs.Saves.{count_differences, field_differences};
@@ -9,9 +8,8 @@ ghost use Rattle.compare_command.specs.Saves.{place_differences, plan_difference
 
 use crate::found::Found;
 use crate::items::item_of;
-use crate::saves::{numbers, small_numbers};
 use crate::subject::{Field, Subject};
-use crate::values::Values;
+use crate::values::{Values, mid_numbers, numbers, small_numbers};
 use base::NoMemory;
 use game_model::{Actor, Body};
 
@@ -96,13 +94,6 @@ fn compare_fields(found: &mut Found, p: &Actor, q: &Actor) -> Result<(), NoMemor
     compare_places(found, id, &p.body, &q.body)?;
     compare_counts(found, id, &p.body, &q.body)?;
     compare_plans(found, id, &p.body, &q.body)
-}
-
-/// Two numbers.
-fn mid_numbers(a: u16, b: u16) -> Values<'static>
-    ensures { values_of result ≡ Numbers a b }
-{
-    Values::Numbers(u64::from(a), u64::from(b))
 }
 
 /// Finds those of an actor's facing and leg.

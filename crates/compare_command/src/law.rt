@@ -1,5 +1,7 @@
 ghost use Rattle.std.specs.Prelude.{◌≡◌, []};
-ghost use Rattle.compare_command.specs.Laws.{AreOfLeastFrame, AreOneMatch};
+ghost use Rattle.std.specs.List.{AllByRecursion};
+ghost use Rattle.compare_command.specs.Laws.{AreOfLeastFrame, AreOneMatch, IsTrueOfReplays};
+ghost use Rattle.compare_command.specs.Laws.{IsTrueOfSaves};
 ghost use Rattle.compare_command.specs.Replays.{entries_differences, replay_differences};
 ghost use Rattle.compare_command.specs.Saves.{save_differences};
 ghost use Rattle.game_model.specs.Setup.{Setup};
@@ -15,6 +17,15 @@ pub fn equal_saves_have_no_difference()
         IsSavedWorld setup b.frames b.world → save_differences a b ≡ [] → a ≡ b }
     ensures none { (setup : Setup) (a b : Saved) → IsSavedWorld setup a.frames a.world →
         a ≡ b → save_differences a b ≡ [] }
+{}
+
+/// A law of the lines of two files: each is true of them. What it prints are the values that the two
+/// have there, and they are not equal; and an actor that one file alone is said to have is in that
+/// one alone. The call does nothing.
+pub fn each_line_is_true()
+    ensures saves { (a b : Saved) → AllByRecursion (IsTrueOfSaves a b) (save_differences a b) }
+    ensures replays { (r s : Replay) →
+        AllByRecursion (IsTrueOfReplays r s) (replay_differences r s) }
 {}
 
 /// A law of replays: two have no difference exactly where they have the same seed, clients and

@@ -7,7 +7,8 @@
 //!
 //! Laws (`src/law.rt`) say that two saves have no difference exactly where they are equal, and two
 //! replays exactly where they have the same seed, clients and frames and no marks that differ; and
-//! that the differing entries are those of the first frame that differs.
+//! that the differing entries are those of the first frame that differs, and each line is true of
+//! the two files.
 #![tactic(auto)]
 
 mod actors;
@@ -28,6 +29,6 @@ mod words;
 
 pub use comparing::compare_answer;
 pub use law::{
-    equal_saves_have_no_difference, replays_of_one_match_have_no_difference,
+    each_line_is_true, equal_saves_have_no_difference, replays_of_one_match_have_no_difference,
     the_least_frame_differs,
 };

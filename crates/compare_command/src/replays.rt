@@ -14,9 +14,8 @@ ghost use Rattle.replay_file.specs.ValidReplay.{IsValidReplay};
 ghost use Rattle.replay_run.specs.Rerun.{frame_count};
 
 use crate::found::Found;
-use crate::saves::{numbers, small_numbers};
 use crate::subject::Subject;
-use crate::values::Values;
+use crate::values::{Values, numbers, small_numbers};
 use crate::walk::{next_frame, next_mark};
 use base::NoMemory;
 use game_orders::{Entry, Frame};

@@ -3,7 +3,7 @@ ghost use Rattle.std.specs.Prelude.{◌≡◌, ◌<◌, ◌%◌, ◌/◌, length
 ghost use Rattle.std.specs.Option.{option_copied};
 ghost use Rattle.compare_command.specs.declared.subject.Subject.TheVariants.{Cash, Gone};
 ghost use Rattle.compare_command.specs.declared.subject.Subject.TheVariants.{Ore as OfOre};
-ghost use Rattle.compare_command.specs.Difference.{Flags, Numbers, compared_if, values_of};
+ghost use Rattle.compare_command.specs.Difference.{Flags, Numbers, compared_if};
 ghost use Rattle.compare_command.specs.Each.{each};
 ghost use Rattle.compare_command.specs.Found.{with_found};
 ghost use Rattle.compare_command.specs.Merging.{HasIds};
@@ -15,7 +15,7 @@ use crate::actors::compare_actors;
 use crate::found::Found;
 use crate::items::item_of;
 use crate::subject::Subject;
-use crate::values::Values;
+use crate::values::{Values, numbers, small_numbers};
 use base::NoMemory;
 use game_model::{Ore, World};
 use game_save::Saved;
@@ -63,20 +63,6 @@ fn compare_counts(found: &mut Found, a: &World, b: &World) -> Result<(), NoMemor
     found.compare(Subject::Pace, small_numbers(a.pace, b.pace))?;
     let (clients, others) = (a.cash.clients(), b.cash.clients());
     found.compare(Subject::Clients, small_numbers(clients, others))
-}
-
-/// Two numbers.
-pub(crate) fn numbers(a: u32, b: u32) -> Values<'static>
-    ensures { values_of result ≡ Numbers a b }
-{
-    Values::Numbers(u64::from(a), u64::from(b))
-}
-
-/// Two numbers.
-pub(crate) fn small_numbers(a: u8, b: u8) -> Values<'static>
-    ensures { values_of result ≡ Numbers a b }
-{
-    Values::Numbers(u64::from(a), u64::from(b))
 }
 
 /// Finds those of all clients that both have.
