@@ -1,7 +1,7 @@
 """The commands of the pages, run as they stand there, each beside the text that its page shows."""
-import os, re, tempfile
+import os, re, shutil, subprocess, tempfile
 
-from harness import TOP, Ran, free_address, run, with_examples
+from harness import TOP, Ran, free_address, lacking, run, with_examples
 
 # How a command begins in a page.
 COMMAND = re.compile(r'^(?:\$ )?((?:\.\./\.\./|\./)?lockstep [^`]*)$')
@@ -10,10 +10,13 @@ COMMAND = re.compile(r'^(?:\$ )?((?:\.\./\.\./|\./)?lockstep [^`]*)$')
 # same block, or in the next one. Of a long text the page shows a part, as the README of the worked schedule's; so what is
 # shown is a piece of what is printed, and `..` in it stands for any lines, or any words.
 DIFFERS = '../../lockstep replay --file differs.replay --map map rules.yaml'
-BATTLE = 'examples/battle'
+BATTLE, RIVER = 'examples/battle', 'examples/river'
 SHOWN = [
     ('README.md', './lockstep drill --script examples/departure.drill', '.', 0),
     ('README.md', f'./lockstep replay --file {BATTLE}/differs.replay --map {BATTLE}/map {BATTLE}/rules.yaml', '.', 7),
+    ('docs/DESYNC.md', '../../lockstep save --file river.replay --frames 269 --to here.save --map map rules.yaml', RIVER, 0),
+    ('docs/DESYNC.md', '../../lockstep compare --file here.save --with there.save --map map rules.yaml', RIVER, 7),
+    ('docs/DESYNC.md', '../../lockstep worlds --file river.replay --from 268 --to 268 --map map rules.yaml', RIVER, 0),
     ('docs/DESYNC.md', '../../lockstep drill --script battle.drill --map map rules.yaml', BATTLE, 0),
     ('docs/DESYNC.md', '../../lockstep replay --file battle.replay --map map rules.yaml', BATTLE, 0),
     ('docs/DESYNC.md', DIFFERS, BATTLE, 7),
@@ -25,6 +28,7 @@ SHOWN = [
     ('docs/FORMATS.md', './lockstep replay --file examples/one_frame.replay --map examples/battle/map examples/battle/rules.yaml', '.', 3),
     ('docs/FORMATS.md', './lockstep save --file examples/one_frame.replay --frames 1 --to one_frame.save', '.', 0),
     ('docs/FORMATS.md', './lockstep continue --save one_frame.save --file examples/one_frame.replay', '.', 0),
+    ('docs/FORMATS.md', './lockstep compare --file examples/battle/battle.replay --with examples/battle/differs.replay --map examples/battle/map examples/battle/rules.yaml', '.', 7),
     ('docs/FORMATS.md', './lockstep view --file examples/scout/scout.replay --client 0 --map examples/scout/map examples/scout/rules.yaml', '.', 0),
     ('docs/LOCKSTEP.md', './lockstep local --script examples/local.script', '.', 0),
     ('docs/MAPS.md', './lockstep check --map examples/maps/sample.map examples/maps/sample.yaml', '.', 0),
@@ -36,8 +40,12 @@ SHOWN = [
     ('docs/RULES.md', 'lockstep yaml base.yaml units.yaml', 'examples/yaml', 0),
 ]
 
+# What DESYNC has another machine do, whose program has another line in this file of the source.
+THERE = '../../lockstep save --file river.replay --frames 269 --to there.save --map map rules.yaml'
+CHANGED = 'crates/combat/src/fields.rt'
+
 # Commands that are run by a function below, and those that stand for others: their words are no files.
-TRIED = {'../../lockstep migrate --file differs.replay --to new.replay --map map rules.yaml',
+TRIED = {THERE, '../../lockstep migrate --file differs.replay --to new.replay --map map rules.yaml',
          '../../lockstep local --script my.script --map ../maps/sample.map ../maps/sample.yaml mod.yaml',
          '../../lockstep serve --at 127.0.0.1:7070 --clients 3 --seed 9 $files </dev/null &',
          '../../lockstep play --at 127.0.0.1:7070 --script drive.script $files & sleep 1',
@@ -172,6 +180,46 @@ class Pages:
         self.tally.same(f'docs/DESYNC.md: {command}', ran, Ran(7, f'{above[0]}\nend\n'.encode()))
         self.tally.check('docs/DESYNC.md: no file', not os.path.exists(f'{self.top}/examples/battle/new.replay'), 'it is there')
 
+    def changed_source(self):
+        """The source that DESYNC changes, with its line as it is and as it is there."""
+        text = ' '.join(lines_of('docs/DESYNC.md'))
+        told = re.search(r'`' + CHANGED + r'` the last line of `is_in_range` is +`([^`]+)`\. .* in which it is +(\S.*?)  ', text)
+        with open(os.path.join(TOP, CHANGED)) as file:
+            source = file.read()
+        holds = told and source.count(told[1]) == 1 and told[1] != told[2]
+        self.tally.check('docs/DESYNC.md: the changed line', holds, f'{CHANGED} has it not, or not once')
+        return source.replace(told[1], told[2]) if holds else None
+
+    def of_changed_program(self):
+        """The other machine of DESYNC: its program is built, in some minutes, and run."""
+        source, there = self.changed_source(), os.path.join(self.top, 'there')
+        if lacking('rt'):
+            self.tally.skip('docs/DESYNC.md: the other machine', 'no rt')
+            return
+        leave = shutil.ignore_patterns('out', 'proofs', 'must-fail', 'data')
+        for part in ('crates', 'tools', 'examples'):
+            shutil.copytree(os.path.join(TOP, part), os.path.join(there, part), ignore=leave)
+        for part in ('crates.txt', 'HANDLES', 'lockstep'):
+            shutil.copy(os.path.join(TOP, part), there)
+        with open(os.path.join(there, CHANGED), 'w') as file:
+            file.write(source)
+        river = os.path.join(there, RIVER)
+        saved = subprocess.run(['/bin/bash', '-c', THERE], cwd=river, stdin=subprocess.DEVNULL, stdout=subprocess.PIPE)
+        lines = lines_of('docs/DESYNC.md')
+        shown = block_after(lines, dict(commands_of(lines))[THERE])
+        self.lines('docs/DESYNC.md', THERE, Ran(saved.returncode, saved.stdout), 0, shown)
+        with open(os.path.join(river, 'there.save'), 'rb') as new, open(os.path.join(TOP, RIVER, 'there.save'), 'rb') as old:
+            self.tally.same('docs/DESYNC.md: there.save', old.read(), new.read())
+        before = THERE.replace('269', '268').replace('there', 'before')
+        ran, here = run('/bin/bash', ['-c', before], river), self.bash(before, RIVER)
+        self.tally.same('docs/DESYNC.md: the save before', ran, here)
+        with open(os.path.join(river, 'before.save'), 'rb') as new, open(os.path.join(self.top, RIVER, 'before.save'), 'rb') as old:
+            self.tally.same('docs/DESYNC.md: before.save', new.read(), old.read())
+        ran = run('/bin/bash', ['-c', '../../lockstep replay --file river.replay --map map rules.yaml'], river)
+        told = re.search(r'its first line is `(mark [^`]+)`', ' '.join(lines))
+        holds = told and ran.status == 7 and ran.out.startswith(f'{told[1]}\n'.encode())
+        self.tally.check('docs/DESYNC.md: the mark of the other machine', holds, ran)
+
     def of_script(self):
         """The script of RULES that builds a scout."""
         lines = lines_of('docs/RULES.md')
@@ -253,7 +301,7 @@ class Pages:
             self.lines(page, 'the match again', self.bash(again, 'examples/links'), 0, [f'{told[1]} ..'])
 
 
-def run_all(tally, program):
+def run_all(tally, program, is_long):
     with tempfile.TemporaryDirectory() as folder:
         it = Pages(tally, program, folder)
         it.of_shown()
@@ -262,6 +310,7 @@ def run_all(tally, program):
         it.of_untried()
         it.of_refused_drill()
         it.of_refused_migration()
+        it.of_changed_program() if is_long else it.changed_source()
         it.of_script()
         it.of_files()
         it.of_bad_maps()

@@ -16,6 +16,8 @@ COMMANDS = {
     'migrate': 'migrate --file one_frame_old.replay --to new',
     'save': 'save --file one_frame.replay --frames 1 --to new',
     'continue': f'continue --save battle/battle.save --file battle/battle.replay {BATTLE}',
+    'compare': f'compare --file battle/battle.save --with battle/battle.save {BATTLE}',
+    'compare replays': f'compare --file battle/battle.replay --with battle/battle.replay {BATTLE}',
     'view': f'view --file scout/scout.replay --client 0 {SCOUT}',
     'worlds': f'worlds --file battle/battle.replay {BATTLE}',
     'local': 'local --script local.script',
@@ -48,6 +50,17 @@ REFUSED = {
     'continue --save one_frame.save --file short': 'short 0 TooFewFrames',
     'continue --save one_frame.save --file other': 'other 0 OtherMatch',
     'continue --save one_frame.save --file other_and_short': 'other_and_short 0 OtherMatch',
+    'compare --file none --with one_frame.replay': 'none 0 Missing',
+    'compare --file one_frame.save --with none': 'none 0 Missing',
+    'compare --file one_frame.replay --with none': 'none 0 Missing',
+    'compare --file empty --with none': 'none 0 Missing',
+    'compare --file empty --with one_frame.save': 'empty 0 BadMagic',
+    'compare --file one_frame.save --with one_frame.replay': 'one_frame.replay 0 BadMagic',
+    'compare --file one_frame.replay --with one_frame.save': 'one_frame.save 0 BadMagic',
+    'compare --file one_frame.save --with one_frame.save maps/sample.yaml mod/slip.yaml': 'mod/slip.yaml 5 NothingToRemove',
+    f'compare --file one_frame.save --with empty {BATTLE}': 'one_frame.save 6 OtherRules',
+    f'compare --file battle/battle.save --with one_frame.save {BATTLE}': 'one_frame.save 6 OtherRules',
+    f'compare --file battle/battle.replay --with one_frame.replay {BATTLE}': 'one_frame.replay 6 OtherRules',
     'view --file none --client 0': 'none 0 Missing',
     'view --file one_frame.replay --client 1': 'view 0 NoSuchClient',
     'worlds --file none': 'none 0 Missing',
@@ -73,7 +86,8 @@ REFUSED = {
 UNREADABLE = ['drill --script UNREAD', 'drill --script one_frame.drill --map UNREAD', 'replay --file UNREAD',
               'migrate --file UNREAD --to new', 'save --file UNREAD --frames 1 --to new',
               'continue --save UNREAD --file one_frame.replay', 'continue --save one_frame.save --file UNREAD',
-              'view --file UNREAD --client 0', 'worlds --file UNREAD', 'local --script UNREAD', 'yaml UNREAD', 'check maps/sample.yaml UNREAD',
+              'compare --file UNREAD --with one_frame.replay', 'compare --file one_frame.replay --with UNREAD',
+              'compare --file one_frame.save --with UNREAD', 'view --file UNREAD --client 0', 'worlds --file UNREAD', 'local --script UNREAD', 'yaml UNREAD', 'check maps/sample.yaml UNREAD',
               'route --map UNREAD --kind unit --from 0,1 --to 2,1 maps/walker.yaml',
               'serve --at 127.0.0.1:1 --clients 1 UNREAD', 'play --at 127.0.0.1:1 --script UNREAD']
 
@@ -81,6 +95,10 @@ UNREADABLE = ['drill --script UNREAD', 'drill --script one_frame.drill --map UNR
 DIFFERING = ['replay --file battle/differs.replay --map battle/map battle/rules.yaml',
              'migrate --file battle/differs.replay --to new --map battle/map battle/rules.yaml',
              f'continue --save battle/battle.save --file battle/differs.replay {BATTLE}']
+
+# Two replays that differ, and how.
+COMPARED = f'compare --file battle/battle.replay --with battle/differs.replay {BATTLE}'
+DIFFERENCES = b'mark 2 e0ea008602e0482f e0ea008602e0482e\ndifferences 1\nend\n'
 
 WORDS_REFUSED = Ran(2, b'refused words\n')
 READ_FAULT = Ran(4, b'fault read\n')
@@ -90,6 +108,8 @@ LONGEST = {'drill --script long': 67_108_864, 'local --script long': 67_108_864,
            'check maps/sample.yaml --map long': 4_194_304, 'replay --file long': 268_435_456,
            'save --file long --frames 1 --to new': 268_435_456, 'continue --save long --file one_frame.replay': 4_194_304,
            'continue --save one_frame.save --file long': 268_435_456, 'view --file long --client 0': 268_435_456,
+           'compare --file long --with one_frame.replay': 268_435_456, 'compare --file one_frame.replay --with long': 268_435_456,
+           'compare --file one_frame.save --with long': 4_194_304,
            'worlds --file long': 268_435_456}
 
 # How much memory the program is given, in kB, from little on.
@@ -156,7 +176,7 @@ class Statuses:
         replay = self.files['one_frame.replay']
         # The seed stands from byte 14 on and the first part at byte 19; a zero byte ends a replay.
         other = replay[:14] + b'\x09' + replay[15:]
-        for name, data in (('short', replay[:19] + b'\0'), ('other', other), ('other_and_short', other[:19] + b'\0')):
+        for name, data in (('short', replay[:19] + b'\0'), ('other', other), ('other_and_short', other[:19] + b'\0'), ('empty', b'')):
             self.add(name, data)
         for words, what in REFUSED.items():
             self.tally.same(words, self.run(words), Ran(3, f'refused {what}\n'.encode()))
@@ -165,6 +185,11 @@ class Statuses:
             with open(long, 'wb') as file:
                 file.truncate(length + 1)
             self.tally.same(f'{words}, {length + 1} bytes', self.run(words), Ran(3, b'refused long 0 TooLong\n'))
+        # What begins as a save may have as many bytes as one. What it is compared with is not read then.
+        with open(long, 'wb') as file:
+            file.write(b'LSSV')
+            file.truncate(4_194_305)
+        self.tally.same('a long save that is compared', self.run('compare --file long --with none'), Ran(3, b'refused long 0 TooLong\n'))
         os.remove(long)
         self.wrote('status 3', {})
 
@@ -187,7 +212,7 @@ class Statuses:
     def of_output(self):
         """Status 5, of each command, also in place of 2, 3, 4 and 7. Then no file is written."""
         rows = {**COMMANDS, 'no command': '', 'a missing file': 'drill --script none', 'a folder': 'drill --script battle',
-                'a differing mark': DIFFERING[0]}
+                'a differing mark': DIFFERING[0], 'files that differ': COMPARED}
         for name, words in rows.items():
             with open('/dev/full', 'wb') as full:
                 self.tally.same(f'{name}: a full device', self.run(words, stdout=full).status, 5)
@@ -229,8 +254,9 @@ class Statuses:
             ran = self.run(words.replace(f'{option} new', f'{option} /dev/null'))
             self.tally.same(f'{name} into /dev/null', ran, self.plain[name])
 
-    def of_marks(self):
-        """Status 7."""
+    def of_differences(self):
+        """Status 7, of a mark and of two files."""
+        self.tally.same(COMPARED, self.run(COMPARED), Ran(7, DIFFERENCES))
         for words in DIFFERING:
             ran = self.run(words)
             start = b'mark 2 file e0ea008602e0482e here e0ea008602e0482f\n'
@@ -289,6 +315,6 @@ def run_all(tally, program):
         else:
             it.of_head()
         it.of_records()
-        it.of_marks()
+        it.of_differences()
         it.of_input()
         it.of_memory()

@@ -11,6 +11,7 @@ use Rattle.replay_commands.specs.Refusals.{read_step}
 use Rattle.replay_file.specs.Reading.{read_of}
 use Rattle.save_commands.specs.Refusals.{read_save_step}
 use Rattle.compare_command.specs.Difference.{Difference}
+use Rattle.compare_command.specs.Found.{FoundState}
 use Rattle.compare_command.specs.Lines.{last_lines, lines_of}
 use Rattle.compare_command.specs.Replays.{replay_differences}
 use Rattle.compare_command.specs.Saves.{save_differences}
@@ -19,13 +20,14 @@ use Rattle.compare_command.specs.Saves.{save_differences}
 abbrev pub status_of : ℕ → ℕ
 status_of count = if count == 0 then DONE else MARK_DIFFERS
 
--- The text of these differences: the line of each, and the last lines.
-abbrev pub compared_text : List Difference → List ℕ
-compared_text differences = lines_of differences ++ last_lines (length differences)
+-- The reply with these lines of so many differences.
+abbrev pub found_reply : FoundState → Reply
+found_reply found = printed (status_of found.count) (found.text ++ last_lines found.count)
 
--- The reply with these differences.
+-- The reply with these differences: the line of each, and the last lines.
 abbrev pub compared_reply : List Difference → Reply
-compared_reply differences = printed (status_of (length differences)) (compared_text differences)
+compared_reply differences =
+    found_reply (record { text = lines_of differences; count = length differences })
 
 -- The reply over the bytes of two saves of files with these names, or the first refusal, of this
 -- setup and with this rules number. All faults of the first file come before those of the second.

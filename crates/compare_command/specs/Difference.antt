@@ -61,6 +61,11 @@ same_leg (Some a) (Some b) = (a.dir == b.dir) && (a.progress == b.progress)
 abbrev pub same_build : Build → Build → Bool
 same_build a b = (a.kind == b.kind) && (a.left == b.left)
 
+-- The second is there and is the same build.
+abbrev pub is_build : Build → Option Build → Bool
+is_build build None = false
+is_build build (Some other) = same_build build other
+
 abbrev pub same_builds : List Build → List Build → Bool
 same_builds = pointwise same_build
 

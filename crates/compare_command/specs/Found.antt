@@ -11,6 +11,10 @@ pub record FoundState : Type 0 where
 abbrev pub nothing_found : FoundState
 nothing_found = record { text = []; count = 0 }
 
+-- After a line was added.
+abbrev pub with_line : FoundState → List ℕ → FoundState
+with_line found line = record { text = found.text ++ line; count = found.count + 1 }
+
 -- After these were found too.
 abbrev pub with_found : FoundState → List Difference → FoundState
 with_found found differences =

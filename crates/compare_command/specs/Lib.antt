@@ -2,6 +2,10 @@ pub mod Comparing
 pub mod Difference
 pub mod Each
 pub mod Found
+pub mod JoinedWords
+pub mod Laws
 pub mod Lines
+pub mod Merging
 pub mod Replays
 pub mod Saves
+pub mod Walking

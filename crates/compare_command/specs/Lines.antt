@@ -11,6 +11,7 @@ use Rattle.drill_words.specs.Text.{orders_words, spaced}
 use Rattle.game_model.specs.declared.builds.Build.{Build}
 use Rattle.game_orders.specs.declared.entry.Entry.{Entry}
 use Rattle.game_orders.specs.declared.entry.Entry.TheVariants.{Play, Leave}
+use Rattle.game_orders.specs.declared.order.Order.{Order}
 use Rattle.world_text.specs.WorldText.{activity_line, leg_text}
 use Rattle.compare_command.specs.declared.subject.Field.{Field}
 use Rattle.compare_command.specs.declared.subject.Field.TheVariants as field
@@ -68,10 +69,14 @@ flag_word false = codes "0"
 unfoldable pub cell_word : CPos → List ℕ
 cell_word cell = decimal cell.x ++ codes "," ++ decimal cell.y
 
+-- A word after a comma.
+abbrev pub comma_word : {T : Type 0} → (T → List ℕ) → T → List ℕ
+comma_word word one = codes "," ++ word one
+
 -- Words with a comma between them.
 abbrev pub comma_words : {T : Type 0} → (T → List ℕ) → List T → List ℕ
 comma_words word [] = codes "-"
-comma_words word (one ∷ more) = word one ++ flat_map (λ next. codes "," ++ word next) more
+comma_words word (one ∷ more) = word one ++ flat_map (comma_word word) more
 
 -- An activity: its line in the text of a world after the word `act`.
 unfoldable pub activity_word : Activity → List ℕ
@@ -81,15 +86,19 @@ activity_word act = joined (drop 4 (activity_line act))
 unfoldable pub build_word : Build → List ℕ
 build_word build = decimal build.kind ++ codes ":" ++ decimal build.left
 
--- What a client did in a frame: its orders as a drill writes them.
+-- Orders as a drill writes them.
+abbrev pub orders_word : List Order → List ℕ
+orders_word [] = codes "-"
+orders_word (order ∷ orders) = joined (spaced (orders_words (order ∷ orders)))
+
+-- What a client did in a frame.
 abbrev pub entry_word : Entry → List ℕ
 entry_word Leave = codes "leave"
-entry_word (Play []) = codes "-"
-entry_word (Play (order ∷ orders)) = joined (spaced (orders_words (order ∷ orders)))
+entry_word (Play orders) = orders_word orders
 
 -- Two words.
 abbrev pub both : (first second : List ℕ) → List ℕ
-both first second = first ++ (codes " " ++ second)
+both first second = first ++ codes " " ++ second
 
 -- Two values.
 unfoldable pub values_words : Values → List ℕ

@@ -40,10 +40,14 @@ differences_in r s n =
 abbrev pub common_frames : Replay → Replay → ℕ
 common_frames r s = min (frame_count r) (frame_count s)
 
--- Those of the least frame that differs, where the two have as many clients.
+-- Those of the least of so many frames that differs, where the two have as many clients.
+abbrev pub entries_to : (count : ℕ) → Replay → Replay → List Difference
+entries_to count r s =
+    if r.clients == s.clients then least (differences_in r s) 0 count else []
+
+-- Those of the least of all frames that both have.
 abbrev pub entries_differences : Replay → Replay → List Difference
-entries_differences r s =
-    if r.clients == s.clients then least (differences_in r s) 0 (common_frames r s) else []
+entries_differences r s = entries_to (common_frames r s) r s
 
 -- The mark with so many frames before it, if there is one.
 abbrev pub mark_at : List Part → (frames : ℕ) → Option ℕ

@@ -2,6 +2,7 @@
 use Rattle.std.specs.Prelude.{ℕ, ◌%◌, ◌/◌, min, max, List, [], ◌∷◌, ◌++◌, length, slice_get}
 use Rattle.std.specs.Prelude.{Option, Some, None}
 use Rattle.game_model.specs.declared.actor.Actor.{Actor}
+use Rattle.game_model.specs.declared.actor.Body.{Body}
 use Rattle.game_model.specs.declared.world.World.{World}
 use Rattle.game_model.specs.Grid.{Grid}
 use Rattle.game_model.specs.World.{actor_of, clients_of}
@@ -14,16 +15,24 @@ use Rattle.compare_command.specs.Difference.{Difference, Numbers, Flags, Cells, 
 use Rattle.compare_command.specs.Difference.{OnlyFirst, OnlySecond, compared, compared_if}
 use Rattle.compare_command.specs.Each.{each}
 
+-- Those of the random words.
+abbrev pub draw_differences : World → World → List Difference
+draw_differences a b =
+    compared Seed (Numbers a.seed b.seed) ++ compared Drawn (Numbers a.drawn b.drawn)
+
+-- Those of the next id, the pace and the number of clients.
+abbrev pub number_differences : World → World → List Difference
+number_differences a b =
+    compared Next (Numbers a.next_id b.next_id)
+    ++ (compared Pace (Numbers a.pace b.pace)
+    ++ compared Clients (Numbers (clients_of a) (clients_of b)))
+
 -- Those of all but clients, actors and ore.
 abbrev pub head_differences : Saved → Saved → List Difference
 head_differences a b =
     compared Frames (Numbers a.frames b.frames)
     ++ (compared Tick (Numbers a.world.tick b.world.tick)
-    ++ (compared Seed (Numbers a.world.seed b.world.seed)
-    ++ (compared Drawn (Numbers a.world.drawn b.world.drawn)
-    ++ (compared Next (Numbers a.world.next_id b.world.next_id)
-    ++ (compared Pace (Numbers a.world.pace b.world.pace)
-    ++ compared Clients (Numbers (clients_of a.world) (clients_of b.world)))))))
+    ++ (draw_differences a.world b.world ++ number_differences a.world b.world))
 
 -- Those of a client, if both have it.
 abbrev pub client_differences : World → World → (client : ℕ) → List Difference
@@ -35,19 +44,33 @@ client_differences a b client =
 abbrev pub clients_differences : World → World → List Difference
 clients_differences a b = each (client_differences a b) 0 (min (clients_of a) (clients_of b))
 
+-- Those of the facing and the leg of the actor of an id.
+abbrev pub place_differences : (id : ℕ) → Body → Body → List Difference
+place_differences id p q =
+    compared (OfActor id field.Facing) (Numbers p.facing q.facing)
+    ++ compared (OfActor id field.Leg) (Legs p.leg q.leg)
+
+-- Those of its health, load and reload.
+abbrev pub count_differences : (id : ℕ) → Body → Body → List Difference
+count_differences id p q =
+    compared (OfActor id field.Health) (Numbers p.health q.health)
+    ++ (compared (OfActor id field.Load) (Numbers p.load q.load)
+    ++ compared (OfActor id field.Reload) (Numbers p.reload q.reload))
+
+-- Those of what it is to do and to build.
+abbrev pub plan_differences : (id : ℕ) → Body → Body → List Difference
+plan_differences id p q =
+    compared (OfActor id field.Acts) (Acts p.acts q.acts)
+    ++ compared (OfActor id field.Builds) (Builds p.builds q.builds)
+
 -- Those of an actor that both have.
 abbrev pub field_differences : Actor → Actor → List Difference
 field_differences p q =
     compared (OfActor p.id field.Kind) (Numbers p.kind q.kind)
     ++ (compared (OfActor p.id field.Owner) (Numbers p.body.owner q.body.owner)
     ++ (compared (OfActor p.id field.Cell) (Cells p.cell q.cell)
-    ++ (compared (OfActor p.id field.Facing) (Numbers p.body.facing q.body.facing)
-    ++ (compared (OfActor p.id field.Leg) (Legs p.body.leg q.body.leg)
-    ++ (compared (OfActor p.id field.Health) (Numbers p.body.health q.body.health)
-    ++ (compared (OfActor p.id field.Load) (Numbers p.body.load q.body.load)
-    ++ (compared (OfActor p.id field.Reload) (Numbers p.body.reload q.body.reload)
-    ++ (compared (OfActor p.id field.Acts) (Acts p.body.acts q.body.acts)
-    ++ compared (OfActor p.id field.Builds) (Builds p.body.builds q.body.builds)))))))))
+    ++ (place_differences p.id p.body q.body
+    ++ (count_differences p.id p.body q.body ++ plan_differences p.id p.body q.body))))
 
 -- Those of what the two have of an id.
 abbrev pub beside : (id : ℕ) → Option Actor → Option Actor → List Difference
@@ -65,15 +88,15 @@ abbrev pub actors_differences : World → World → List Difference
 actors_differences a b =
     each (id_differences a.actors b.actors) 0 (max a.next_id b.next_id)
 
--- Those of the cell at a place of the list of all cells, row by row.
-abbrev pub cell_differences : (ore other : Grid ℕ) → (place : ℕ) → List Difference
-cell_differences ore other place =
-    compared_if (Ore (place % ore.width) (place / ore.width)) Numbers
-    (slice_get ore.cells place) (slice_get other.cells place)
+-- That of the cell at a place of the lists of all cells, row by row, of maps of this width.
+abbrev pub cell_of : (width : ℕ) → (cells others : List ℕ) → (place : ℕ) → List Difference
+cell_of width cells others place =
+    compared_if (Ore (place % width) (place / width)) Numbers
+    (slice_get cells place) (slice_get others place)
 
 -- Those of all cells, row by row.
 abbrev pub ore_differences : (ore other : Grid ℕ) → List Difference
-ore_differences ore other = each (cell_differences ore other) 0 (length ore.cells)
+ore_differences ore other = each (cell_of ore.width ore.cells other.cells) 0 (length ore.cells)
 
 -- Those of two saves over one map.
 abbrev pub save_differences : Saved → Saved → List Difference

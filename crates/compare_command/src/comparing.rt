@@ -1,6 +1,12 @@
+ghost use Rattle.std.specs.Prelude.{◌≡◌, IfOk};
 ghost use Rattle.command_answers.specs.Answer.{reply_of};
 ghost use Rattle.command_answers.specs.Stop.{ReturnsStep};
-ghost use Rattle.compare_command.specs.Comparing.{compare_step};
+ghost use Rattle.compare_command.specs.Comparing.{compare_step, compared_reply, found_reply};
+ghost use Rattle.compare_command.specs.Comparing.{replays_step, saves_step, status_of};
+ghost use Rattle.compare_command.specs.Merging.{HasIds};
+ghost use Rattle.compare_command.specs.Replays.{replay_differences};
+ghost use Rattle.compare_command.specs.Saves.{save_differences};
+ghost use Rattle.replay_file.specs.ValidReplay.{IsValidReplay};
 
 use crate::found::Found;
 use crate::replays::compare_replays;
@@ -39,6 +45,7 @@ pub fn compare_answer<'a>(
 }
 
 /// The answer of two files of saves.
+#[tactic(auto, using(crate::proofs::ReplyLemmas::ids_of))]
 fn compare_save_files<'a>(
     alloc: Global,
     first_name: &'a str,
@@ -47,7 +54,10 @@ fn compare_save_files<'a>(
     maker: &GameMaker,
     first: &[u8],
     second: &[u8],
-) -> Result<Answer<'static>, Stop<'a>> {
+) -> Result<Answer<'static>, Stop<'a>>
+    ensures { ReturnsStep result reply_of
+        (saves_step first_name.now second_name.now rules maker.now first.now second.now) }
+{
     let a = read_save_file(alloc, first_name, rules, maker, first)?;
     let b = read_save_file(alloc, second_name, rules, maker, second)?;
     Ok(answer_saves(alloc, &a, &b)?)
@@ -61,28 +71,45 @@ fn compare_replay_files<'a>(
     rules: u64,
     first: &[u8],
     second: &[u8],
-) -> Result<Answer<'static>, Stop<'a>> {
+) -> Result<Answer<'static>, Stop<'a>>
+    ensures { ReturnsStep result reply_of
+        (replays_step first_name.now second_name.now rules first.now second.now) }
+{
     let r = read_replay_file(alloc, first_name, rules, first)?;
     let s = read_replay_file(alloc, second_name, rules, second)?;
     Ok(answer_replays(alloc, &r, &s)?)
 }
 
 /// The answer of two saves.
-fn answer_saves(alloc: Global, a: &Saved, b: &Saved) -> Result<Answer<'static>, NoMemory> {
+#[tactic(auto, using(crate::proofs::ReplyLemmas::replied))]
+fn answer_saves(alloc: Global, a: &Saved, b: &Saved) -> Result<Answer<'static>, NoMemory>
+    requires first { HasIds a.now.world }
+    requires second { HasIds b.now.world }
+    ensures { IfOk result
+        (λ answer. reply_of answer ≡ compared_reply (save_differences a.now b.now)) }
+{
     let mut found = Found::nothing(alloc);
     compare_saves(&mut found, a, b)?;
     answer_found(found)
 }
 
 /// The answer of two replays.
-fn answer_replays(alloc: Global, r: &Replay, s: &Replay) -> Result<Answer<'static>, NoMemory> {
+#[tactic(auto, using(crate::proofs::ReplyLemmas::replied))]
+fn answer_replays(alloc: Global, r: &Replay, s: &Replay) -> Result<Answer<'static>, NoMemory>
+    requires first { IsValidReplay r.now }
+    requires second { IsValidReplay s.now }
+    ensures { IfOk result
+        (λ answer. reply_of answer ≡ compared_reply (replay_differences r.now s.now)) }
+{
     let mut found = Found::nothing(alloc);
     compare_replays(&mut found, r, s)?;
     answer_found(found)
 }
 
 /// The answer with these differences.
-fn answer_found(found: Found) -> Result<Answer<'static>, NoMemory> {
+fn answer_found(found: Found) -> Result<Answer<'static>, NoMemory>
+    ensures { IfOk result (λ answer. reply_of answer ≡ found_reply found) }
+{
     let status = status_of(found.count());
     let text = found.into_text()?;
     Ok(Answer {
@@ -93,6 +120,8 @@ fn answer_found(found: Found) -> Result<Answer<'static>, NoMemory> {
 }
 
 /// The status with so many differences.
-fn status_of(count: u64) -> u8 {
+fn status_of(count: u64) -> u8
+    ensures { result ≡ status_of count }
+{
     if count == 0 { DONE } else { MARK_DIFFERS }
 }

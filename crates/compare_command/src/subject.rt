@@ -1,5 +1,5 @@
 /// What two files may differ in.
-#[derive(Clone, Copy, Debug)]
+#[derive(Clone, Copy)]
 pub(crate) enum Subject {
     /// The number of frames.
     Frames,
@@ -30,7 +30,7 @@ pub(crate) enum Subject {
 }
 
 /// A field of an actor.
-#[derive(Clone, Copy, Debug)]
+#[derive(Clone, Copy)]
 pub(crate) enum Field {
     /// The number of its kind.
     Kind,

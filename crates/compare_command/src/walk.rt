@@ -1,9 +1,16 @@
 //! The frames and the marks of a replay's parts, taken off one by one.
+ghost use Rattle.std.specs.Prelude.{◌≡◌};
+ghost use Rattle.compare_command.specs.Walking.{first_frame, first_mark};
+ghost use Rattle.replay_run.specs.Playing.{after_frame};
+
 use game_orders::Frame;
 use replay_file::{Part, PartCursor};
 
 /// The next frame, past the marks before it. One without entries where none is left.
-pub(crate) fn next_frame(left: &mut PartCursor<'_>) -> Frame {
+pub(crate) fn next_frame(left: &mut PartCursor<'_>) -> Frame
+    ensures value { result ≡ first_frame left.old }
+    ensures rest { left.new ≡ after_frame left.old }
+{
     while let Some(part) = left.next() {
         if let Part::Frame(frame) = part {
             return frame;
@@ -13,21 +20,18 @@ pub(crate) fn next_frame(left: &mut PartCursor<'_>) -> Frame {
 }
 
 /// The mark before the next frame, past that frame.
-pub(crate) fn next_mark(left: &mut PartCursor<'_>) -> Option<u64> {
-    let mut mark = None;
-    while let Some(part) = left.next() {
-        match part {
-            Part::Frame(_) => return mark,
-            Part::Mark(hash) => mark = first_of(mark, hash),
+pub(crate) fn next_mark(left: &mut PartCursor<'_>) -> Option<u64>
+    ensures value { result ≡ first_mark left.old }
+    ensures rest { left.new ≡ after_frame left.old }
+{
+    let Some(part) = left.next() else {
+        return None;
+    };
+    match part {
+        Part::Frame(_) => None,
+        Part::Mark(hash) => {
+            next_frame(left);
+            Some(hash)
         }
-    }
-    mark
-}
-
-/// The mark that is there, or this one.
-fn first_of(mark: Option<u64>, hash: u64) -> Option<u64> {
-    match mark {
-        Some(mark) => Some(mark),
-        None => Some(hash),
     }
 }

@@ -1,5 +1,17 @@
 //! The lines of differences.
-use crate::entry_words::add_entry;
+ghost use Rattle.std.specs.Prelude.{◌≡◌, ◌++◌, codes, string_bytes, OnOk};
+ghost use Rattle.std.specs.List.{flat_map};
+ghost use Rattle.compare_command.specs.Difference.{Differs, OnlyFirst, OnlySecond, values_of};
+ghost use Rattle.compare_command.specs.Lines.{activity_word, both, build_word, cell_word};
+ghost use Rattle.compare_command.specs.Lines.{comma_word, comma_words, field_word, flag_word, last_lines};
+ghost use Rattle.compare_command.specs.Lines.{line_of, subject_words, values_words};
+ghost use Rattle.compare_command.specs.JoinedWords.{number_word, place_word, timer_word};
+ghost use Rattle.compare_command.specs.JoinedWords.{waits_word};
+ghost use Rattle.drill_words.specs.Hash.{hash_digits};
+ghost use Rattle.world_text.specs.WorldText.{leg_text};
+
+use crate::entry_words::add_entries;
+use crate::joined_words::{add_number, add_place};
 use crate::subject::{Field, Subject};
 use crate::values::Values;
 use activities::Activity;
@@ -10,11 +22,15 @@ use std::fmt::Write;
 use world_units::CPos;
 
 /// Adds the line of two values that differ.
+#[tactic(auto, unfolding(crate::specs::Lines::line_of))]
 pub(crate) fn add_difference(
     text: &mut String,
     of: Subject,
     values: Values<'_>,
-) -> Result<(), NoMemory> {
+) -> Result<(), NoMemory>
+    ensures { OnOk result
+        (string_bytes text.new ≡ string_bytes text.old ++ line_of (Differs of (values_of values.entry))) }
+{
     add_subject(text, of)?;
     write!(text, " ")?;
     add_values(text, values)?;
@@ -22,23 +38,39 @@ pub(crate) fn add_difference(
 }
 
 /// Adds the line of an actor that the first file alone has.
-pub(crate) fn add_only_first(text: &mut String, id: u32) -> Result<(), NoMemory> {
+#[tactic(auto, unfolding(crate::specs::Lines::line_of))]
+pub(crate) fn add_only_first(text: &mut String, id: u32) -> Result<(), NoMemory>
+    ensures { OnOk result
+        (string_bytes text.new ≡ string_bytes text.old ++ line_of (OnlyFirst id)) }
+{
     writeln!(text, "actor {id} only first")
 }
 
 /// Adds the line of an actor that the second file alone has.
-pub(crate) fn add_only_second(text: &mut String, id: u32) -> Result<(), NoMemory> {
+#[tactic(auto, unfolding(crate::specs::Lines::line_of))]
+pub(crate) fn add_only_second(text: &mut String, id: u32) -> Result<(), NoMemory>
+    ensures { OnOk result
+        (string_bytes text.new ≡ string_bytes text.old ++ line_of (OnlySecond id)) }
+{
     writeln!(text, "actor {id} only second")
 }
 
 /// Adds the last lines: how many differences there are, and `end`.
-pub(crate) fn add_last(text: &mut String, count: u64) -> Result<(), NoMemory> {
+#[tactic(auto, unfolding(crate::specs::Lines::last_lines))]
+pub(crate) fn add_last(text: &mut String, count: u64) -> Result<(), NoMemory>
+    ensures { OnOk result
+        (string_bytes text.new ≡ string_bytes text.old ++ last_lines count) }
+{
     writeln!(text, "differences {count}")?;
     add_end_line(text)
 }
 
 /// Adds what differs, in words.
-fn add_subject(text: &mut String, of: Subject) -> Result<(), NoMemory> {
+#[tactic(auto, unfolding(crate::specs::Lines::subject_words))]
+fn add_subject(text: &mut String, of: Subject) -> Result<(), NoMemory>
+    ensures { OnOk result
+        (string_bytes text.new ≡ string_bytes text.old ++ subject_words of) }
+{
     match of {
         Subject::Frames => write!(text, "frames"),
         Subject::Tick => write!(text, "tick"),
@@ -60,7 +92,11 @@ fn add_subject(text: &mut String, of: Subject) -> Result<(), NoMemory> {
 }
 
 /// Adds the word of an actor's field.
-fn add_field(text: &mut String, field: Field) -> Result<(), NoMemory> {
+#[tactic(auto, unfolding(crate::specs::Lines::field_word))]
+fn add_field(text: &mut String, field: Field) -> Result<(), NoMemory>
+    ensures { OnOk result
+        (string_bytes text.new ≡ string_bytes text.old ++ field_word field) }
+{
     match field {
         Field::Kind => write!(text, "kind"),
         Field::Owner => write!(text, "owner"),
@@ -76,7 +112,11 @@ fn add_field(text: &mut String, field: Field) -> Result<(), NoMemory> {
 }
 
 /// Adds two values with a space between them.
-fn add_values(text: &mut String, values: Values<'_>) -> Result<(), NoMemory> {
+#[tactic(auto, unfolding(crate::specs::Lines::values_words))]
+fn add_values(text: &mut String, values: Values<'_>) -> Result<(), NoMemory>
+    ensures { OnOk result
+        (string_bytes text.new ≡ string_bytes text.old ++ values_words (values_of values.entry)) }
+{
     match values {
         Values::Numbers(a, b) => write!(text, "{a} {b}"),
         Values::Flags(a, b) => add_flags(text, a, b),
@@ -84,28 +124,26 @@ fn add_values(text: &mut String, values: Values<'_>) -> Result<(), NoMemory> {
         Values::Legs(a, b) => add_legs(text, a, b),
         Values::Acts(a, b) => add_both_acts(text, a, b),
         Values::Builds(a, b) => add_both_builds(text, a, b),
-        Values::Entries(a, b) => {
-            add_entry(text, a)?;
-            write!(text, " ")?;
-            add_entry(text, b)
-        }
-        Values::Hashes(a, b) => {
-            add_hash(text, a)?;
-            write!(text, " ")?;
-            add_hash(text, b)
-        }
+        Values::Entries(a, b) => add_entries(text, a, b),
+        Values::Hashes(a, b) => add_hashes(text, a, b),
     }
 }
 
 /// Adds two flags.
-fn add_flags(text: &mut String, a: bool, b: bool) -> Result<(), NoMemory> {
+fn add_flags(text: &mut String, a: bool, b: bool) -> Result<(), NoMemory>
+    ensures { OnOk result
+        (string_bytes text.new ≡ string_bytes text.old ++ both (flag_word a) (flag_word b)) }
+{
     add_flag(text, a)?;
     write!(text, " ")?;
     add_flag(text, b)
 }
 
 /// Adds a flag.
-fn add_flag(text: &mut String, flag: bool) -> Result<(), NoMemory> {
+fn add_flag(text: &mut String, flag: bool) -> Result<(), NoMemory>
+    ensures { OnOk result
+        (string_bytes text.new ≡ string_bytes text.old ++ flag_word flag) }
+{
     if flag {
         write!(text, "1")
     } else {
@@ -114,27 +152,40 @@ fn add_flag(text: &mut String, flag: bool) -> Result<(), NoMemory> {
 }
 
 /// Adds two cells.
-fn add_cells(text: &mut String, a: CPos, b: CPos) -> Result<(), NoMemory> {
+fn add_cells(text: &mut String, a: CPos, b: CPos) -> Result<(), NoMemory>
+    ensures { OnOk result
+        (string_bytes text.new ≡ string_bytes text.old ++ both (cell_word a) (cell_word b)) }
+{
     add_cell(text, a)?;
     write!(text, " ")?;
     add_cell(text, b)
 }
 
 /// Adds a cell.
-fn add_cell(text: &mut String, cell: CPos) -> Result<(), NoMemory> {
+#[tactic(auto, unfolding(crate::specs::Lines::cell_word))]
+fn add_cell(text: &mut String, cell: CPos) -> Result<(), NoMemory>
+    ensures { OnOk result
+        (string_bytes text.new ≡ string_bytes text.old ++ cell_word cell) }
+{
     let (x, y) = (cell.x, cell.y);
     write!(text, "{x},{y}")
 }
 
 /// Adds two legs.
-fn add_legs(text: &mut String, a: Option<Leg>, b: Option<Leg>) -> Result<(), NoMemory> {
+fn add_legs(text: &mut String, a: Option<Leg>, b: Option<Leg>) -> Result<(), NoMemory>
+    ensures { OnOk result
+        (string_bytes text.new ≡ string_bytes text.old ++ both (leg_text a) (leg_text b)) }
+{
     add_leg(text, a)?;
     write!(text, " ")?;
     add_leg(text, b)
 }
 
 /// Adds a leg.
-fn add_leg(text: &mut String, leg: Option<Leg>) -> Result<(), NoMemory> {
+fn add_leg(text: &mut String, leg: Option<Leg>) -> Result<(), NoMemory>
+    ensures { OnOk result
+        (string_bytes text.new ≡ string_bytes text.old ++ leg_text leg) }
+{
     match leg {
         Some(leg) => {
             let (dir, progress) = (leg.dir, leg.progress);
@@ -145,19 +196,34 @@ fn add_leg(text: &mut String, leg: Option<Leg>) -> Result<(), NoMemory> {
 }
 
 /// Adds what two actors are to do.
-fn add_both_acts(text: &mut String, a: &[Activity], b: &[Activity]) -> Result<(), NoMemory> {
+fn add_both_acts(text: &mut String, a: &[Activity], b: &[Activity]) -> Result<(), NoMemory>
+    ensures { OnOk result
+        (string_bytes text.new ≡ string_bytes text.old ++ both (comma_words activity_word a.now)
+        (comma_words activity_word b.now)) }
+{
     add_acts(text, a)?;
     write!(text, " ")?;
     add_acts(text, b)
 }
 
 /// Adds what an actor is to do.
-fn add_acts(text: &mut String, acts: &[Activity]) -> Result<(), NoMemory> {
+fn add_acts(text: &mut String, acts: &[Activity]) -> Result<(), NoMemory>
+    ensures { OnOk result
+        (string_bytes text.new ≡ string_bytes text.old ++ comma_words activity_word acts.now) }
+{
     let Some((act, more)) = acts.split_first() else {
         return write!(text, "-");
     };
     add_act(text, act)?;
-    for act in more {
+    add_more_acts(text, more)
+}
+
+/// Adds each activity after a comma.
+fn add_more_acts(text: &mut String, acts: &[Activity]) -> Result<(), NoMemory>
+    ensures { OnOk result (string_bytes text.new
+        ≡ string_bytes text.old ++ flat_map (comma_word activity_word) acts.now) }
+{
+    for act in acts {
         write!(text, ",")?;
         add_act(text, act)?;
     }
@@ -165,38 +231,105 @@ fn add_acts(text: &mut String, acts: &[Activity]) -> Result<(), NoMemory> {
 }
 
 /// Adds an activity.
-fn add_act(text: &mut String, act: &Activity) -> Result<(), NoMemory> {
+#[tactic(auto, using(crate::proofs::WordLemmas::act_words))]
+fn add_act(text: &mut String, act: &Activity) -> Result<(), NoMemory>
+    ensures { OnOk result
+        (string_bytes text.new ≡ string_bytes text.old ++ activity_word act.now) }
+{
     match act {
-        Activity::Move { goal, waits } => {
-            let (x, y) = (goal.x, goal.y);
-            write!(text, "move:{x}:{y}:waits:{waits}")
-        }
-        Activity::Attack { target, waits } => write!(text, "attack:{target}:waits:{waits}"),
+        Activity::Move { goal, waits } => add_move(text, *goal, *waits),
+        Activity::Attack { target, waits } => add_attack(text, *target, *waits),
         Activity::Harvest { cell, timer, waits } => {
-            let (x, y) = (cell.x, cell.y);
-            write!(text, "harvest:{x}:{y}:timer:{timer}:waits:{waits}")
+            add_loading(text, "harvest", *cell, *timer, *waits)
         }
         Activity::Deliver { home, timer, waits } => {
-            let (x, y) = (home.x, home.y);
-            write!(text, "deliver:{x}:{y}:timer:{timer}:waits:{waits}")
+            add_loading(text, "deliver", *home, *timer, *waits)
         }
     }
 }
 
+/// Adds a move.
+fn add_move(text: &mut String, goal: CPos, waits: u8) -> Result<(), NoMemory>
+    ensures { OnOk result (string_bytes text.new ≡ string_bytes text.old
+        ++ (codes "move" ++ (place_word goal ++ waits_word waits))) }
+{
+    write!(text, "move")?;
+    add_place(text, goal)?;
+    add_waits(text, waits)
+}
+
+/// Adds an attack.
+fn add_attack(text: &mut String, target: u32, waits: u8) -> Result<(), NoMemory>
+    ensures { OnOk result (string_bytes text.new ≡ string_bytes text.old
+        ++ (codes "attack" ++ (number_word target ++ waits_word waits))) }
+{
+    write!(text, "attack")?;
+    add_number(text, target)?;
+    add_waits(text, waits)
+}
+
+/// Adds an activity of loading or unloading, of this word.
+fn add_loading(
+    text: &mut String,
+    word: &str,
+    cell: CPos,
+    timer: u16,
+    waits: u8,
+) -> Result<(), NoMemory>
+    ensures { OnOk result (string_bytes text.new ≡ string_bytes text.old
+        ++ (word.now ++ (place_word cell ++ (timer_word timer ++ waits_word waits)))) }
+{
+    text.push_str(word)?;
+    add_place(text, cell)?;
+    add_timer(text, timer)?;
+    add_waits(text, waits)
+}
+
+/// Adds the turns so far of the load or unload at work.
+fn add_timer(text: &mut String, timer: u16) -> Result<(), NoMemory>
+    ensures { OnOk result (string_bytes text.new ≡ string_bytes text.old ++ timer_word timer) }
+{
+    text.push_str(":timer")?;
+    add_number(text, u32::from(timer))
+}
+
+/// Adds how often an actor has waited.
+fn add_waits(text: &mut String, waits: u8) -> Result<(), NoMemory>
+    ensures { OnOk result (string_bytes text.new ≡ string_bytes text.old ++ waits_word waits) }
+{
+    text.push_str(":waits")?;
+    add_number(text, u32::from(waits))
+}
+
 /// Adds what two actors are to build.
-fn add_both_builds(text: &mut String, a: &[Build], b: &[Build]) -> Result<(), NoMemory> {
+fn add_both_builds(text: &mut String, a: &[Build], b: &[Build]) -> Result<(), NoMemory>
+    ensures { OnOk result
+        (string_bytes text.new ≡ string_bytes text.old ++ both (comma_words build_word a.now)
+        (comma_words build_word b.now)) }
+{
     add_builds(text, a)?;
     write!(text, " ")?;
     add_builds(text, b)
 }
 
 /// Adds what an actor is to build.
-fn add_builds(text: &mut String, builds: &[Build]) -> Result<(), NoMemory> {
+fn add_builds(text: &mut String, builds: &[Build]) -> Result<(), NoMemory>
+    ensures { OnOk result
+        (string_bytes text.new ≡ string_bytes text.old ++ comma_words build_word builds.now) }
+{
     let Some((build, more)) = builds.split_first() else {
         return write!(text, "-");
     };
     add_build(text, build)?;
-    for build in more {
+    add_more_builds(text, more)
+}
+
+/// Adds each build after a comma.
+fn add_more_builds(text: &mut String, builds: &[Build]) -> Result<(), NoMemory>
+    ensures { OnOk result (string_bytes text.new
+        ≡ string_bytes text.old ++ flat_map (comma_word build_word) builds.now) }
+{
+    for build in builds {
         write!(text, ",")?;
         add_build(text, build)?;
     }
@@ -204,7 +337,21 @@ fn add_builds(text: &mut String, builds: &[Build]) -> Result<(), NoMemory> {
 }
 
 /// Adds a build.
-fn add_build(text: &mut String, build: &Build) -> Result<(), NoMemory> {
+#[tactic(auto, unfolding(crate::specs::Lines::build_word))]
+fn add_build(text: &mut String, build: &Build) -> Result<(), NoMemory>
+    ensures { OnOk result
+        (string_bytes text.new ≡ string_bytes text.old ++ build_word build.now) }
+{
     let (kind, left) = (build.kind, build.left);
     write!(text, "{kind}:{left}")
+}
+
+/// Adds two hashes.
+fn add_hashes(text: &mut String, a: u64, b: u64) -> Result<(), NoMemory>
+    ensures { OnOk result
+        (string_bytes text.new ≡ string_bytes text.old ++ both (hash_digits a) (hash_digits b)) }
+{
+    add_hash(text, a)?;
+    write!(text, " ")?;
+    add_hash(text, b)
 }

@@ -2,7 +2,7 @@
 
 use crate::faults::letter;
 use drill_words::{
-    Drill, DrillFault, Event, EventList, EventView, MAX_DRILL_BYTES, MAX_EVENTS, read_drill,
+    DrillFault, Event, EventList, EventView, MAX_DRILL_BYTES, MAX_EVENTS, read_drill,
 };
 use game_orders::{Order, Orders};
 use std::alloc::{AllocError, Global};
@@ -264,14 +264,8 @@ fn shown(rt: &impl Abort, alloc: Global, text: &[u8]) -> Result<String, AllocErr
     let Ok(drill) = read_drill(alloc, text) else {
         return Ok(String::new(alloc));
     };
-    let Drill {
-        clients,
-        lag,
-        seed,
-        events,
-    } = drill;
-    let mut line = format!(in alloc; "{clients} {lag} {seed}")?;
-    show_events(&mut line, &events)?;
+    let mut line = format!(in alloc; "{} {} {}", drill.clients, drill.lag, drill.seed)?;
+    show_events(&mut line, &drill.events)?;
     Ok(line)
 }
 

@@ -1,0 +1,13 @@
+mod EachLemmas
+mod FoundLemmas
+mod IdLemmas
+mod ListLemmas
+mod MergeLemmas
+mod NoneLemmas
+mod ReplayLawLemmas
+mod ReplayLemmas
+mod ReplyLemmas
+mod SameLemmas
+mod SaveLawLemmas
+mod TrueLemmas
+mod WordLemmas
