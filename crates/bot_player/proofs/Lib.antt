@@ -1,0 +1,4 @@
+mod SurveyLemmas
+mod ProductLemmas
+mod DraftLemmas
+mod BotLemmas

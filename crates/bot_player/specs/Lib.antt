@@ -1,0 +1,4 @@
+pub mod BotOrders
+pub mod Survey
+pub mod Products
+pub mod Drafts
