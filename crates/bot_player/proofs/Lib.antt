@@ -1,3 +1,5 @@
+mod ListLemmas
+mod FlagLemmas
 mod SurveyLemmas
 mod ProductLemmas
 mod DraftLemmas

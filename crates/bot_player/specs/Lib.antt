@@ -1,4 +1,5 @@
 pub mod BotOrders
+pub mod KindFlags
 pub mod Survey
 pub mod Products
 pub mod Drafts

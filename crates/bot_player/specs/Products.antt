@@ -5,7 +5,7 @@ use Rattle.std.specs.List.{list_all, range_with_len}
 use Rattle.rule_traits.specs.declared.kind.Kind.{Kind}
 use Rattle.rule_traits.specs.Rules.{builds, cost_of, kind_at}
 use Rattle.game_model.specs.Kinds.{is_unit, needs_in}
-use Rattle.bot_player.specs.Survey.{flag_of}
+use Rattle.bot_player.specs.KindFlags.{flag_of}
 
 -- The kind is a unit, the client owns all that it needs, and has its price.
 abbrev pub is_ready : (owned : List Bool) → (cash : ℕ) → Kind → Bool
@@ -27,8 +27,10 @@ pub record ProductState : Type 0 where
   pub rules : List Kind
   pub ready : List Bool
 
--- The least ready kind that actors of a kind build.
+-- The kind is ready, and actors of the other kind build it.
+abbrev pub is_product : ProductState → (builder number : ℕ) → Bool
+is_product p builder number = flag_of p.ready number && builds p.rules builder number
+
+-- The least such kind.
 abbrev pub first_product : ProductState → (builder : ℕ) → Option ℕ
-first_product p builder =
-    find (λ (number : ℕ). flag_of p.ready number && builds p.rules builder number)
-    (range_with_len 0 (length p.rules))
+first_product p builder = find (is_product p builder) (range_with_len 0 (length p.rules))

@@ -8,7 +8,7 @@ use crate::survey::Survey;
 use game_model::{Map, Purse, World};
 use game_orders::Orders;
 use rule_traits::Rules;
-use shroud::LendsActors;
+use crate::lends_actors::LendsActors;
 
 /// What a bot that is client `c` orders in a world: `c` is below the number of clients. Each of its
 /// living actors by rising id gets at most one order, the first of these that applies, and the first

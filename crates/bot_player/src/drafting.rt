@@ -10,7 +10,8 @@ use crate::survey::{Enemy, is_enemy, is_own};
 use game_model::Actor;
 use game_orders::Order;
 use rule_traits::Rules;
-use shroud::LendsActors;
+use crate::lends_actors::LendsActors;
+use crate::nth::nth_actor;
 
 /// The order to produce, if the actor can produce and has no builds: the least ready kind that it
 /// builds.
@@ -99,10 +100,7 @@ pub(crate) fn drafts_of<A: LendsActors>(
         if drafts.is_full() {
             return drafts;
         }
-        let Some(actor) = actors.actor_at(i) else {
-            unreachable!()
-        };
-        drafts.add(own_draft(products, first, c, actor));
+        drafts.add(own_draft(products, first, c, nth_actor(actors, i)));
     }
     drafts
 }
@@ -121,9 +119,6 @@ pub(crate) fn show_all<A: LendsActors>(rules: &Rules, c: u8, drafts: &mut Drafts
     ensures { drafts.new ≡ fold (shown rules.now c) drafts.old (A.actors_of actors.now) }
 {
     for i in 0..actors.actor_count() {
-        let Some(actor) = actors.actor_at(i) else {
-            unreachable!()
-        };
-        show(rules, c, drafts, actor);
+        show(rules, c, drafts, nth_actor(actors, i));
     }
 }

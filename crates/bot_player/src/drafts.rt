@@ -58,7 +58,8 @@ impl Drafts {
     /// Adds a draft last, if there is one. There is room for it.
     pub(crate) fn add(&mut self, draft: Option<Draft>)
         requires { length self.old < MAX_ORDERS }
-        ensures { self.new ≡ self.old ++ option_to_list draft }
+        ensures added { self.new ≡ self.old ++ option_to_list draft }
+        ensures limit { length self.new ≤ MAX_ORDERS }
     {
         if let Some(draft) = draft {
             self.held.push(draft);

@@ -1,5 +1,5 @@
-ghost use Rattle.std.specs.Prelude.{◌≡◌, slice_set, true};
-ghost use Rattle.bot_player.specs.Survey.{flag_of, no_flags};
+ghost use Rattle.std.specs.Prelude.{◌≡◌};
+ghost use Rattle.bot_player.specs.KindFlags.{flag_of, no_flags, with_flag};
 
 use rule_traits::MAX_KINDS;
 use std::marker::Model;
@@ -41,11 +41,11 @@ impl KindFlags {
         }
     }
 
-    /// Sets the flag of a kind, if the number has one. The others stay.
-    pub(crate) fn set(&mut self, kind: u16)
-        ensures { self.new ≡ slice_set self.old kind true }
+    /// Sets the flag of a kind, if it is to be set and the number has one. The others stay.
+    pub(crate) fn set_if(&mut self, kind: u16, on: bool)
+        ensures { self.new ≡ with_flag self.old kind on }
     {
-        if kind < MAX_KINDS {
+        if on && kind < MAX_KINDS {
             self.flags[usize::from(kind)] = true;
         }
     }

@@ -17,7 +17,10 @@ mod draft;
 mod drafting;
 mod drafts;
 mod kind_flags;
+mod lends_actors;
+mod nth;
 mod products;
 mod survey;
 
+pub use lends_actors::LendsActors;
 pub use bot::{bot_orders, bot_orders_from};

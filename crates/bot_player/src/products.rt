@@ -1,7 +1,8 @@
 ghost use Rattle.std.specs.Prelude.{◌≡◌};
 ghost use Rattle.std.specs.List.{list_all};
-ghost use Rattle.bot_player.specs.Products.{first_product, is_ready, AreReady};
-ghost use Rattle.bot_player.specs.Survey.{flag_of};
+ghost use Rattle.rule_traits.specs.ValidRules.{AreValidRules};
+ghost use Rattle.bot_player.specs.Products.{first_product, is_product, is_ready, AreReady};
+ghost use Rattle.bot_player.specs.KindFlags.{flag_of};
 
 use crate::kind_flags::KindFlags;
 use rule_traits::{Kind, Rules};
@@ -20,7 +21,7 @@ pub(crate) struct Products<'a> {
 impl<'a> Model for Products<'a> {
     ghost use Rattle.std.specs.Prelude.{◌≡◌, ℕ, true, None};
     ghost use Rattle.bot_player.specs.Products.{first_product, ProductState};
-    ghost use Rattle.bot_player.specs.Survey.{flag_of};
+    ghost use Rattle.bot_player.specs.KindFlags.{flag_of};
 
     ghost Value = { ProductState };
 
@@ -50,13 +51,12 @@ fn is_ready(owned: &KindFlags, cash: u32, product: &Kind) -> bool
 
 /// The kinds that are ready.
 fn ready_products(rules: &Rules, owned: &KindFlags, cash: u32) -> KindFlags
-    ensures { AreReady rules.now owned.now cash result }
+    ensures ready { AreReady rules.now owned.now cash result }
+    ensures valid { AreValidRules rules.now }
 {
     let mut ready = KindFlags::none();
     for (number, product) in rules.kinds().iter().enumerate() {
-        if is_ready(owned, cash, product) {
-            ready.set(number as u16);
-        }
+        ready.set_if(number as u16, is_ready(owned, cash, product));
     }
     ready
 }
@@ -66,6 +66,7 @@ impl<'a> Products<'a> {
     pub(crate) fn of(rules: &'a Rules, owned: &KindFlags, cash: u32) -> Products<'a>
         ensures rules { result.rules ≡ rules.now }
         ensures ready { AreReady rules.now owned.now cash result.ready }
+        ensures valid { AreValidRules rules.now }
     {
         Products {
             rules,
@@ -82,12 +83,20 @@ impl<'a> Products<'a> {
         self.rules
     }
 
+    /// Whether a kind is ready, and actors of the other kind build it.
+    fn is_product(&self, builder: u16, number: u16) -> bool
+        ensures { result ≡ is_product self.now builder number }
+    {
+        let _barren = &self.barren;
+        self.ready.get(number) && self.rules.builds(builder, number)
+    }
+
     /// The least ready kind that actors of a kind build, looked for among all kinds.
     fn search(&self, builder: u16) -> Option<u16>
         ensures { result ≡ first_product self.now builder }
     {
         for number in 0..self.rules.kinds().len() as u16 {
-            if self.ready.get(number) && self.rules.builds(builder, number) {
+            if self.is_product(builder, number) {
                 return Some(number);
             }
         }
@@ -103,9 +112,7 @@ impl<'a> Products<'a> {
             return None;
         }
         let found = self.search(builder);
-        if found.is_none() {
-            self.barren.set(builder);
-        }
+        self.barren.set_if(builder, found.is_none());
         found
     }
 }

@@ -1,11 +1,13 @@
-ghost use Rattle.std.specs.Prelude.{◌≡◌};
+ghost use Rattle.std.specs.Prelude.{◌≡◌, is_some};
+ghost use Rattle.game_model.specs.Kinds.{kind_of};
 ghost use Rattle.bot_player.specs.BotOrders.{is_enemy, is_own};
-ghost use Rattle.bot_player.specs.Survey.{enemy_of, noted, survey_of};
+ghost use Rattle.bot_player.specs.Survey.{enemy_of, first_with, noted, survey_of};
 
 use crate::kind_flags::KindFlags;
 use game_model::{Actor, NEUTRAL};
 use rule_traits::Rules;
-use shroud::LendsActors;
+use crate::lends_actors::LendsActors;
+use crate::nth::nth_actor;
 use world_units::CPos;
 
 /// What of an enemy a bot looks at.
@@ -75,21 +77,12 @@ fn first_with(rules: &Rules, c: u8, first: Option<Enemy>, a: &Actor) -> Option<E
     }
 }
 
-/// Sets the flag of the actor's kind, if the client owns it and it lives.
-fn note_owned(owned: &mut KindFlags, c: u8, a: &Actor)
-    ensures { owned.new ≡ owned_with c owned.old a.now }
-{
-    if is_own(c, a) {
-        owned.set(a.kind);
-    }
-}
-
 impl Survey {
     /// Looks at one actor more.
     fn note(&mut self, rules: &Rules, c: u8, a: &Actor)
         ensures { self.new ≡ noted rules.now c self.old a.now }
     {
-        note_owned(&mut self.owned, c, a);
+        self.owned.set_if(a.kind, is_own(c, a));
         self.first = first_with(rules, c, self.first, a);
     }
 
@@ -102,10 +95,7 @@ impl Survey {
             first: None,
         };
         for i in 0..actors.actor_count() {
-            let Some(actor) = actors.actor_at(i) else {
-                unreachable!()
-            };
-            survey.note(rules, c, actor);
+            survey.note(rules, c, nth_actor(actors, i));
         }
         survey
     }
