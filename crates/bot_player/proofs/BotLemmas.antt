@@ -1,19 +1,18 @@
 -- The orders of the drafts are a bot's.
-use Rattle.std.proofs.Common.{◌≡◌, ℕ, ◌<◌, Bool, true, false, cond, List, [], ◌∷◌, map, take, Option, Some, None, refl, sym, subst, ap, ap₂, ◌∙◌, arith}
+use Rattle.std.proofs.Common.{◌≡◌, ℕ, Bool, true, false, cond, List, [], ◌∷◌, map, take, Option, Some, None, refl, sym, subst, ap, ap₂, ◌∙◌}
 use Rattle.std.specs.Prelude.{filter, filter_map, find, fold, option_map, slice_index}
 use Rattle.std.specs.List.{cons_option, take-map}
 use Rattle.std.specs.Option.{option_or}
-use Rattle.rule_traits.specs.declared.TheConstants.{MAX_KINDS}
 use Rattle.rule_traits.specs.declared.kind.Kind.{Kind}
 use Rattle.rule_traits.specs.ValidRules.{AreValidRules}
 use Rattle.game_orders.specs.declared.limits.TheConstants.{MAX_ORDERS}
 use Rattle.game_orders.specs.declared.order.Order.{Order}
 use Rattle.game_model.specs.declared.actor.Actor.{Actor}
-use Rattle.game_tick.specs.Orders.{Goods, has_kind}
+use Rattle.game_tick.specs.Orders.{Goods}
 use Rattle.bot_player.specs.declared.draft.Draft.{Draft}
 use Rattle.bot_player.specs.declared.draft.Draft.TheVariants.{Whole}
 use Rattle.bot_player.specs.declared.survey.Enemy.{Enemy}
-use Rattle.bot_player.specs.BotOrders.{attack_order, bot_orders_by, harvest_order, is_enemy, is_own, order_for, produce_order}
+use Rattle.bot_player.specs.BotOrders.{bot_orders_by, harvest_order, is_enemy, is_own, order_for, produce_order}
 use Rattle.bot_player.specs.Drafts.{attack_draft, draft_for, drafts_of, ordered, own_draft, produce_draft, shown}
 use Rattle.bot_player.specs.Products.{AreReady, ProductState}
 use Rattle.bot_player.specs.Survey.{enemy_of, survey_of}

@@ -1,11 +1,9 @@
 -- What the drafts for the actors are, once all actors were shown to them.
-use Rattle.std.proofs.Common.{◌≡◌, ℕ, ◌+◌, ◌<◌, ◌≤◌, eqb, ltb, Bool, true, false, cond, ◌&&◌, ◌||◌, List, [], ◌∷◌, map, length, take, Option, Some, None, is_some, inl, inr, refl, sym, subst, ap, ap₂, ◌∙◌, arith}
-use Rattle.std.specs.Prelude.{filter, filter_map, find, fold, option_map}
-use Rattle.std.specs.List.{cons_option, reduce, take-map}
-use Rattle.std.specs.Option.{option_or}
+use Rattle.std.proofs.Common.{◌≡◌, ℕ, eqb, Bool, true, false, cond, ◌&&◌, List, [], ◌∷◌, map, length, Option, Some, None, is_some, refl, sym, subst, ap, ◌∙◌}
+use Rattle.std.specs.Prelude.{filter, find, fold, option_map}
+use Rattle.std.specs.List.{reduce}
 use Rattle.std.proofs.lemmas.List.{map-id}
 use Rattle.world_units.specs.declared.cell.CPos.{CPos}
-use Rattle.world_units.specs.Cells.{dist_sq_of}
 use Rattle.rule_traits.specs.declared.kind.Kind.{Kind}
 use Rattle.game_orders.specs.declared.order.Order.{Order}
 use Rattle.game_orders.specs.declared.order.Order.TheVariants as order

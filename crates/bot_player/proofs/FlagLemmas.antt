@@ -1,5 +1,5 @@
 -- Flags that are set, and the laws of "or" that they need.
-use Rattle.std.proofs.Common.{◌≡◌, ℕ, ◌<◌, ◌≤◌, eqb, Bool, true, false, ◌&&◌, ◌||◌, List, length, get_or, set, inl, inr, refl, sym, subst, ap, ◌∙◌, arith}
+use Rattle.std.proofs.Common.{◌≡◌, ℕ, ◌<◌, eqb, Bool, true, false, ◌&&◌, ◌||◌, List, length, get_or, set, inl, inr, refl, sym, subst, ap, ◌∙◌, arith}
 use Rattle.std.specs.Prelude.{slice_set}
 use Rattle.std.proofs.lemmas.Bool.{cases_eq, cases_lt, eq-eqb, ne_eqb}
 use Rattle.std.proofs.lemmas.List.{get_or_past, get_or-replicate, get_or-set_same, get_or-set_other, length-replicate, length-set, set_past}
@@ -20,10 +20,10 @@ pub flag_set :
     flag_of (slice_set flags k true) j ≡ flag_of flags j || eqb k j
 flag_set flags k j within = elim (cases_eq k j) [
   | inl same ↦ rw (eq-eqb k j same) (
-  subst (λ (n : ℕ). get_or (set flags k true) n false ≡ get_or flags n false || true) same
-  (get_or-set_same flags k true false within ∙ to_true (get_or flags k false)))
+      subst (λ (n : ℕ). get_or (set flags k true) n false ≡ get_or flags n false || true) same
+      (get_or-set_same flags k true false within ∙ to_true (get_or flags k false)))
   | inr other ↦ rw (ne_eqb k j other)
-  (get_or-set_other flags k j true false (λ e. other (sym e)) ∙ or_false (get_or flags j false))
+      (get_or-set_other flags k j true false (λ e. other (sym e)) ∙ or_false (get_or flags j false))
 ]
   where
     to_true : (x : Bool) → true ≡ x || true
@@ -37,8 +37,8 @@ flag_of_kind :
 flag_of_kind flags k j size below = elim (cases_lt k (length flags)) [
   | inl within ↦ flag_set flags k j within
   | inr past ↦ rw (ne_eqb k j (λ same. absurd (omega (arith, same, past, size, below))))
-  (ap (λ (fs : List Bool). get_or fs j false) (set_past flags k true past)
-  ∙ or_false (get_or flags j false))
+      (ap (λ (fs : List Bool). get_or fs j false) (set_past flags k true past)
+      ∙ or_false (get_or flags j false))
 ]
 
 -- The flag of a kind, after that of a kind was set, if it was to be.

@@ -1,6 +1,6 @@
 -- Which products are ready, and what that tells of orders to produce.
 use Rattle.std.proofs.Common.{◌≡◌, ℕ, ◌+◌, ◌<◌, ◌≤◌, eqb, ltb, leb, Bool, true, false, cond, ◌&&◌, ◌||◌, List, [], ◌∷◌, length, get_or, Option, Some, None, is_some, inl, inr, refl, sym, subst, ap, ap₂, ◌∙◌, arith}
-use Rattle.std.specs.Prelude.{All, IfSome, find, option_map, slice_get, slice_index}
+use Rattle.std.specs.Prelude.{IfSome, find, option_map, slice_index}
 use Rattle.std.specs.List.{AllByRecursion, list_all, range_with_len}
 use Rattle.std.specs.Option.{unwrap_or}
 use Rattle.std.proofs.lemmas.Bool.{cases_eq, cases_lt, eq-eqb, eqb-true, ne_eqb, lt-ltb, le-ltb}
@@ -50,9 +50,9 @@ one_more_ready rules owned cash i ready product found so_far =
     record {
       size = size_with ready i (is_ready owned cash product) so_far.size;
       each = λ k below.
-      flag_with ready i k (is_ready owned cash product) so_far.size below
-      ∙ ap (λ (b : Bool). b || (is_ready owned cash product && eqb i k)) (so_far.each k below)
-      ∙ at k;
+          flag_with ready i k (is_ready owned cash product) so_far.size below
+          ∙ ap (λ (b : Bool). b || (is_ready owned cash product && eqb i k)) (so_far.each k below)
+          ∙ at k;
     }
   where
     and_true : (x : Bool) → (x && true) ≡ x
@@ -73,11 +73,11 @@ one_more_ready rules owned cash i ready product found so_far =
         ≡ (ltb k (i + 1) && is_ready_at owned cash (kind_at rules k))
     at k = elim (cases_eq i k) [
       | inl same ↦ rw (eq-eqb i k same, le-ltb k i (omega (arith, same)), lt-ltb k (i + 1) (omega (arith, same)))
-      (and_true (is_ready owned cash product)
-      ∙ ap (is_ready_at owned cash) (sym (subst (λ (n : ℕ). kind_at rules n ≡ Some product) same found)))
+          (and_true (is_ready owned cash product)
+          ∙ ap (is_ready_at owned cash) (sym (subst (λ (n : ℕ). kind_at rules n ≡ Some product) same found)))
       | inr other ↦ rw (ne_eqb i k other, and_false (is_ready owned cash product))
-      (or_no (ltb k i && is_ready_at owned cash (kind_at rules k))
-      ∙ ap (λ (b : Bool). b && is_ready_at owned cash (kind_at rules k)) (shift k other))
+          (or_no (ltb k i && is_ready_at owned cash (kind_at rules k))
+          ∙ ap (λ (b : Bool). b && is_ready_at owned cash (kind_at rules k)) (shift k other))
     ]
       where
         shift : (k : ℕ) → (i ≡ k → ⊥) → ltb k i ≡ ltb k (i + 1)
@@ -95,17 +95,17 @@ all_ready rules owned cash ready few below = record { each = each }
     each : (k : ℕ) → flag_of ready k ≡ is_ready_at owned cash (kind_at rules k)
     each k = elim (cases_lt k (length rules)) [
       | inl lt ↦ below.each k (omega arith)
-      ∙ ap (λ (b : Bool). b && is_ready_at owned cash (kind_at rules k)) (lt-ltb k (length rules) lt)
+          ∙ ap (λ (b : Bool). b && is_ready_at owned cash (kind_at rules k)) (lt-ltb k (length rules) lt)
       | inr ge ↦ past ge
     ]
       where
         past : length rules ≤ k → flag_of ready k ≡ is_ready_at owned cash (kind_at rules k)
         past ge = elim (cases_lt k MAX_KINDS) [
           | inl lt ↦ below.each k lt
-          ∙ ap (λ (b : Bool). b && is_ready_at owned cash (kind_at rules k)) (le-ltb k (length rules) ge)
-          ∙ ap (is_ready_at owned cash) (sym (slice_get_past rules k ge))
+              ∙ ap (λ (b : Bool). b && is_ready_at owned cash (kind_at rules k)) (le-ltb k (length rules) ge)
+              ∙ ap (is_ready_at owned cash) (sym (slice_get_past rules k ge))
           | inr high ↦ get_or_past ready k false (omega (arith, below.size, high))
-          ∙ ap (is_ready_at owned cash) (sym (slice_get_past rules k ge))
+              ∙ ap (is_ready_at owned cash) (sym (slice_get_past rules k ge))
         ]
 
 -- The client owns all that is needed, by the flags of the kinds that it owns.

@@ -1,6 +1,6 @@
 -- The orders of a bot before all enemies were looked at.
-use Rattle.std.specs.Prelude.{◌≡◌, ℕ, ◌==◌, nat_lt, ◌&&◌, ◌||◌, if◌then◌else◌, Bool, false, List, length}
-use Rattle.std.specs.Prelude.{Option, Some, None, is_some, option_map, filter_map, fold, map, take}
+use Rattle.std.specs.Prelude.{ℕ, ◌==◌, nat_lt, ◌&&◌, ◌||◌, if◌then◌else◌, false, List, length}
+use Rattle.std.specs.Prelude.{Option, None, is_some, option_map, filter_map, map, take}
 use Rattle.std.specs.Option.{option_or}
 use Rattle.world_units.specs.declared.cell.CPos.{CPos}
 use Rattle.world_units.specs.Cells.{dist_sq_of}
@@ -14,7 +14,6 @@ use Rattle.bot_player.specs.declared.draft.Draft.{Draft}
 use Rattle.bot_player.specs.declared.draft.Draft.TheVariants.{Whole, Attack}
 use Rattle.bot_player.specs.declared.draft.Aim.{Aim}
 use Rattle.bot_player.specs.declared.survey.Enemy.{Enemy}
-use Rattle.bot_player.specs.declared.survey.Survey.{Survey}
 use Rattle.bot_player.specs.BotOrders.{harvest_order, is_enemy, is_own}
 use Rattle.bot_player.specs.Products.{first_product, ProductState}
 use Rattle.bot_player.specs.Survey.{enemy_of}

@@ -1,5 +1,5 @@
 -- Which kinds a client can order to be produced now, whatever produces them.
-use Rattle.std.specs.Prelude.{◌≡◌, ℕ, nat_le, ◌&&◌, Bool, true, false, List, length, find}
+use Rattle.std.specs.Prelude.{◌≡◌, ℕ, nat_le, ◌&&◌, Bool, false, List, length, find}
 use Rattle.std.specs.Prelude.{Option, Some, None}
 use Rattle.std.specs.List.{list_all, range_with_len}
 use Rattle.rule_traits.specs.declared.kind.Kind.{Kind}

@@ -22,5 +22,5 @@ mod nth;
 mod products;
 mod survey;
 
-pub use lends_actors::LendsActors;
 pub use bot::{bot_orders, bot_orders_from};
+pub use lends_actors::LendsActors;

@@ -1,4 +1,4 @@
-use Rattle.std.proofs.Common.{◌≡◌, ℕ, ◌≤◌, ◌++◌, length, take, ap, ap₂, sym, ◌∙◌, arith}
+use Rattle.std.proofs.Common.{◌≡◌, ◌≤◌, ◌++◌, length, take, ap, ap₂, ◌∙◌, arith}
 use Rattle.std.specs.Prelude.{List, Option, filter_map, option_to_list}
 use Rattle.game_orders.specs.declared.limits.TheConstants.{MAX_ORDERS}
 use Rattle.game_model.specs.declared.actor.Actor.{Actor}
@@ -27,7 +27,7 @@ loop-i-preserved g c =
     ∙ ap (λ (p : ProductState). own_draft p c.args.first c.args.c a) c.loop-i.invariant.0 in (
       c.own_draft.ensures.same ∙ c.loop-i.invariant.0,
       c.add.ensures.added
-      ∙ ap₂ (λ (ds : List Draft) (d : Option Draft). ds ++ option_to_list d) c.loop-i.invariant.1 draft
-      ∙ made_next f actors c.loop-i.i a c.nth_actor.ensures,
+          ∙ ap₂ (λ (ds : List Draft) (d : Option Draft). ds ++ option_to_list d) c.loop-i.invariant.1 draft
+          ∙ made_next f actors c.loop-i.i a c.nth_actor.ensures,
       c.add.ensures.limit,
     )

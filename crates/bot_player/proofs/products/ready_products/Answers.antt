@@ -3,7 +3,6 @@ use Rattle.std.specs.Prelude.{List}
 use Rattle.std.proofs.lemmas.Option.{slice_get-get_or}
 use Rattle.rule_traits.specs.declared.kind.Kind.{Kind}
 use Rattle.rule_traits.specs.Rules.{kind_at}
-use Rattle.bot_player.specs.KindFlags.{with_flag}
 use Rattle.bot_player.proofs.ProductLemmas.{AreReadyBelow, all_ready, none_ready, one_more_ready}
 use Rattle.bot_player.proofs.products.ready_products.Goals as goal
 

@@ -1,4 +1,4 @@
-use Rattle.std.proofs.Common.{◌≡◌, Bool, ap, ◌∙◌}
+use Rattle.std.proofs.Common.{Bool, ap, ◌∙◌}
 use Rattle.std.specs.Prelude.{List}
 use Rattle.std.proofs.lemmas.Bool.{both_ways}
 use Rattle.bot_player.specs.KindFlags.{flag_of}

@@ -1,4 +1,4 @@
-use Rattle.std.proofs.Common.{◌≡◌, ap, ◌∙◌}
+use Rattle.std.proofs.Common.{ap, ◌∙◌}
 use Rattle.std.specs.Prelude.{List}
 use Rattle.game_model.specs.declared.actor.Actor.{Actor}
 use Rattle.bot_player.specs.declared.survey.Survey.{Survey}
