@@ -4,3 +4,4 @@ mod SurveyLemmas
 mod ProductLemmas
 mod DraftLemmas
 mod BotLemmas
+mod LawLemmas

@@ -3,3 +3,4 @@ pub mod KindFlags
 pub mod Survey
 pub mod Products
 pub mod Drafts
+pub mod Laws

@@ -3,7 +3,7 @@ ghost use Rattle.bot_player.specs.BotOrders.{bot_orders_by, bot_orders_of};
 ghost use Rattle.game_model.specs.World.{clients_of};
 
 use crate::drafting::{drafts_of, show_all};
-use crate::lends_actors::LendsActors;
+use shroud::LendsActors;
 use crate::products::Products;
 use crate::survey::Survey;
 use game_model::{Map, Purse, World};

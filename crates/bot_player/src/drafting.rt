@@ -5,7 +5,7 @@ ghost use Rattle.bot_player.specs.Drafts.{produce_draft, shown};
 
 use crate::draft::{Aim, Draft};
 use crate::drafts::Drafts;
-use crate::lends_actors::LendsActors;
+use shroud::LendsActors;
 use crate::nth::nth_actor;
 use crate::products::Products;
 use crate::survey::{Enemy, is_enemy, is_own};

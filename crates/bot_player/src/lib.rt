@@ -17,10 +17,10 @@ mod draft;
 mod drafting;
 mod drafts;
 mod kind_flags;
-mod lends_actors;
+mod law;
 mod nth;
 mod products;
 mod survey;
 
 pub use bot::{bot_orders, bot_orders_from};
-pub use lends_actors::LendsActors;
+pub use law::{attacks_are_on_the_nearest_enemy, products_are_the_least_that_fit};

@@ -1,6 +1,6 @@
 ghost use Rattle.std.specs.Prelude.{◌≡◌, ◌<◌, length, slice_get, Some};
 
-use crate::lends_actors::LendsActors;
+use shroud::LendsActors;
 use game_model::Actor;
 
 /// The i-th of the actors that are lent, from 0, which is there.

@@ -4,7 +4,7 @@ ghost use Rattle.bot_player.specs.BotOrders.{is_enemy, is_own};
 ghost use Rattle.bot_player.specs.Survey.{enemy_of, first_with, noted, survey_of};
 
 use crate::kind_flags::KindFlags;
-use crate::lends_actors::LendsActors;
+use shroud::LendsActors;
 use crate::nth::nth_actor;
 use game_model::{Actor, NEUTRAL};
 use rule_traits::Rules;
