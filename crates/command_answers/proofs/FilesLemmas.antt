@@ -16,7 +16,7 @@ use Rattle.command_answers.specs.OptionLemmas.{map_some, map_none}
 -- ---- all were read
 
 abbrev pub both : List (List ℕ) → Option (List ℕ) → Contents
-both rules map_file = record { rules = rules; map_file = map_file; save = None; script = None; replay = None }
+both rules map_file = record { rules = rules; map_file = map_file; first = None; script = None; replay = None }
 
 pub all_told :
     (names rules : List (List ℕ)) (map_file bytes : Option (List ℕ)) (o o' : Option Files) → o' ≡ o →
@@ -36,7 +36,7 @@ pub all_untold :
     IfNone o (AreContents (rules_and_map names map_file) (both rules bytes))
 all_untold names rules map_file bytes None o' same first second =
     let Short : Option Files → Type 0 = λ o. IfNone o (IsWithinLimit (option_map rule_file map_file) bytes) in
-    record { rules = first; map_file = subst Short same second; save = tt; script = tt; replay = tt }
+    record { rules = first; map_file = subst Short same second; first = tt; script = tt; replay = tt }
 all_untold names rules map_file bytes (Some files) o' same first second = tt
 
 -- ---- a rule file was not read

@@ -11,7 +11,7 @@ use Rattle.command_answers.specs.WantedFiles.{Wanted, WantedFiles}
 pub record Contents : Type 0 where
   pub rules : List (List ℕ)
   pub map_file : Option (List ℕ)
-  pub save : Option (List ℕ)
+  pub first : Option (List ℕ)
   pub script : Option (List ℕ)
   pub replay : Option (List ℕ)
 
@@ -42,20 +42,20 @@ read_optional (Some file) files = do
   bytes ← content_of file (files file.name)
   Ok (Some bytes)
 
--- Rules are read first, then the map, then the save, then the script or the replay. The first file
--- that cannot be read decides.
+-- Rules are read first, then the map, then the file that comes before the script or the replay, and
+-- then that. The first one that cannot be read decides.
 abbrev pub contents_of : WantedFiles → Files → Step Contents
 contents_of wanted files = do
   rules ← read_after [] wanted.rules files
   map_file ← read_optional wanted.map_file files
-  save ← read_optional wanted.save files
+  first ← read_optional wanted.first files
   script ← read_optional wanted.script files
-  replay ← read_optional wanted.replay files
+  replay ← read_optional (wanted.replay first) files
   Ok
       (record {
         rules = rules;
         map_file = map_file;
-        save = save;
+        first = first;
         script = script;
         replay = replay;
       })
@@ -83,9 +83,9 @@ IsWithinLimit (Some file) (Some bytes) = length bytes ≤ file.limit
 pub record AreContents (wanted : WantedFiles) (contents : Contents) : Type 0 where
   pub rules : AreWithinLimits wanted.rules contents.rules
   pub map_file : IsWithinLimit wanted.map_file contents.map_file
-  pub save : IsWithinLimit wanted.save contents.save
+  pub first : IsWithinLimit wanted.first contents.first
   pub script : IsWithinLimit wanted.script contents.script
-  pub replay : IsWithinLimit wanted.replay contents.replay
+  pub replay : IsWithinLimit (wanted.replay contents.first) contents.replay
 
 -- The reply is that one of the files is missing or too long.
 abbrev pub IsUnread : List Wanted → Reply → Type 0

@@ -109,27 +109,28 @@ impl GivenFiles {
     }
 }
 
-/// Reads the map of this name.
-fn read_map<'a, D: Disk>(
+/// Reads the file of this name, which is wanted.
+pub(crate) fn read_wanted<'a, D: Disk>(
     alloc: Global,
     disk: &mut D,
     name: &'a str,
+    limit: u32,
 ) -> Result<Option<Vec<u8>>, Stop<'a>>
     ensures told { IfSome (D.state disk.old).files
         (λ files. ReturnsOrStops result (option_map (λ bytes. bytes.items))
-        (read_optional (Some (rule_file name.now)) files)
-        (IsFirstThere (rule_file name.now ∷ []) files
+        (read_optional (Some (record { name = name.now; limit = limit })) files)
+        (IsFirstThere (record { name = name.now; limit = limit } ∷ []) files
         × Increased (D.state disk.old).faults (D.state disk.new).faults)) }
     ensures untold { IfNone (D.state disk.old).files
         (ReturnsUntold result
-        (λ given. IsWithinLimit (Some (rule_file name.now))
+        (λ given. IsWithinLimit (Some (record { name = name.now; limit = limit }))
         (option_map (λ bytes. bytes.items) given))
-        (rule_file name.now ∷ [])
+        (record { name = name.now; limit = limit } ∷ [])
         (Increased (D.state disk.old).faults (D.state disk.new).faults)) }
     ensures files { (D.state disk.new).files ≡ (D.state disk.old).files }
     ensures later { (D.state disk.old).faults ≤ (D.state disk.new).faults }
 {
-    match read_one(alloc, disk, name, MAX_RULE_BYTES) {
+    match read_one(alloc, disk, name, limit) {
         Ok(bytes) => Ok(Some(bytes)),
         Err(stop) => Err(stop),
     }
@@ -157,7 +158,7 @@ fn read_named<'a, D: Disk>(
     ensures later { (D.state disk.old).faults ≤ (D.state disk.new).faults }
 {
     match name {
-        Some(name) => read_map(alloc, disk, name),
+        Some(name) => read_wanted(alloc, disk, name, MAX_RULE_BYTES),
         None => Ok(None),
     }
 }
@@ -203,28 +204,33 @@ pub const MAX_SAVE_BYTES: u32 = 4_194_304;
 /// The most bytes of a replay.
 pub const MAX_REPLAY_BYTES: u32 = 268_435_456;
 
-/// The file of what is played, with its name.
+/// The name of a file that is read after rules and a map.
 #[derive(Clone, Copy, Drop)]
 pub enum PlayedFile<'a> {
     /// That of a drill or a script.
     Script(&'a str),
     /// That of a replay.
     Replay(&'a str),
+    /// That of a save, before a replay.
+    Save(&'a str),
+    /// That of the first of two files that are compared.
+    Compared(&'a str),
 }
 
-/// Reads the file of what is played.
-fn read_played<'a, D: Disk>(
+/// Reads the file that comes after rules and a map.
+pub(crate) fn read_played<'a, D: Disk>(
     alloc: Global,
     disk: &mut D,
     played: PlayedFile<'a>,
 ) -> Result<Vec<u8>, Stop<'a>>
     ensures told { IfSome (D.state disk.old).files
-        (λ files. ReturnsOrStops result (λ bytes. bytes.items)
-        (content_of (played_file played.entry) (files (played_file played.entry).name))
-        (IsSome (files (played_file played.entry).name)
+        (λ files. ReturnsOrStops result (λ bytes. Some bytes.items)
+        (read_optional (Some (played_file played.entry)) files)
+        (IsFirstThere (played_file played.entry ∷ []) files
         × Increased (D.state disk.old).faults (D.state disk.new).faults)) }
     ensures untold { IfNone (D.state disk.old).files
-        (ReturnsUntold result (λ bytes. length bytes.items ≤ (played_file played.entry).limit)
+        (ReturnsUntold result
+        (λ bytes. IsWithinLimit (Some (played_file played.entry)) (Some bytes.items))
         (played_file played.entry ∷ []) (Increased (D.state disk.old).faults (D.state disk.new).faults)) }
     ensures short { IfOk result (λ bytes. length bytes.items ≤ (played_file played.entry).limit) }
     ensures files { (D.state disk.new).files ≡ (D.state disk.old).files }
@@ -233,10 +239,12 @@ fn read_played<'a, D: Disk>(
     match played {
         PlayedFile::Script(name) => read_one(alloc, disk, name, MAX_DRILL_BYTES),
         PlayedFile::Replay(name) => read_one(alloc, disk, name, MAX_REPLAY_BYTES),
+        PlayedFile::Save(name) => read_one(alloc, disk, name, MAX_SAVE_BYTES),
+        PlayedFile::Compared(name) => read_one(alloc, disk, name, MAX_REPLAY_BYTES),
     }
 }
 
-/// Reads rule files in order, then a map, if one is named, and then the file of what is played.
+/// Reads rule files in order, then a map, if one is named, and then this file.
 pub fn read_played_files<'a, D: Disk>(
     alloc: Global,
     disk: &mut D,

@@ -2,10 +2,10 @@
 //!
 //! A [`Reply`](../specs/Reply.antt) is a status, a text, and a file that is written after it. A
 //! command is a sequence of steps ([`Stop`] in code, `specs/Step.antt` in definitions): each has a
-//! value, or ends the command with a reply. [`read_rules`], [`read_files`], [`read_played_files`]
-//! and [`read_paired_files`] read what a command names, and [`print_text`], [`print_stop`] and
-//! [`refuse_words`] print its answer; their clauses say what was read and printed over any disk and
-//! any sink, whichever of their calls fail.
+//! value, or ends the command with a reply. [`read_rules`], [`read_files`], [`read_played_files`],
+//! [`read_paired_files`] and [`read_compared_files`] read what a command names, and [`print_text`],
+//! [`print_stop`] and [`refuse_words`] print its answer; their clauses say what was read and printed
+//! over any disk and any sink, whichever of their calls fail.
 #![tactic(auto)]
 
 mod answer;
@@ -22,7 +22,9 @@ pub use files::{
     GivenFiles, MAX_REPLAY_BYTES, MAX_RULE_BYTES, MAX_SAVE_BYTES, PlayedFile, read_files, read_one,
     read_played_files, read_rules,
 };
-pub use paired::{LimitedFile, PairedFiles, read_paired_files};
+pub use paired::{
+    ComparedFiles, PairedFiles, begins_save, is_too_long, read_compared_files, read_paired_files,
+};
 pub use print::{print_last, print_stop, print_text, refuse_words};
 pub use script_stop::drill_stop;
 pub use statuses::{

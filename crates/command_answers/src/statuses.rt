@@ -16,5 +16,6 @@ pub const FAULT_WRITE: u8 = 5;
 /// Out of memory.
 pub const OUT_OF_MEMORY: u8 = 6;
 
-/// A mark differs from the hash of the world after its frames.
+/// A mark differs from the hash of the world after its frames, or two files that are compared
+/// differ.
 pub const MARK_DIFFERS: u8 = 7;

@@ -16,9 +16,9 @@ use Rattle.clap.specs.declared.error.kind.ErrorKind.TheVariants.{MissingRequired
 use Rattle.clap.proofs.SimpleLemmas.{is_nil}
 use Rattle.clap.proofs.WalkLemmas.{both}
 use Rattle.world_units.specs.declared.cell.CPos.{CPos}
-use Rattle.command_words.specs.RequestPlain.{Continue, Drill, Local, MatchPlain, Migrate, Play, RangePlain, Replay, RequestPlain, Route, Save, Serve, View, Worlds}
+use Rattle.command_words.specs.RequestPlain.{Compare, Continue, Drill, Local, MatchPlain, Migrate, Play, RangePlain, Replay, RequestPlain, Route, Save, Serve, View, Worlds}
 use Rattle.command_words.specs.Commands.{option_named, required_option, number_option, required_number, bare_app, lockstep_app}
-use Rattle.command_words.specs.Reading.{is_accepted, command_request, names_in, cell_in, number_of, number_in, up_to, count_in, count_or, from_one, step_or, match_in, play_in, serve_in, migrate_in, route_in, save_in, continue_in, view_in, range_in, worlds_in, found_request, request_of, NamesRefused, CellRefused}
+use Rattle.command_words.specs.Reading.{is_accepted, command_request, names_in, cell_in, number_of, number_in, up_to, count_in, count_or, from_one, step_or, match_in, play_in, serve_in, migrate_in, route_in, save_in, continue_in, view_in, range_in, worlds_in, compare_in, found_request, request_of, NamesRefused, CellRefused}
 use Rattle.game_orders.specs.declared.limits.TheConstants.{MAX_CLIENTS, MAX_LAG}
 use Rattle.command_words.specs.declared.serve_query.TheConstants.{DEFAULT_LAG}
 use Rattle.command_words.specs.declared.world_range.TheConstants.{DEFAULT_EVERY}
@@ -93,11 +93,14 @@ worlds_shape =
     (wanted_rule (codes "file") ∷ map_rule ∷ with_index 1 (filled (number_option (codes "from") 0 4294967295))
     ∷ with_index 1 (filled (number_option (codes "to") 0 4294967295)) ∷ with_index 1 (filled (number_option (codes "every") 1 4294967295)) ∷ names_rule ∷ [])
 
+abbrev compare_shape : Shape
+compare_shape = shape_with (codes "compare") (wanted_rule (codes "file") ∷ map_rule ∷ wanted_rule (codes "with") ∷ names_rule ∷ [])
+
 -- The commands, as the parse has them.
 abbrev command_shapes : List Shape
 command_shapes =
     drill_shape ∷ names_shape false (codes "yaml") ∷ names_shape true (codes "check") ∷ route_shape ∷ make_shape ∷ local_shape
-    ∷ serve_shape ∷ play_shape ∷ replay_shape ∷ migrate_shape ∷ save_shape ∷ continue_shape ∷ view_shape ∷ worlds_shape ∷ []
+    ∷ serve_shape ∷ play_shape ∷ replay_shape ∷ migrate_shape ∷ save_shape ∷ continue_shape ∷ view_shape ∷ worlds_shape ∷ compare_shape ∷ []
 
 -- What is known of rows that a command without a fault has found.
 record AreFound (s : Shape) (rows : List Row) : Type 0 where
@@ -274,6 +277,22 @@ worlds_found words quiet =
     record {
       file = given_first c (codes "file") rows (given_row c (codes "file") rows found.full (required (is_given (codes "file") rows) found.checks));
       every = found_or_not c (codes "every") rows found.full;
+    }
+
+-- The options that have to be there to compare two files are there.
+record CompareIsThere (rows : List Row) : Type 0 where
+  file : IsThere (codes "file") rows
+  second : IsThere (codes "with") rows
+
+compare_found : (words : List Text) → level_fault compare_shape [] nothing_held words false [] ≡ [] → CompareIsThere (rows_after compare_shape.rules [] words)
+compare_found words quiet =
+    let c = compare_shape.rules in
+    let rows = rows_after compare_shape.rules [] words in
+    let found : AreFound compare_shape rows = found_rows compare_shape words ((refl, refl), ((refl, refl), ((refl, refl), ((refl, refl), tt)))) (λ x. refl) quiet in
+    let given : BothGiven (is_given (codes "file") rows) (is_given (codes "with") rows) = both_required (is_given (codes "file") rows) (is_given (codes "with") rows) found.checks in
+    record {
+      file = given_first c (codes "file") rows (given_row c (codes "file") rows found.full given.first);
+      second = given_first c (codes "with") rows (given_row c (codes "with") rows found.full given.second);
     }
 
 -- The options of a player that have to be there are there.
@@ -545,6 +564,20 @@ worlds_request rows there = elim (match_is (codes "file") rows there.file) [
   | inr none ↦ inr (inl none)
 ]
 
+-- Files are to be compared where both are named.
+compare_is : (rows : List Row) (second : Option Text) → first_of (codes "with") rows ≡ second → is_some second ≡ true
+    → is_some (match_in (codes "file") rows) ≡ true → is_some (compare_in rows) ≡ true
+unfolding compare_in
+compare_is rows None is there named = cc
+compare_is rows (Some second) is there named = rw is (made_is (λ query. Compare query second) (match_in (codes "file") rows) named)
+
+compare_request : (rows : List Row) → CompareIsThere rows → HasRequest (Some (codes "compare", rows))
+unfolding command_request
+compare_request rows there = elim (match_is (codes "file") rows there.file) [
+  | inl named ↦ inl (compare_is rows (first_of (codes "with") rows) refl there.second named)
+  | inr none ↦ inr (inl none)
+]
+
 -- A number within the bounds of a count is one.
 counted : (most : ℕ) (number : Option ℕ) → Written 1 most number → is_some (option_and_then (up_to most) number) ≡ true
 counted most number written =
@@ -601,25 +634,28 @@ AllGiveRequests (s ∷ shapes) = GivesRequest s × AllGiveRequests shapes
 there_of : (s : Shape) (option : Text) (words : List Text) → FirstIsThere s option → level_fault s [] nothing_held words false [] ≡ [] → IsThere option (rows_after s.rules [] words)
 there_of s option words found quiet = given_first s.rules option (rows_after s.rules [] words) (found words quiet)
 
-worlds_give_requests : AllGiveRequests (view_shape ∷ worlds_shape ∷ [])
+compare_gives_requests : AllGiveRequests (compare_shape ∷ [])
+compare_gives_requests = (λ words quiet. compare_request (rows_after compare_shape.rules [] words) (compare_found words quiet), tt)
+
+worlds_give_requests : AllGiveRequests (view_shape ∷ worlds_shape ∷ compare_shape ∷ [])
 worlds_give_requests = (
   λ words quiet. view_request (rows_after view_shape.rules [] words) (view_found words quiet),
-  (λ words quiet. worlds_request (rows_after worlds_shape.rules [] words) (worlds_found words quiet), tt),
+  (λ words quiet. worlds_request (rows_after worlds_shape.rules [] words) (worlds_found words quiet), compare_gives_requests),
 )
 
-saves_give_requests : AllGiveRequests (save_shape ∷ continue_shape ∷ view_shape ∷ worlds_shape ∷ [])
+saves_give_requests : AllGiveRequests (save_shape ∷ continue_shape ∷ view_shape ∷ worlds_shape ∷ compare_shape ∷ [])
 saves_give_requests = (
   λ words quiet. save_request (rows_after save_shape.rules [] words) (save_found words quiet),
   (λ words quiet. continue_request (rows_after continue_shape.rules [] words) (continue_found words quiet), worlds_give_requests),
 )
 
-replays_give_requests : AllGiveRequests (replay_shape ∷ migrate_shape ∷ save_shape ∷ continue_shape ∷ view_shape ∷ worlds_shape ∷ [])
+replays_give_requests : AllGiveRequests (replay_shape ∷ migrate_shape ∷ save_shape ∷ continue_shape ∷ view_shape ∷ worlds_shape ∷ compare_shape ∷ [])
 replays_give_requests = (
   λ words quiet. replay_request (rows_after replay_shape.rules [] words) (there_of replay_shape (codes "file") words replay_found quiet),
   (λ words quiet. migrate_request (rows_after migrate_shape.rules [] words) (migrate_found words quiet), saves_give_requests),
 )
 
-links_give_requests : AllGiveRequests (serve_shape ∷ play_shape ∷ replay_shape ∷ migrate_shape ∷ save_shape ∷ continue_shape ∷ view_shape ∷ worlds_shape ∷ [])
+links_give_requests : AllGiveRequests (serve_shape ∷ play_shape ∷ replay_shape ∷ migrate_shape ∷ save_shape ∷ continue_shape ∷ view_shape ∷ worlds_shape ∷ compare_shape ∷ [])
 links_give_requests = (
   λ words quiet. serve_request (rows_after serve_shape.rules [] words) (serve_found words quiet),
   (λ words quiet. play_request (rows_after play_shape.rules [] words) (play_found words quiet), replays_give_requests),

@@ -3,7 +3,7 @@ use Rattle.std.proofs.Common.{◌≡◌, ◌==◌, Bool, true, false, [], ◌∷
 use Rattle.clap.specs.Walk.{Text}
 use Rattle.clap.proofs.OnLiterals.{clap_on_literals}
 use Rattle.clap.proofs.SimpleLemmas.{is_false}
-use Rattle.command_words.specs.RequestPlain.{Drill, Replay, Migrate, Save, Continue, View, Worlds, Route, Make, Local, Serve, Play, match_alone}
+use Rattle.command_words.specs.RequestPlain.{Drill, Replay, Migrate, Save, Continue, View, Worlds, Compare, Route, Make, Local, Serve, Play, match_alone}
 use Rattle.base.specs.Numbers.{number_of}
 use Rattle.rule_values.specs.Cells.{cell_of, coordinate_of}
 use Rattle.rule_values.specs.Parts.{parts_at}
@@ -53,6 +53,11 @@ pub worlds_with_options : (program file map_file : Text)
     ≡ Some (Worlds (record { file = file; map_file = Some map_file; rules = [] }) (record { from = 7; to = Some 4294967295; every = 64 }))
 unfolding request_on_literals all_commands clap_on_literals
 worlds_with_options program file map_file = refl
+
+pub compare_after_equals : (program first second : Text)
+    → request_of (program ∷ codes "compare" ∷ (codes "--with=" ++ second) ∷ (codes "--file=" ++ first) ∷ []) ≡ Some (Compare (match_alone first) second)
+unfolding request_on_literals all_commands clap_on_literals
+compare_after_equals program first second = refl
 
 pub local_after_equals : (program script : Text) → request_of (program ∷ codes "local" ∷ (codes "--script=" ++ script) ∷ []) ≡ Some (Local (match_alone script))
 unfolding request_on_literals all_commands clap_on_literals

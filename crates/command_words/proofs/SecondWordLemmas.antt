@@ -16,8 +16,8 @@ use Rattle.clap.proofs.SimpleLemmas.{is_nil}
 use Rattle.clap.proofs.WalkLemmas.{walk_stopped}
 use Rattle.command_words.specs.CommandNames.{command_of}
 use Rattle.command_words.specs.Commands.{lockstep_app}
-use Rattle.command_words.specs.RequestPlain.{RequestPlain, Drill, Yaml, Check, Route, Make, Local, Serve, Play, Replay, Migrate, Save, Continue, View, Worlds, RangePlain}
-use Rattle.command_words.specs.Reading.{is_accepted, command_request, names_in, number_in, match_in, play_in, serve_in, migrate_in, route_in, save_in, continue_in, view_in, range_in, worlds_in, found_request, request_of}
+use Rattle.command_words.specs.RequestPlain.{RequestPlain, Drill, Yaml, Check, Route, Make, Local, Serve, Play, Replay, Migrate, Save, Continue, View, Worlds, Compare, RangePlain}
+use Rattle.command_words.specs.Reading.{is_accepted, command_request, names_in, number_in, match_in, play_in, serve_in, migrate_in, route_in, save_in, continue_in, view_in, range_in, worlds_in, compare_in, found_request, request_of}
 use Rattle.command_words.proofs.OnCommands.{all_commands}
 use Rattle.command_words.proofs.LiteralLemmas.{no_words, alone}
 use Rattle.command_words.proofs.FoundValuesLemmas.{first_none, some_kind}
@@ -90,6 +90,14 @@ worlds_of found = go (range_in found)
     go None = tt
     go (Some range) = made_of (λ query. Worlds query range) (codes "worlds") (λ query. refl) (match_in (codes "file") found)
 
+compare_of : (found : List Row) → IsOf (codes "compare") (compare_in found)
+unfolding compare_in
+compare_of found = go (first_of (codes "with") found)
+  where
+    go : (second : Option Text) → IsOf (codes "compare") (option_and_then (λ second. option_map (λ query. Compare query second) (match_in (codes "file") found)) second)
+    go None = tt
+    go (Some second) = made_of (λ query. Compare query second) (codes "compare") (λ query. refl) (match_in (codes "file") found)
+
 request_is_of : (command : Text) (found : List Row) → IsOf command (command_request command found)
 unfolding command_request
 request_is_of command found =
@@ -106,7 +114,8 @@ request_is_of command found =
     (by_name command (codes "save") _ _ (save_of found)
     (by_name command (codes "continue") _ _ (continue_of found)
     (by_name command (codes "view") _ _ (view_of found)
-    (by_name command (codes "worlds") _ _ (worlds_of found) tt)))))))))))))
+    (by_name command (codes "worlds") _ _ (worlds_of found)
+    (by_name command (codes "compare") _ _ (compare_of found) tt))))))))))))))
 
 -- ---- the first word, where only commands stand
 
@@ -237,7 +246,7 @@ named_of shapes one word words (Some name) same =
 
 all_one_name : HaveOneName (built lockstep_app).subs
 unfolding all_commands
-all_one_name = (refl, (refl, (refl, (refl, (refl, (refl, (refl, (refl, (refl, (refl, (refl, (refl, (refl, (refl, tt))))))))))))))
+all_one_name = (refl, (refl, (refl, (refl, (refl, (refl, (refl, (refl, (refl, (refl, (refl, (refl, (refl, (refl, (refl, tt)))))))))))))))
 
 quiet_walk : (program word : Text) (words : List Text) → fault_of lockstep_app (program ∷ word ∷ words) ≡ []
     → walk_fault (above (built lockstep_app).top) (names_of (built lockstep_app)) (walk_from nothing_held) (word ∷ words) ≡ []

@@ -2,7 +2,7 @@
 use Rattle.std.specs.Prelude.{List, ℕ, codes}
 use Rattle.command_words.specs.RequestPlain.{RequestPlain, Drill, Yaml, Check, Route, Make}
 use Rattle.command_words.specs.RequestPlain.{Local, Serve, Play, Replay, Migrate}
-use Rattle.command_words.specs.RequestPlain.{Save, Continue, View, Worlds}
+use Rattle.command_words.specs.RequestPlain.{Save, Continue, View, Worlds, Compare}
 
 -- The command of a request.
 abbrev pub command_of : RequestPlain → List ℕ
@@ -20,3 +20,4 @@ command_of (Save query frames to) = codes "save"
 command_of (Continue query save) = codes "continue"
 command_of (View query client) = codes "view"
 command_of (Worlds query range) = codes "worlds"
+command_of (Compare query second) = codes "compare"

@@ -160,6 +160,13 @@ unfoldable pub worlds_app : App
 worlds_app =
     with_rule (with_rule ranged_app (number_option (codes "every") 1 4294967295)) file_names
 
+-- `compare --file FILE --map FILE --with FILE RULES`, where the map may be left out.
+unfoldable pub compare_app : App
+compare_app =
+    with_rule
+    (with_rule (played_app (codes "compare") (codes "file")) (required_option (codes "with")))
+    file_names
+
 -- A command that one of its subcommands must follow, without words for help or the version.
 unfoldable pub bare_app : App
 bare_app = on_top (λ shape. record shape {
@@ -194,6 +201,10 @@ replaying_app = with_subcommand (with_subcommand linked_app replay_app.top) migr
 unfoldable pub saving_app : App
 saving_app = with_subcommand (with_subcommand replaying_app save_app.top) continue_app.top
 
--- The whole command line, with those that show worlds of a replay.
+-- The same with those that show worlds of a replay.
+unfoldable pub showing_app : App
+showing_app = with_subcommand (with_subcommand saving_app view_app.top) worlds_app.top
+
+-- The whole command line, with the one that compares two files.
 unfoldable pub lockstep_app : App
-lockstep_app = with_subcommand (with_subcommand saving_app view_app.top) worlds_app.top
+lockstep_app = with_subcommand showing_app compare_app.top

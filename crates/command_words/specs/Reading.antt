@@ -17,7 +17,7 @@ use Rattle.rule_values.specs.Cells.{cell_of}
 use Rattle.world_units.specs.declared.cell.CPos.{CPos}
 use Rattle.command_words.specs.RequestPlain.{RequestPlain, Drill, Yaml, Check, Route, Make}
 use Rattle.command_words.specs.RequestPlain.{Local, Serve, Play, Replay, Migrate}
-use Rattle.command_words.specs.RequestPlain.{Save, Continue, View, Worlds}
+use Rattle.command_words.specs.RequestPlain.{Save, Continue, View, Worlds, Compare}
 use Rattle.command_words.specs.RequestPlain.{MatchPlain, RoutePlain, ServePlain, RangePlain}
 use Rattle.command_words.specs.Commands.{lockstep_app}
 
@@ -136,6 +136,13 @@ worlds_in found =
     option_map (λ query. Worlds query range) (match_in (codes "file") found))
     (range_in found)
 
+-- The request to compare two saves or two replays: the first, and the second.
+unfoldable pub compare_in : List Row → Option RequestPlain
+compare_in found =
+    option_and_then (λ second.
+    option_map (λ query. Compare query second) (match_in (codes "file") found))
+    (first_of (codes "with") found)
+
 -- The request to play a script over a link: which, and where the server is.
 unfoldable pub play_in : List Row → Option RequestPlain
 play_in found =
@@ -204,6 +211,7 @@ command_request command found =
     else if bytes_eq command (codes "continue") then continue_in found
     else if bytes_eq command (codes "view") then view_in found
     else if bytes_eq command (codes "worlds") then worlds_in found
+    else if bytes_eq command (codes "compare") then compare_in found
     else None
 
 -- The request of the command that the words name, if they name one.
@@ -233,6 +241,7 @@ least_names command =
     else if bytes_eq command (codes "continue") then Some 0
     else if bytes_eq command (codes "view") then Some 0
     else if bytes_eq command (codes "worlds") then Some 0
+    else if bytes_eq command (codes "compare") then Some 0
     else None
 
 -- The command takes positional arguments, and their number is not allowed.

@@ -11,7 +11,7 @@ use Rattle.command_words.specs.declared.world_range.WorldRange.{WorldRange}
 use Rattle.command_words.specs.declared.request.Request.{Request}
 use Rattle.command_words.specs.declared.request.Request.TheVariants as request
 
--- A match by what a file holds: a drill, a script or a replay.
+-- A match by what a file holds: a drill, a script, a replay or a save.
 pub record MatchPlain : Type 0 where
   pub file : List ℕ
   pub map_file : Option (List ℕ)
@@ -61,6 +61,7 @@ pub data RequestPlain : Type 0 where
   Continue : MatchPlain → (save : List ℕ) → RequestPlain
   View : MatchPlain → (client : ℕ) → RequestPlain
   Worlds : MatchPlain → RangePlain → RequestPlain
+  Compare : MatchPlain → (second : List ℕ) → RequestPlain
 
 abbrev pub plain_name : Option (Bor (List ℕ)) → Option (List ℕ)
 plain_name = option_map (λ name. name.now)
@@ -113,6 +114,7 @@ plain_of (request.Save query frames to) = Save (plain_match query) frames to.now
 plain_of (request.Continue query save) = Continue (plain_match query) save.now
 plain_of (request.View query client) = View (plain_match query) client
 plain_of (request.Worlds query range) = Worlds (plain_match query) (plain_range range)
+plain_of (request.Compare query second) = Compare (plain_match query) second.now
 
 -- A request has at most `MAX_FILES` positional arguments.
 abbrev pub HasFewFiles : Request → Type 0
@@ -130,6 +132,7 @@ HasFewFiles (request.Save query frames to) = length query.rules ≤ MAX_FILES
 HasFewFiles (request.Continue query save) = length query.rules ≤ MAX_FILES
 HasFewFiles (request.View query client) = length query.rules ≤ MAX_FILES
 HasFewFiles (request.Worlds query range) = length query.rules ≤ MAX_FILES
+HasFewFiles (request.Compare query second) = length query.rules ≤ MAX_FILES
 
 -- A match that is served has as many clients as a match may have.
 abbrev pub IsCount : ℕ → Type 0

@@ -5,8 +5,8 @@ ghost use Rattle.command_words.specs.Commands.{make_app, local_app, replay_app, 
 ghost use Rattle.command_words.specs.Commands.{hosted_app, timed_app, serve_app, play_app};
 ghost use Rattle.command_words.specs.Commands.{first_app, asking_app, playing_app, linked_app};
 ghost use Rattle.command_words.specs.Commands.{framed_app, save_app, continue_app, view_app};
-ghost use Rattle.command_words.specs.Commands.{ranged_app, worlds_app};
-ghost use Rattle.command_words.specs.Commands.{replaying_app, saving_app, lockstep_app};
+ghost use Rattle.command_words.specs.Commands.{ranged_app, worlds_app, compare_app};
+ghost use Rattle.command_words.specs.Commands.{replaying_app, saving_app, showing_app, lockstep_app};
 ghost use Rattle.command_words.specs.Commands.{option_named, required_option, required_number};
 ghost use Rattle.command_words.specs.Commands.{file_names, number_option, within};
 ghost use Rattle.command_words.specs.Follows.{Follows};
@@ -23,6 +23,14 @@ use std::alloc::Global;
 #[tactic(auto, unfolding(crate::specs::Commands::lockstep_app))]
 pub(crate) fn lockstep_command<'a>(alloc: Global) -> Result<Command<'a>, NoMemory>
     ensures { IfOk result (λ command. app_of command ≡ lockstep_app) }
+{
+    showing_commands(alloc)?.subcommand(compare_command(alloc)?)
+}
+
+/// The command of the program with the subcommands that show worlds of a replay, too.
+#[tactic(auto, unfolding(crate::specs::Commands::showing_app))]
+fn showing_commands<'a>(alloc: Global) -> Result<Command<'a>, NoMemory>
+    ensures { IfOk result (Follows showing_app) }
 {
     saving_commands(alloc)?
         .subcommand(view_command(alloc)?)?
@@ -280,6 +288,15 @@ fn ranged_command<'a>(alloc: Global) -> Result<Command<'a>, NoMemory>
     played_command(alloc, "worlds", "file")?
         .arg(number_option(alloc, "from", 0, u32::MAX))?
         .arg(number_option(alloc, "to", 0, u32::MAX))
+}
+
+#[tactic(auto, unfolding(crate::specs::Commands::compare_app))]
+fn compare_command<'a>(alloc: Global) -> Result<Command<'a>, NoMemory>
+    ensures { IfOk result (Follows compare_app) }
+{
+    played_command(alloc, "compare", "file")?
+        .arg(required_option(alloc, "with"))?
+        .arg(file_names(alloc))
 }
 
 #[tactic(auto, unfolding(crate::specs::Commands::make_app))]

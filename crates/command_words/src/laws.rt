@@ -6,7 +6,8 @@ ghost use Rattle.command_words.specs.CommandNames.{command_of};
 ghost use Rattle.command_words.specs.Commands.{lockstep_app};
 ghost use Rattle.command_words.specs.RequestPlain.{RequestPlain, Drill, Yaml, Check, Replay};
 ghost use Rattle.command_words.specs.RequestPlain.{Migrate, Route, Make, Local, Serve, Play};
-ghost use Rattle.command_words.specs.RequestPlain.{Save, Continue, View, Worlds, match_alone};
+ghost use Rattle.command_words.specs.RequestPlain.{Save, Continue, View, Worlds, Compare};
+ghost use Rattle.command_words.specs.RequestPlain.{match_alone};
 ghost use Rattle.command_words.specs.Reading.{request_of, is_accepted, is_plain, allowed};
 ghost use Rattle.command_words.specs.Reading.{NamesRefused, CellRefused};
 
@@ -107,6 +108,16 @@ pub fn worlds_with_options()
         ∷ codes "--from=7" ∷ (codes "--map=" ++ map_file) ∷ (codes "--file=" ++ file) ∷ [])
         ≡ Some (Worlds (record { file = file; map_file = Some map_file; rules = [] })
         (record { from = 7; to = Some 4294967295; every = 64 })) }
+{}
+
+/// A law of the definition: `compare --with=FILE --file=FILE` names the second file and the first,
+/// whatever they are.
+#[tactic(auto, using(crate::proofs::LiteralLemmas::compare_after_equals))]
+pub fn compare_after_equals()
+    ensures { (program first second : List ℕ) →
+        request_of (program ∷ codes "compare" ∷ (codes "--with=" ++ second)
+        ∷ (codes "--file=" ++ first) ∷ [])
+        ≡ Some (Compare (match_alone first) second) }
 {}
 
 /// A law of the definition: `local --script=FILE` names FILE, whatever it is.

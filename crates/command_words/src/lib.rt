@@ -19,12 +19,12 @@ mod world_range;
 
 pub use file_names::FileNames;
 pub use laws::{
-    accepted_words_name_a_request, check_names, command_comes_second, continue_after_equals,
-    local_after_equals, make_of_a_number, map_after_equals, migrated_files_after_equals,
-    no_command, play_after_equals, record_after_equals, replay_after_equals, route_with_options,
-    save_with_options, script_after_equals, script_in_a_word, serve_with_options,
-    serve_without_options, view_of_a_client, worlds_with_options, worlds_without_options,
-    yaml_names,
+    accepted_words_name_a_request, check_names, command_comes_second, compare_after_equals,
+    continue_after_equals, local_after_equals, make_of_a_number, map_after_equals,
+    migrated_files_after_equals, no_command, play_after_equals, record_after_equals,
+    replay_after_equals, route_with_options, save_with_options, script_after_equals,
+    script_in_a_word, serve_with_options, serve_without_options, view_of_a_client,
+    worlds_with_options, worlds_without_options, yaml_names,
 };
 pub use match_query::MatchQuery;
 pub use reading::read_words;

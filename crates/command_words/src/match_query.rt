@@ -1,7 +1,7 @@
 use crate::file_names::FileNames;
 
-/// A match by what a file holds, a drill, a script or a replay, with the rules and the map that it
-/// is played over.
+/// A match by what a file holds, a drill, a script, a replay or a save, with the rules and the map
+/// that it is played over.
 #[derive(Debug, Drop)]
 pub struct MatchQuery<'a> {
     /// The name of that file.

@@ -13,7 +13,7 @@ ghost use Rattle.command_words.specs.Reading.{found_request, request_of, names_i
 ghost use Rattle.command_words.specs.Reading.{cell_in, match_in, route_in, migrate_in};
 ghost use Rattle.command_words.specs.Reading.{count_in, count_or, up_to, serve_in, play_in};
 ghost use Rattle.command_words.specs.Reading.{step_or, from_one, range_in, worlds_in};
-ghost use Rattle.command_words.specs.Reading.{save_in, continue_in, view_in};
+ghost use Rattle.command_words.specs.Reading.{save_in, continue_in, view_in, compare_in};
 
 use crate::command::lockstep_command;
 use crate::{
@@ -124,6 +124,7 @@ fn request_for<'a>(
         "continue" => continue_in(alloc, found),
         "view" => view_in(alloc, found),
         "worlds" => worlds_in(alloc, found),
+        "compare" => compare_in(alloc, found),
         "make" => Ok(Request::Make {
             number: number_in(found, "number").ok_or(WordsFault::Refused)?,
         }),
@@ -261,6 +262,22 @@ fn range_in(found: &ArgMatches<'_>) -> Option<WorldRange>
     let from = number_in(found, "from").unwrap_or(DEFAULT_FROM);
     let to = number_in(found, "to");
     Some(WorldRange { from, to, every })
+}
+
+/// The request to compare two saves or two replays.
+#[tactic(auto, unfolding(crate::specs::Reading::compare_in))]
+fn compare_in<'a>(alloc: Global, found: &ArgMatches<'a>) -> Result<Request<'a>, WordsFault>
+    ensures request { IfOk result
+        (λ request. compare_in (rows_of (found_of found.now)) ≡ Some (plain_of request)) }
+    ensures few { IfOk result HasFewFiles }
+    ensures clients { IfOk result HasClients }
+    ensures steps { IfOk result HasSteps }
+    ensures refused { result ≡ Err WordsFault.Refused →
+        compare_in (rows_of (found_of found.now)) ≡ None }
+{
+    let second = value_in(found, "with").ok_or(WordsFault::Refused)?;
+    let query = match_in(alloc, found, "file")?;
+    Ok(Request::Compare { query, second })
 }
 
 /// The match that is to be served.

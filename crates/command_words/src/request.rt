@@ -108,4 +108,13 @@ pub enum Request<'a> {
         /// Which of its worlds are printed.
         range: WorldRange,
     },
+
+    /// `compare --file FILE --with FILE --map FILE RULES`: print how two saves, or two replays,
+    /// differ that are over the map and the rules.
+    Compare {
+        /// The first of them.
+        query: MatchQuery<'a>,
+        /// The name of the second one's file.
+        second: &'a str,
+    },
 }

@@ -1,5 +1,6 @@
 pub mod Fault
 pub mod Fields
+pub mod Fits
 pub mod Crew
 pub mod ActorReading
 pub mod WorldReading

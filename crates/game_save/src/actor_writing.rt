@@ -1,4 +1,6 @@
 ghost use Rattle.std.specs.Prelude.{◌≡◌, ◌++◌, ◌∷◌, [], OnOk};
+ghost use Rattle.std.specs.List.{All};
+ghost use Rattle.sync_hash.specs.FitsFields.{ActivityFits, ActorFits, BuildFits, LegFits};
 ghost use Rattle.sync_hash.specs.HashedBytes.{activity_bytes, actor_bytes, acts_bytes, build_bytes};
 ghost use Rattle.sync_hash.specs.HashedBytes.{builds_bytes, cell_bytes, leg_bytes};
 
@@ -23,9 +25,10 @@ fn append_cell(out: &mut Vec<u8>, p: CPos) -> Result<(), NoMemory>
     out.extend_from_slice(&[p.x, p.y])
 }
 
-/// Appends a leg, or none.
+/// Appends a leg, or none. Each number fits its field, as of all that is appended here.
 fn append_leg(out: &mut Vec<u8>, leg: Option<Leg>) -> Result<(), NoMemory>
-    ensures { OnOk result (out.new.items ≡ out.old.items ++ leg_bytes leg) }
+    ensures bytes { OnOk result (out.new.items ≡ out.old.items ++ leg_bytes leg) }
+    ensures fits { OnOk result (LegFits leg) }
 {
     match leg {
         None => append_byte(out, 0),
@@ -38,7 +41,8 @@ fn append_leg(out: &mut Vec<u8>, leg: Option<Leg>) -> Result<(), NoMemory>
 
 /// Appends an activity: its tag, and then its fields.
 fn append_activity(out: &mut Vec<u8>, activity: &Activity) -> Result<(), NoMemory>
-    ensures { OnOk result (out.new.items ≡ out.old.items ++ activity_bytes activity.now) }
+    ensures bytes { OnOk result (out.new.items ≡ out.old.items ++ activity_bytes activity.now) }
+    ensures fits { OnOk result (ActivityFits activity.now) }
 {
     match activity {
         Activity::Move { goal, waits } => {
@@ -68,7 +72,8 @@ fn append_activity(out: &mut Vec<u8>, activity: &Activity) -> Result<(), NoMemor
 
 /// Appends the number of activities and each of them.
 fn append_acts(out: &mut Vec<u8>, acts: &Queue) -> Result<(), NoMemory>
-    ensures { OnOk result (out.new.items ≡ out.old.items ++ acts_bytes acts.now) }
+    ensures bytes { OnOk result (out.new.items ≡ out.old.items ++ acts_bytes acts.now) }
+    ensures fits { OnOk result (All ActivityFits acts.now) }
 {
     append_byte(out, acts.len() as u8)?;
     for activity in acts.as_slice() {
@@ -79,7 +84,8 @@ fn append_acts(out: &mut Vec<u8>, acts: &Queue) -> Result<(), NoMemory>
 
 /// Appends a build: its kind and the turns left.
 fn append_build(out: &mut Vec<u8>, build: &Build) -> Result<(), NoMemory>
-    ensures { OnOk result (out.new.items ≡ out.old.items ++ build_bytes build.now) }
+    ensures bytes { OnOk result (out.new.items ≡ out.old.items ++ build_bytes build.now) }
+    ensures fits { OnOk result (BuildFits build.now) }
 {
     write_u16(out, build.kind)?;
     write_u16(out, build.left)
@@ -87,7 +93,8 @@ fn append_build(out: &mut Vec<u8>, build: &Build) -> Result<(), NoMemory>
 
 /// Appends the number of builds and each of them.
 fn append_builds(out: &mut Vec<u8>, builds: &Builds) -> Result<(), NoMemory>
-    ensures { OnOk result (out.new.items ≡ out.old.items ++ builds_bytes builds.now) }
+    ensures bytes { OnOk result (out.new.items ≡ out.old.items ++ builds_bytes builds.now) }
+    ensures fits { OnOk result (All BuildFits builds.now) }
 {
     append_byte(out, builds.len() as u8)?;
     for build in builds.as_slice() {
@@ -99,7 +106,8 @@ fn append_builds(out: &mut Vec<u8>, builds: &Builds) -> Result<(), NoMemory>
 /// Appends an actor as it is hashed.
 #[tactic(auto, unfolding(sync_hash::specs::HashedBytes::actor_bytes))]
 pub(crate) fn append_actor(out: &mut Vec<u8>, a: &Actor) -> Result<(), NoMemory>
-    ensures { OnOk result (out.new.items ≡ out.old.items ++ actor_bytes a.now) }
+    ensures bytes { OnOk result (out.new.items ≡ out.old.items ++ actor_bytes a.now) }
+    ensures fits { OnOk result (ActorFits a.now) }
 {
     write_u32(out, a.id)?;
     write_u16(out, a.kind)?;

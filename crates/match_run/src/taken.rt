@@ -1,4 +1,4 @@
-ghost use Rattle.std.specs.Prelude.{◌≡◌, ◌<◌, ◌≤◌, ◌-◌, [], ◌∷◌, ◌++◌, false, nat_lt, length};
+ghost use Rattle.std.specs.Prelude.{◌≡◌, ◌<◌, ◌≤◌, ◌-◌, [], ◌∷◌, ◌++◌, ◌==◌, false, nat_lt, length};
 ghost use Rattle.game_orders.specs.declared.limits.TheConstants.{MAX_CLIENTS};
 ghost use Rattle.match_run.specs.Taken.{entry_taken};
 
@@ -29,6 +29,17 @@ impl Taken {
             plays: PlayList::new(alloc),
             left: false,
         }
+    }
+
+    /// Holds these plays, the first of which is that of frame `from`, in place of what it held. Where
+    /// there are none the client had left by then.
+    pub(crate) fn hold(&mut self, from: u32, plays: PlayList)
+        ensures from { self.new.from ≡ from }
+        ensures plays { self.new.plays ≡ plays }
+        ensures left { self.new.left ≡ (length plays == 0) }
+    {
+        let left = plays.len() == 0;
+        *self = Taken { from, plays, left };
     }
 
     /// Whether a play at frame `n` was taken, which is not below `from`.

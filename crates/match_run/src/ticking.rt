@@ -177,11 +177,6 @@ fn take_client<R: Wait>(
         return Ok(());
     }
     let plays = table.take_plays(rt, alloc, pass, c, n, MOST_AT_ONCE)?;
-    let left = plays.len() == 0;
-    *own = Taken {
-        from: n,
-        plays,
-        left,
-    };
+    own.hold(n, plays);
     Ok(())
 }

@@ -64,6 +64,8 @@ fn read_parts(
         part_fits(&part);
         standing.pass(&part);
         parts.push(&part)?;
+        // by a call, so that the loop's proof is one for all parts
+        drop(part);
     }
     if c.left() > 0 {
         return Err(ReplayFault::TrailingBytes {

@@ -76,6 +76,8 @@ pub fn migrate<S: FirstHash>(alloc: Global, world: S, r: &Replay) -> Result<Migr
             return Ok(Migration::Differs(difference));
         }
         marks += write_anew(&mut writer, &part, &run.world)?;
+        // by a call, so that the loop's proof is one for all parts
+        drop(part);
     }
     Ok(Migration::Migrated {
         bytes: writer.finish()?,

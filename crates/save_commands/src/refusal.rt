@@ -26,7 +26,7 @@ fn save_stop<'a>(name: &'a str, fault: &SaveFault) -> Stop<'a>
 /// The save of a file with this name, over the maker's rules and map and with this rules number.
 /// The file is refused with its first fault, the place of it and the cause, as `read_save` finds
 /// it. Out of memory is the only other stop.
-pub(crate) fn read_save_file<'a>(
+pub fn read_save_file<'a>(
     alloc: Global,
     name: &'a str,
     rules: u64,

@@ -12,20 +12,20 @@ ghost use Rattle.save_commands.specs.Saves.{save_bytes_at, save_step, saved_at, 
 ghost use Rattle.save_commands.specs.Saves.{saved_reply};
 
 use crate::fitting::check_frames;
+use crate::game_world::GameWorld;
 use crate::text::saved_text;
 use base::NoMemory;
 use command_answers::{Answer, DONE, FileBytes, Stop};
 use frame_core::Maker;
-use game_save::{a_save_is_read_back, write_save};
+use game_save::write_lent_save;
 use replay_commands::{MarkedGame, read_replay_file};
 use replay_file::Replay;
 use replay_run::{a_resumed_run_gives_the_same, world_after};
 use std::alloc::Global;
-use sync_hash::world_fits;
 use tick_core::{Game, GameMaker};
 
-/// The save of a game of at most `MAX_FRAMES` steps, with this rules number. Reading it gives the
-/// game's world and steps.
+/// The save of a game of at most `MAX_FRAMES` steps, with this rules number, spelled from what the
+/// game lends. Reading it gives the game's world and steps.
 fn save_of(alloc: Global, number: u64, game: &Game) -> Result<Vec<u8>, NoMemory>
     requires { game.now.steps ≤ MAX_FRAMES }
     ensures saves { IfOk result
@@ -33,16 +33,15 @@ fn save_of(alloc: Global, number: u64, game: &Game) -> Result<Vec<u8>, NoMemory>
     ensures again { IfOk result (λ bytes. read_save_of number game.now.setup bytes.items
         ≡ Ok (saved_of game.now)) }
 {
-    a_save_is_read_back();
-    let world = game.snapshot(alloc)?;
-    world_fits(&world);
-    write_save(
+    // by its clause the world is valid
+    let _head = game.head();
+    write_lent_save(
         alloc,
         game.rules(),
         game.map(),
         number,
         game.step_count(),
-        &world,
+        &GameWorld { game },
     )
 }
 

@@ -1,4 +1,4 @@
-ghost use Rattle.std.specs.Prelude.{◌≡◌, ◌<◌, IfOk, OnOk, string_bytes};
+ghost use Rattle.std.specs.Prelude.{◌≡◌, ◌<◌, IfOk, string_bytes};
 ghost use Rattle.command_answers.specs.Answer.{reply_of};
 ghost use Rattle.command_answers.specs.Reply.{done};
 ghost use Rattle.command_answers.specs.Stop.{IsRefusal, ReturnsStep};
@@ -14,25 +14,21 @@ use crate::text::shown_text;
 use base::NoMemory;
 use command_answers::{Answer, DONE, Stop};
 use frame_core::Maker;
-use game_model::MAX_ACTORS;
 use replay_commands::read_replay_file;
 use replay_file::Replay;
 use replay_run::Playback;
 use shroud::Shroud;
-use std::alloc::{AllocError, Global};
+use std::alloc::Global;
 use tick_core::{Game, GameMaker};
 
-/// Lets the shroud follow the game to its world. The shroud has memory for [`MAX_ACTORS`] actors;
-/// no game has more.
-fn follow(shroud: &mut Shroud, game: &Game) -> Result<(), NoMemory>
-    ensures { OnOk result
-        (shroud.new ≡ updated shroud.old game.now.world.actors shroud.new.touched) }
+/// Lets the shroud follow the game to its world. No game has more actors than a shroud has memory
+/// for.
+fn follow(shroud: &mut Shroud, game: &Game)
+    ensures { shroud.new ≡ updated shroud.old game.now.world.actors shroud.new.touched }
 {
-    if game.actor_count() > MAX_ACTORS {
-        return Err(AllocError);
-    }
+    // by its clause they are few
+    let _few = game.actor_count();
     shroud.update_from(&GameActors { game });
-    Ok(())
 }
 
 /// The opening game of a replay.
@@ -48,22 +44,22 @@ fn opening(alloc: Global, maker: &GameMaker, r: &Replay) -> Result<Game, NoMemor
 
 /// Lets a new shroud follow a replay, from its opening game to the end, and returns how many frames
 /// it has.
-fn watch(shroud: &mut Shroud, game: Game, r: &Replay) -> Result<u32, NoMemory>
+fn watch(shroud: &mut Shroud, game: Game, r: &Replay) -> u32
     requires valid { IsValidReplay r.now }
     requires clients { game_clients game ≡ r.now.clients }
     requires fresh { game_steps game ≡ 0 }
     requires opens { game ≡ game_start game.setup r.now.seed r.now.clients }
     requires shrouded { shroud.old
         ≡ shrouded game.setup.rules game.setup.map.width game.setup.map.height r.now.clients }
-    ensures frames { IfOk result (λ frames. frames ≡ frame_count r.now) }
-    ensures watched { OnOk result (HasWatched game.setup r.now (frame_count r.now) shroud.new) }
+    ensures frames { result ≡ frame_count r.now }
+    ensures watched { HasWatched game.setup r.now (frame_count r.now) shroud.new }
 {
     let mut playback = Playback::begin(game, r);
-    follow(shroud, playback.world())?;
+    follow(shroud, playback.world());
     while playback.step() {
-        follow(shroud, playback.world())?;
+        follow(shroud, playback.world());
     }
-    Ok(playback.frames())
+    playback.frames()
 }
 
 /// What is printed of a client of a replay's match.
@@ -76,7 +72,7 @@ fn text_of(alloc: Global, client: u8, maker: &GameMaker, r: &Replay) -> Result<S
     let rules = maker.rules().clone()?;
     let mut shroud = Shroud::create(alloc, rules, width, height, r.clients)?;
     let game = opening(alloc, maker, r)?;
-    let frames = watch(&mut shroud, game, r)?;
+    let frames = watch(&mut shroud, game, r);
     shown_text(alloc, &shroud, client, frames, width, height)
 }
 

@@ -1,6 +1,6 @@
 -- Numbers between words are told by their text.
 use Rattle.std.proofs.Common.{◌≡◌, ◌<◌, ◌^◌, ℕ, ◌+◌, ◌%◌, Bool, true, false, List, [], ◌∷◌, ◌++◌, length}
-use Rattle.std.proofs.Common.{refl, sym, ap, ap₂, subst, ◌∙◌, arith, cond}
+use Rattle.std.proofs.Common.{refl, sym, ap, ap₂, subst, ◌∙◌, arith, cond, get_or}
 use Rattle.std.specs.Prelude.{not}
 use Rattle.std.specs.Char.{is_ascii_digit}
 use Rattle.std.specs.Fmt.{decimal}
@@ -181,3 +181,36 @@ items_told {X = X} Holds text_of Follows more one (x ∷ xs) (y ∷ ys) left rig
     followed (z ∷ zs) rest f =
         subst Follows (sym (append_assoc (text_of z) (flat_map text_of zs) rest))
         (more z (flat_map text_of zs ++ rest))
+
+-- The number at a place, 0 past the end.
+abbrev pub nth : ℕ → List ℕ → ℕ
+nth k numbers = get_or numbers k 0
+
+-- What stands after a text of so many parts.
+pub regroup_3 : (a b c r : List ℕ) → ((a ++ b) ++ c) ++ r ≡ a ++ (b ++ (c ++ r))
+regroup_3 a b c r = simp append_assoc
+
+pub regroup_4 : (a b c d r : List ℕ) → (((a ++ b) ++ c) ++ d) ++ r ≡ a ++ (b ++ (c ++ (d ++ r)))
+regroup_4 a b c d r = simp append_assoc
+
+pub regroup_5 :
+    (a b c d e r : List ℕ) →
+    ((((a ++ b) ++ c) ++ d) ++ e) ++ r ≡ a ++ (b ++ (c ++ (d ++ (e ++ r))))
+regroup_5 a b c d e r = simp append_assoc
+
+pub regroup_6 :
+    (a b c d e f r : List ℕ) →
+    (((((a ++ b) ++ c) ++ d) ++ e) ++ f) ++ r ≡ a ++ (b ++ (c ++ (d ++ (e ++ (f ++ r)))))
+regroup_6 a b c d e f r = simp append_assoc
+
+pub regroup_7 :
+    (a b c d e f g r : List ℕ) →
+    ((((((a ++ b) ++ c) ++ d) ++ e) ++ f) ++ g) ++ r
+    ≡ a ++ (b ++ (c ++ (d ++ (e ++ (f ++ (g ++ r))))))
+regroup_7 a b c d e f g r = simp append_assoc
+
+pub regroup_11 :
+    (a b c d e f g h i j k r : List ℕ) →
+    ((((((((((a ++ b) ++ c) ++ d) ++ e) ++ f) ++ g) ++ h) ++ i) ++ j) ++ k) ++ r
+    ≡ a ++ (b ++ (c ++ (d ++ (e ++ (f ++ (g ++ (h ++ (i ++ (j ++ (k ++ r))))))))))
+regroup_11 a b c d e f g h i j k r = simp append_assoc

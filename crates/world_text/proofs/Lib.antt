@@ -1,3 +1,4 @@
+mod ActorTellingLemmas
 mod FieldLemmas
 pub mod TellingLemmas
 mod WorldLemmas

@@ -1,19 +1,14 @@
 -- The lines of the kinds and of the map.
 use Rattle.std.specs.Prelude.{ℕ, zero, suc, ◌+◌, Bool, true, false, List, [], ◌∷◌, ◌++◌}
-use Rattle.std.specs.Prelude.{Option, Some, None, codes, unwrap_or}
+use Rattle.std.specs.Prelude.{codes, unwrap_or}
 use Rattle.std.specs.Fmt.{decimal}
 use Rattle.rule_traits.specs.declared.kind.Kind.{Kind}
-use Rattle.rule_traits.specs.declared.trait_fields.Mobile.{Mobile}
 use Rattle.rule_traits.specs.Rules.{hp_of}
 use Rattle.game_model.specs.declared.terrain.Terrain.{Terrain}
 use Rattle.game_model.specs.declared.terrain.Terrain.TheVariants.{Clear, Road, Rough, Water, Rock}
 use Rattle.game_model.specs.Grid.{Grid, at_cell}
+use Rattle.game_model.specs.Kinds.{speed_in}
 use Rattle.game_model.specs.Setup.{Setup}
-
--- The units that a kind moves in a turn: 0 without Mobile.
-abbrev pub speed_in : Option Mobile → ℕ
-speed_in None = 0
-speed_in (Some mobile) = mobile.speed
 
 abbrev pub building_text : Bool → List ℕ
 building_text true = codes "1"

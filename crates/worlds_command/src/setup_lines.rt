@@ -1,9 +1,10 @@
 //! The lines of the kinds and of the map.
 ghost use Rattle.std.specs.Prelude.{◌≡◌, ◌<◌, ◌++◌, string_bytes, OnOk};
+ghost use Rattle.game_model.specs.Kinds.{speed_in};
 ghost use Rattle.world_text.specs.Printing.{state_of, Prints};
 ghost use Rattle.worlds_command.specs.SetupLines.{kind_head, kind_line, kind_lines, letter_at};
 ghost use Rattle.worlds_command.specs.SetupLines.{letter_of, letters_from, map_line, map_lines};
-ghost use Rattle.worlds_command.specs.SetupLines.{row_line, rows_from, setup_lines, speed_in};
+ghost use Rattle.worlds_command.specs.SetupLines.{row_line, rows_from, setup_lines};
 ghost use Rattle.worlds_command.specs.SetupLines.{building_text};
 
 use base::NoMemory;

@@ -17,14 +17,14 @@ pub returns : goal.returns
 returns c =
     let setup : Setup = c.args.maker.now in
     let r : Replay = c.args.r.now in
-    let s : ShroudState = c.watch.new.shroud in
+    let s : ShroudState = c.watch-frames.new.shroud in
     let client : ℕ = c.args.client in
-    let frames : ℕ = c.in_ok-frames.frames in
+    let frames : ℕ = c.watch-frames.result in
     let stands : c.in_ok-game.game.setup ≡ setup =
     ap {B = Setup} (λ (g : GameState). g.setup) c.in_ok-game.ensures.opens in
     let has : HasWatched setup r (frame_count r) s =
-    subst (λ (m : Setup). HasWatched m r (frame_count r) s) stands c.in_ok-frames.ensures.watched in
-    let all : frames ≡ frame_count r = c.in_ok-frames.ensures.frames in
+    subst (λ (m : Setup). HasWatched m r (frame_count r) s) stands c.watch-frames.ensures.watched in
+    let all : frames ≡ frame_count r = c.watch-frames.ensures.frames in
     let width : c.deref.result.now.width ≡ setup.map.width =
     ap {B = ℕ} (λ (m : Map). m.width) (c.deref.ensures ∙ c.map.ensures) in
     let height : c.deref-2.result.now.height ≡ setup.map.height =

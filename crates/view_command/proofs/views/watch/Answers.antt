@@ -25,7 +25,7 @@ loop-shroud-init c =
     ∙ ap (λ (n : ℕ). world_after setup r n) none in
     let new : ShroudState = c.follow.new.shroud in
     let is : new ≡ updated c.args.shroud.now c.world.result.now.world.actors new.touched =
-    c.in_ok-follow.ensures in (
+    c.follow.ensures in (
       plays,
       subst (λ (n : ℕ). HasWatched setup r n new) (sym none)
           (watch_begins setup r c.args.shroud.now new c.world.result.now.world c.requires.shrouded world
@@ -47,7 +47,7 @@ loop-shroud-preserved c =
     ∙ world_is setup r c.args.game p c.requires.opens plays in
     let new : ShroudState = c.follow-in-loop-shroud.new.shroud in
     let is : new ≡ updated c.loop-shroud.shroud c.world-in-loop-shroud.result.now.world.actors new.touched =
-    c.in_ok-follow-2.ensures in (
+    c.follow-in-loop-shroud.ensures in (
       plays,
       watch_goes_on setup r old.frames p.frames c.loop-shroud.shroud new
           c.world-in-loop-shroud.result.now.world c.loop-shroud.invariant.1 (goes_further old p on)

@@ -13,7 +13,8 @@ invariant_of-result c =
     let same : c.in_ok-table.table.actors ≡ w.actors = search rules in
     record {
       stands = c.requires.setup;
-      acting = rw same acting;
+      acting =
+          rw (same, c.into_head_and_ore-head.ensures.head, c.into_head_and_ore-head.ensures.ore) acting;
       fits = search rules;
       blocks = search rules;
       thrown = search rules;
