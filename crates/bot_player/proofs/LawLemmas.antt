@@ -66,7 +66,7 @@ not_nearer_near from x y fails =
 
 -- One of a list is the first, or one of the others.
 nothing_in : {X : Type 0} (z : X) → Contains [] z → ⊥
-nothing_in z is = omega (arith, is.1.0)
+nothing_in z is = omega (arith, is.1)
 
 first_or : {X : Type 0} (x : X) (xs : List X) (z : X) → Contains (x ∷ xs) z → (x ≡ z) ⊎ Contains xs z
 first_or {X} x xs z is = elim (Contains-append_cases (x ∷ []) xs z is) [

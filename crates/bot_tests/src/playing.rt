@@ -1,11 +1,12 @@
 //! How a match with bots is played frame by frame, each bot by the world as it is.
 
-ghost use Rattle.std.specs.Prelude.{◌≡◌};
+ghost use Rattle.std.specs.Prelude.{◌≡◌, ◌<◌, length, IfOk};
+ghost use Rattle.tick_core.specs.Game.{game_clients};
 
 use crate::match_case::MatchCase;
 use bot_player::{bot_orders, bot_orders_from};
 use drill_words::{Scripts, read_script};
-use frame_core::{Sim, Summary};
+use frame_core::{MAX_STEPS, Sim};
 use game_model::{Actor, Map};
 use game_orders::{Entry, Frame, MAX_CLIENTS, Orders};
 use map_grid::read_map;
@@ -45,7 +46,9 @@ fn forest_of(alloc: Global, text: &str) -> Result<Forest, Fail> {
 }
 
 /// The orders of a bot, by the game itself and by a copy of its world. Both must be the same.
-fn orders_of(rt: &impl Abort, alloc: Global, game: &Game, c: u8) -> Result<Orders, Fail> {
+fn orders_of(rt: &impl Abort, alloc: Global, game: &Game, c: u8) -> Result<Orders, Fail>
+    requires { c < game_clients game.now }
+{
     let lent = bot_orders_from(game.rules(), &game.head().cash, &GameActors { game }, c);
     let world = game.snapshot(alloc)?;
     let copied = bot_orders(game.rules(), game.map(), &world, c);
@@ -61,7 +64,9 @@ fn entry_of(
     scripts: &Scripts,
     c: u8,
     n: u32,
-) -> Result<Entry, Fail> {
+) -> Result<Entry, Fail>
+    requires { c < game_clients game.now }
+{
     if c >= scripts.clients() {
         return Ok(Entry::Play(orders_of(rt, alloc, game, c)?));
     }
@@ -72,20 +77,49 @@ fn entry_of(
     Ok(Entry::Play(plays.get(n as usize)))
 }
 
-/// Plays the match of a case to its end, and compares the last world with the expected one.
-pub(crate) fn play(rt: &impl Abort, alloc: Global, case: &MatchCase) -> Result<(), Fail> {
+/// The entries of all clients for a frame.
+fn frame_of(
+    rt: &impl Abort,
+    alloc: Global,
+    game: &Game,
+    scripts: &Scripts,
+    n: u32,
+) -> Result<Frame, Fail>
+    ensures { IfOk result (λ frame. length frame ≡ game_clients game.now) }
+{
+    let mut frame = Frame::empty();
+    for c in 0..game.clients() {
+        frame.push(entry_of(rt, alloc, game, scripts, c, n)?);
+    }
+    Ok(frame)
+}
+
+/// Steps a game by a frame, if it was not stepped as often as a game can be.
+fn step(game: &mut Game, frame: &Frame)
+    requires { length frame.now ≡ game_clients game.old }
+{
+    if game.step_count() < MAX_STEPS {
+        game.step(frame);
+    }
+}
+
+/// The opening game of a case, and what its first clients play.
+fn opening(rt: &impl Abort, alloc: Global, case: &MatchCase) -> Result<(Game, Scripts), Fail> {
     let (rules, _) = type_rules(alloc, &forest_of(alloc, case.rules)?)?;
     let map = read_map(alloc, &forest_of(alloc, case.map)?, &rules)?;
     let (seed, scripts) = read_script(alloc, case.script.as_bytes(), false)?;
-    let clients = scripts.clients() + case.bots;
+    let clients = scripts.clients().saturating_add(case.bots);
+    assert!(rt; clients <= MAX_CLIENTS);
     let (rules, map) = (Rc::new(alloc, rules)?, Rc::new(alloc, map)?);
-    let mut game = Game::create(alloc, rules, map, seed, clients)?;
+    Ok((Game::create(alloc, rules, map, seed, clients)?, scripts))
+}
+
+/// Plays the match of a case to its end, and compares the last world with the expected one.
+pub(crate) fn play(rt: &impl Abort, alloc: Global, case: &MatchCase) -> Result<(), Fail> {
+    let (mut game, scripts) = opening(rt, alloc, case)?;
     for n in 0..case.frames {
-        let mut frame = Frame::empty();
-        for c in 0..clients {
-            frame.push(entry_of(rt, alloc, &game, &scripts, c, n)?);
-        }
-        game.step(&frame);
+        let frame = frame_of(rt, alloc, &game, &scripts, n)?;
+        step(&mut game, &frame);
     }
     assert_eq!(rt; game.hash(), case.hash);
     let summary = game.summary();
