@@ -108,7 +108,7 @@ fold_nearest from best (y ∷ ys) =
         each : (z : Actor) → Contains (best ∷ (y ∷ ys)) z → IsAsNear from r z
         each z is = elim (to z is) [
           | inl same ↦ subst (IsAsNear from r) same
-          (as_near_next from r kept other (held.1 kept (first_in kept ys)) near)
+              (as_near_next from r kept other (held.1 kept (first_in kept ys)) near)
           | inr is ↦ held.1 z is
         ]
 

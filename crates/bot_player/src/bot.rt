@@ -3,12 +3,12 @@ ghost use Rattle.bot_player.specs.BotOrders.{bot_orders_by, bot_orders_of};
 ghost use Rattle.game_model.specs.World.{clients_of};
 
 use crate::drafting::{drafts_of, show_all};
-use shroud::LendsActors;
 use crate::products::Products;
 use crate::survey::Survey;
 use game_model::{Map, Purse, World};
 use game_orders::Orders;
 use rule_traits::Rules;
+use shroud::LendsActors;
 
 /// What a bot that is client `c` orders in a world: `c` is below the number of clients. Each of its
 /// living actors by rising id gets at most one order, the first of these that applies, and the first

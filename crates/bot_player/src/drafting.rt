@@ -5,13 +5,13 @@ ghost use Rattle.bot_player.specs.Drafts.{produce_draft, shown};
 
 use crate::draft::{Aim, Draft};
 use crate::drafts::Drafts;
-use shroud::LendsActors;
 use crate::nth::nth_actor;
 use crate::products::Products;
 use crate::survey::{Enemy, is_enemy, is_own};
 use game_model::Actor;
 use game_orders::Order;
 use rule_traits::Rules;
+use shroud::LendsActors;
 
 /// The order to produce, if the actor can produce and has no builds: the least ready kind that it
 /// builds.

@@ -1,7 +1,7 @@
 ghost use Rattle.std.specs.Prelude.{◌≡◌, ◌<◌, length, slice_get, Some};
 
-use shroud::LendsActors;
 use game_model::Actor;
+use shroud::LendsActors;
 
 /// The i-th of the actors that are lent, from 0, which is there.
 pub(crate) fn nth_actor<A: LendsActors>(actors: &A, i: usize) -> &Actor

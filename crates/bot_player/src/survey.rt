@@ -4,10 +4,10 @@ ghost use Rattle.bot_player.specs.BotOrders.{is_enemy, is_own};
 ghost use Rattle.bot_player.specs.Survey.{enemy_of, first_with, noted, survey_of};
 
 use crate::kind_flags::KindFlags;
-use shroud::LendsActors;
 use crate::nth::nth_actor;
 use game_model::{Actor, NEUTRAL};
 use rule_traits::Rules;
+use shroud::LendsActors;
 use world_units::CPos;
 
 /// What of an enemy a bot looks at.
