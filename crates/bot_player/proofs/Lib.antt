@@ -1,0 +1,7 @@
+mod ListLemmas
+mod FlagLemmas
+mod SurveyLemmas
+mod ProductLemmas
+mod DraftLemmas
+mod BotLemmas
+mod LawLemmas

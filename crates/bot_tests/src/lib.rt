@@ -1,0 +1,10 @@
+//! Matches in which the last clients are bots, played to their ends: expected are the hash, the
+//! actors and the cash of the last world. They use what their crates make public.
+#![tactic(auto)]
+
+#[cfg(test)]
+mod match_case;
+#[cfg(test)]
+mod matches;
+#[cfg(test)]
+mod playing;

@@ -1,0 +1,129 @@
+//! How a match with bots is played frame by frame, each bot by the world as it is.
+
+ghost use Rattle.std.specs.Prelude.{◌≡◌, ◌<◌, length, IfOk};
+ghost use Rattle.tick_core.specs.Game.{game_clients};
+
+use crate::match_case::MatchCase;
+use bot_player::{bot_orders, bot_orders_from};
+use drill_words::{Scripts, read_script};
+use frame_core::{MAX_STEPS, Sim};
+use game_model::{Actor, Map};
+use game_orders::{Entry, Frame, MAX_CLIENTS, Orders};
+use map_grid::read_map;
+use rule_traits::{Rules, type_rules};
+use shroud::LendsActors;
+use std::alloc::Global;
+use std::process::Abort;
+use std::rc::Rc;
+use std::test::Fail;
+use tick_core::Game;
+use yaml_lines::{Forest, parse};
+use yaml_merge::resolve;
+
+/// The actors of a game, as it lends them.
+#[derive(Drop)]
+struct GameActors<'a> {
+    game: &'a Game,
+}
+
+impl<'a> LendsActors for GameActors<'a> {
+    ghost actors_of = { λ lent. lent.game.now.world.actors };
+
+    fn actor_count(&self) -> usize {
+        self.game.actor_count()
+    }
+
+    fn actor_at(&self, i: usize) -> Option<&Actor> {
+        self.game.actor_at(i)
+    }
+}
+
+/// The resolved forest of a text.
+fn forest_of(alloc: Global, text: &str) -> Result<Forest, Fail> {
+    let mut files = Vec::new(alloc);
+    files.push(parse(alloc, 0, text.as_bytes())?)?;
+    Ok(resolve(alloc, files.as_slice())?)
+}
+
+/// The orders of a bot, by the game itself and by a copy of its world. Both must be the same.
+fn orders_of(rt: &impl Abort, alloc: Global, game: &Game, c: u8) -> Result<Orders, Fail>
+    requires { c < game_clients game.now }
+{
+    let lent = bot_orders_from(game.rules(), &game.head().cash, &GameActors { game }, c);
+    let world = game.snapshot(alloc)?;
+    let copied = bot_orders(game.rules(), game.map(), &world, c);
+    assert!(rt; lent == copied);
+    Ok(lent)
+}
+
+/// The entry of a client for a frame: a bot's, or the script's, which ends with the departure.
+fn entry_of(
+    rt: &impl Abort,
+    alloc: Global,
+    game: &Game,
+    scripts: &Scripts,
+    c: u8,
+    n: u32,
+) -> Result<Entry, Fail>
+    requires { c < game_clients game.now }
+{
+    if c >= scripts.clients() {
+        return Ok(Entry::Play(orders_of(rt, alloc, game, c)?));
+    }
+    let plays = scripts.plays(c);
+    if n as usize >= plays.len() {
+        return Ok(Entry::Leave);
+    }
+    Ok(Entry::Play(plays.get(n as usize)))
+}
+
+/// The entries of all clients for a frame.
+fn frame_of(
+    rt: &impl Abort,
+    alloc: Global,
+    game: &Game,
+    scripts: &Scripts,
+    n: u32,
+) -> Result<Frame, Fail>
+    ensures { IfOk result (λ frame. length frame ≡ game_clients game.now) }
+{
+    let mut frame = Frame::empty();
+    for c in 0..game.clients() {
+        frame.push(entry_of(rt, alloc, game, scripts, c, n)?);
+    }
+    Ok(frame)
+}
+
+/// Steps a game by a frame, if it was not stepped as often as a game can be.
+fn step(game: &mut Game, frame: &Frame)
+    requires { length frame.now ≡ game_clients game.old }
+{
+    if game.step_count() < MAX_STEPS {
+        game.step(frame);
+    }
+}
+
+/// The opening game of a case, and what its first clients play.
+fn opening(rt: &impl Abort, alloc: Global, case: &MatchCase) -> Result<(Game, Scripts), Fail> {
+    let (rules, _) = type_rules(alloc, &forest_of(alloc, case.rules)?)?;
+    let map = read_map(alloc, &forest_of(alloc, case.map)?, &rules)?;
+    let (seed, scripts) = read_script(alloc, case.script.as_bytes(), false)?;
+    let clients = scripts.clients().saturating_add(case.bots);
+    assert!(rt; clients <= MAX_CLIENTS);
+    let (rules, map) = (Rc::new(alloc, rules)?, Rc::new(alloc, map)?);
+    Ok((Game::create(alloc, rules, map, seed, clients)?, scripts))
+}
+
+/// Plays the match of a case to its end, and compares the last world with the expected one.
+pub(crate) fn play(rt: &impl Abort, alloc: Global, case: &MatchCase) -> Result<(), Fail> {
+    let (mut game, scripts) = opening(rt, alloc, case)?;
+    for n in 0..case.frames {
+        let frame = frame_of(rt, alloc, &game, &scripts, n)?;
+        step(&mut game, &frame);
+    }
+    assert_eq!(rt; game.hash(), case.hash);
+    let summary = game.summary();
+    assert_eq!(rt; summary.actors, case.actors);
+    assert_eq!(rt; summary.cash.as_slice(), case.cash);
+    Ok(())
+}
