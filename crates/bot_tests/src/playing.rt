@@ -5,7 +5,7 @@ ghost use Rattle.tick_core.specs.Game.{game_clients};
 
 use crate::match_case::MatchCase;
 use bot_player::{bot_orders, bot_orders_from};
-use drill_words::{Scripts, read_script};
+use drill_words::{MAX_DRILL_BYTES, Scripts, read_script};
 use frame_core::{MAX_STEPS, Sim};
 use game_model::{Actor, Map};
 use game_orders::{Entry, Frame, MAX_CLIENTS, Orders};
@@ -89,6 +89,7 @@ fn frame_of(
 {
     let mut frame = Frame::empty();
     for c in 0..game.clients() {
+        assert!(rt; frame.len() < MAX_CLIENTS as usize);
         frame.push(entry_of(rt, alloc, game, scripts, c, n)?);
     }
     Ok(frame)
@@ -107,6 +108,7 @@ fn step(game: &mut Game, frame: &Frame)
 fn opening(rt: &impl Abort, alloc: Global, case: &MatchCase) -> Result<(Game, Scripts), Fail> {
     let (rules, _) = type_rules(alloc, &forest_of(alloc, case.rules)?)?;
     let map = read_map(alloc, &forest_of(alloc, case.map)?, &rules)?;
+    assert!(rt; case.script.len() <= MAX_DRILL_BYTES as usize);
     let (seed, scripts) = read_script(alloc, case.script.as_bytes(), false)?;
     let clients = scripts.clients().saturating_add(case.bots);
     assert!(rt; clients <= MAX_CLIENTS);
