@@ -1,7 +1,7 @@
 -- Differences by rising number, one number after the other.
-use Rattle.std.specs.Prelude.{◌≡◌, ℕ, zero, suc, ◌+◌, ◌-◌, ◌*◌, ◌%◌, ◌/◌, ◌<◌, ◌≤◌, Bool, List}
-use Rattle.std.specs.Prelude.{[], ◌∷◌, ◌++◌, slice_get, Option, Some, Result, Ok, Err, OnOk}
-use Rattle.std.proofs.Common.{refl, sym, ap, ap₂, ◌∙◌, arith}
+use Rattle.std.specs.Prelude.{◌≡◌, ℕ, suc, ◌+◌, ◌-◌, ◌*◌, ◌%◌, ◌/◌, ◌<◌, ◌≤◌, Bool, List}
+use Rattle.std.specs.Prelude.{[], ◌++◌, slice_get, Option, Some, Result, Ok, Err, OnOk}
+use Rattle.std.proofs.Common.{sym, ap, ap₂, ◌∙◌, arith}
 use Rattle.game_model.specs.declared.world.World.{World}
 use Rattle.compare_command.specs.declared.subject.Subject.TheVariants.{Cash, Gone, Ore}
 use Rattle.compare_command.specs.Difference.{Difference, Flags, Numbers, compared_if}

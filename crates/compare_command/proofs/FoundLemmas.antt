@@ -1,12 +1,10 @@
 -- Lines that are added.
 use Rattle.std.specs.Prelude.{◌≡◌, ℕ, ◌<◌, ◌+◌, List, [], ◌∷◌, ◌++◌, length, codes}
 use Rattle.std.specs.Fmt.{decimal}
-use Rattle.std.specs.List.{flat_map}
 use Rattle.std.proofs.Common.{ap, ap₂, subst, ◌∙◌, sym, arith, append_assoc}
 use Rattle.std.proofs.lemmas.Grind.{flat_map-append}
 use Rattle.std.proofs.lemmas.List.{append-nil, length-append}
-use Rattle.compare_command.specs.declared.subject.Subject.{Subject}
-use Rattle.compare_command.specs.Difference.{Difference, Values, Differs, OnlyFirst, OnlySecond}
+use Rattle.compare_command.specs.Difference.{Difference, Differs, OnlyFirst, OnlySecond}
 use Rattle.compare_command.specs.Found.{FoundState, with_found, with_line}
 use Rattle.compare_command.specs.Lines.{line_of, lines_of, subject_words, values_words}
 

@@ -12,7 +12,7 @@ use Rattle.compare_command.specs.Difference.{Difference, OnlyFirst, OnlySecond}
 use Rattle.compare_command.specs.Each.{each}
 use Rattle.compare_command.specs.Found.{FoundState, with_found}
 use Rattle.compare_command.specs.Merging.{merged, HasIds}
-use Rattle.compare_command.specs.Saves.{actors_differences, beside, field_differences}
+use Rattle.compare_command.specs.Saves.{actors_differences, beside}
 use Rattle.compare_command.specs.Saves.{id_differences}
 
 -- The ids rise from the least one on, and are below a bound.

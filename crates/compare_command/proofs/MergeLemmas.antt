@@ -1,8 +1,8 @@
 -- Two lists of actors that are gone over at once.
 use Rattle.std.specs.Prelude.{◌≡◌, ℕ, zero, suc, ◌+◌, ◌≤◌, ◌<◌, nat_lt, Bool, true, false, List, [], ◌∷◌, ◌++◌}
 use Rattle.std.specs.Prelude.{drop, length, slice_get, Option, Some, None, if◌then◌else◌}
-use Rattle.std.proofs.Common.{refl, sym, ap, ap₂, ◌∙◌, arith}
-use Rattle.std.proofs.lemmas.Option.{slice_get_past, slice_get_within}
+use Rattle.std.proofs.Common.{refl, sym, ap₂, ◌∙◌, arith}
+use Rattle.std.proofs.lemmas.Option.{slice_get_within}
 use Rattle.game_model.specs.declared.actor.Actor.{Actor}
 use Rattle.compare_command.specs.Difference.{Difference, OnlyFirst, OnlySecond}
 use Rattle.compare_command.specs.Found.{FoundState, with_found}

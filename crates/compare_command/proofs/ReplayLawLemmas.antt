@@ -1,5 +1,5 @@
 -- Replays without a difference, and the first frame that differs.
-use Rattle.std.specs.Prelude.{◌≡◌, ◌≢◌, ℕ, zero, suc, ◌+◌, ◌<◌, ◌≤◌, ◌==◌, min, Bool, true, false}
+use Rattle.std.specs.Prelude.{◌≡◌, ℕ, zero, suc, ◌+◌, ◌<◌, ◌≤◌, ◌==◌, Bool, true, false}
 use Rattle.std.specs.Prelude.{List, [], ◌∷◌, ◌++◌, length, slice_get, unwrap_or, if◌then◌else◌}
 use Rattle.std.specs.Prelude.{Option, Some, None, option_map}
 use Rattle.std.specs.List.{AllByRecursion, find}
@@ -11,7 +11,7 @@ use Rattle.game_orders.specs.declared.entry.Entry.{Entry}
 use Rattle.replay_file.specs.declared.part.Part.{Part}
 use Rattle.replay_file.specs.declared.part.Part.TheVariants.{Frame, Mark}
 use Rattle.replay_file.specs.declared.replay.Replay.{Replay}
-use Rattle.replay_file.specs.Frames.{frames_of, marks_after, marks_of}
+use Rattle.replay_file.specs.Frames.{frames_of, marks_after}
 use Rattle.replay_file.specs.RuleLaws.{IsFrameOf}
 use Rattle.replay_file.specs.ValidLemmas.{valid_obeys}
 use Rattle.replay_file.specs.ValidReplay.{IsValidReplay}
@@ -21,7 +21,7 @@ use Rattle.compare_command.specs.declared.subject.Subject.TheVariants.{Entry as 
 use Rattle.compare_command.specs.Difference.{Difference, Numbers, Entries, Hashes, compared}
 use Rattle.compare_command.specs.Difference.{compared_if}
 use Rattle.compare_command.specs.Each.{each, least, or_else}
-use Rattle.compare_command.specs.Laws.{AreOfLeastFrame, AreOneMatch, IsLeastFrame}
+use Rattle.compare_command.specs.Laws.{AreOfLeastFrame, AreOneMatch}
 use Rattle.compare_command.specs.Replays.{common_frames, differences_in, entries_differences}
 use Rattle.compare_command.specs.Replays.{entry_differences, frame_differences, mark_at}
 use Rattle.compare_command.specs.Replays.{mark_differences, marks_differences, match_differences}

@@ -1,7 +1,7 @@
 -- Two replays that are gone over frame by frame.
-use Rattle.std.specs.Prelude.{◌≡◌, ℕ, zero, suc, ◌+◌, ◌-◌, ◌<◌, ◌≤◌, ◌==◌, nat_lt, Bool, true, false}
-use Rattle.std.specs.Prelude.{List, [], ◌∷◌, ◌++◌, drop, length, slice_get, unwrap_or}
-use Rattle.std.specs.Prelude.{Option, Some, None, option_map}
+use Rattle.std.specs.Prelude.{◌≡◌, ℕ, zero, suc, ◌+◌, ◌-◌, ◌<◌, ◌≤◌, ◌==◌, nat_lt, true, false}
+use Rattle.std.specs.Prelude.{List, [], ◌∷◌, drop, length, slice_get, unwrap_or}
+use Rattle.std.specs.Prelude.{Option, None, option_map}
 use Rattle.std.specs.List.{find}
 use Rattle.std.proofs.Common.{refl, sym, ap, ap₂, ◌∙◌, arith, add-one}
 use Rattle.std.proofs.lemmas.Bool.Decides.{nat_tests}
@@ -19,7 +19,7 @@ use Rattle.compare_command.specs.Found.{FoundState, with_found}
 use Rattle.compare_command.specs.Replays.{differences_in, entry_differences, frame_differences}
 use Rattle.compare_command.specs.Replays.{mark_at, mark_differences}
 use Rattle.compare_command.specs.Walking.{after_frames, first_frame, first_mark}
-use Rattle.compare_command.proofs.FoundLemmas.{all_found, next_found, none_found}
+use Rattle.compare_command.proofs.FoundLemmas.{all_found, next_found}
 use Rattle.compare_command.proofs.ListLemmas.{drop_on, first_left}
 
 -- A client's entries.

@@ -1,7 +1,7 @@
 -- Lists of builds that are compared one by one.
 use Rattle.std.specs.Prelude.{◌≡◌, ℕ, ◌+◌, ◌≤◌, Bool, true, false, List, [], ◌∷◌, length, drop}
 use Rattle.std.specs.Prelude.{Option, Some, None, slice_get}
-use Rattle.std.proofs.Common.{refl, sym, ap, ap₂, subst, ◌∙◌, arith}
+use Rattle.std.proofs.Common.{refl, sym, ap₂, subst, ◌∙◌, arith}
 use Rattle.game_model.specs.declared.builds.Build.{Build}
 use Rattle.compare_command.specs.Difference.{is_build, same_build, same_builds}
 use Rattle.compare_command.proofs.ListLemmas.{item_here, none_here, none_left}

@@ -23,12 +23,11 @@ use Rattle.compare_command.specs.declared.subject.Subject.TheVariants.{Next, Pac
 use Rattle.compare_command.specs.declared.subject.Subject.TheVariants.{Gone, Ore, Actor as OfActor}
 use Rattle.compare_command.specs.Difference.{Difference, Numbers, Flags, Cells, Legs, Acts, Builds}
 use Rattle.compare_command.specs.Difference.{OnlyFirst, OnlySecond, compared, compared_if}
-use Rattle.compare_command.specs.Each.{each}
 use Rattle.compare_command.specs.Merging.{merged}
 use Rattle.compare_command.specs.Saves.{actors_differences, cell_of, client_differences}
-use Rattle.compare_command.specs.Saves.{clients_differences, count_differences, draw_differences}
-use Rattle.compare_command.specs.Saves.{field_differences, head_differences, number_differences}
-use Rattle.compare_command.specs.Saves.{ore_differences, place_differences, plan_differences}
+use Rattle.compare_command.specs.Saves.{clients_differences}
+use Rattle.compare_command.specs.Saves.{field_differences, head_differences}
+use Rattle.compare_command.specs.Saves.{ore_differences}
 use Rattle.compare_command.specs.Saves.{save_differences}
 use Rattle.compare_command.proofs.IdLemmas.{all_merged}
 use Rattle.compare_command.proofs.NoneLemmas.{both_none, each_none, equal_when, none_both, none_each}

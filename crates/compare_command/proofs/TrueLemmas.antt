@@ -8,7 +8,6 @@ use Rattle.std.proofs.lemmas.Bool.Decides.{nat_tests}
 use Rattle.game_model.specs.declared.actor.Actor.{Actor}
 use Rattle.game_model.specs.World.{actor_of, clients_of}
 use Rattle.game_save.specs.declared.saved.Saved.{Saved}
-use Rattle.game_orders.specs.declared.entry.Entry.{Entry}
 use Rattle.replay_file.specs.declared.replay.Replay.{Replay}
 use Rattle.replay_run.specs.Rerun.{frame_count, frame_in}
 use Rattle.compare_command.specs.declared.subject.Field.{Field}
@@ -18,15 +17,15 @@ use Rattle.compare_command.specs.declared.subject.Subject.TheVariants as subject
 use Rattle.compare_command.specs.Difference.{Difference, Differs, Values, Numbers, Flags, Entries}
 use Rattle.compare_command.specs.Difference.{Hashes, are_same, compared, compared_if}
 use Rattle.compare_command.specs.Each.{each, least, or_else}
-use Rattle.compare_command.specs.Laws.{AreEqual, AreItems, IsTrueOfReplays, IsTrueOfSaves}
+use Rattle.compare_command.specs.Laws.{AreEqual, IsTrueOfReplays, IsTrueOfSaves}
 use Rattle.compare_command.specs.Laws.{field_values}
 use Rattle.compare_command.specs.Replays.{common_frames, differences_in, entries_differences}
 use Rattle.compare_command.specs.Replays.{entry_differences, mark_at, mark_differences}
 use Rattle.compare_command.specs.Replays.{marks_differences, match_differences, replay_differences}
 use Rattle.compare_command.specs.Saves.{actors_differences, beside, cell_of, client_differences}
-use Rattle.compare_command.specs.Saves.{clients_differences, count_differences, draw_differences}
+use Rattle.compare_command.specs.Saves.{clients_differences, count_differences}
 use Rattle.compare_command.specs.Saves.{field_differences, head_differences, id_differences}
-use Rattle.compare_command.specs.Saves.{number_differences, ore_differences, place_differences}
+use Rattle.compare_command.specs.Saves.{ore_differences, place_differences}
 use Rattle.compare_command.specs.Saves.{plan_differences, save_differences}
 use Rattle.compare_command.proofs.NoneLemmas.{same_decides}
 
