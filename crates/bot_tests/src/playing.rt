@@ -1,6 +1,6 @@
 //! How a match with bots is played frame by frame, each bot by the world as it is.
 
-ghost use Rattle.std.specs.Prelude.{◌≡◌, ◌<◌, length, IfOk};
+ghost use Rattle.std.specs.Prelude.{◌<◌};
 ghost use Rattle.tick_core.specs.Game.{game_clients};
 
 use crate::match_case::MatchCase;
@@ -84,9 +84,7 @@ fn frame_of(
     game: &Game,
     scripts: &Scripts,
     n: u32,
-) -> Result<Frame, Fail>
-    ensures { IfOk result (λ frame. length frame ≡ game_clients game.now) }
-{
+) -> Result<Frame, Fail> {
     let mut frame = Frame::empty();
     for c in 0..game.clients() {
         assert!(rt; frame.len() < MAX_CLIENTS as usize);
@@ -95,10 +93,10 @@ fn frame_of(
     Ok(frame)
 }
 
-/// Steps a game by a frame, if it was not stepped as often as a game can be.
-fn step(game: &mut Game, frame: &Frame)
-    requires { length frame.now ≡ game_clients game.old }
-{
+/// Steps a game by a frame with an entry for each client, if it was not stepped as often as a game
+/// can be.
+fn step(rt: &impl Abort, game: &mut Game, frame: &Frame) {
+    assert!(rt; frame.len() == game.clients() as usize);
     if game.step_count() < MAX_STEPS {
         game.step(frame);
     }
@@ -121,7 +119,7 @@ pub(crate) fn play(rt: &impl Abort, alloc: Global, case: &MatchCase) -> Result<(
     let (mut game, scripts) = opening(rt, alloc, case)?;
     for n in 0..case.frames {
         let frame = frame_of(rt, alloc, &game, &scripts, n)?;
-        step(&mut game, &frame);
+        step(rt, &mut game, &frame);
     }
     assert_eq!(rt; game.hash(), case.hash);
     let summary = game.summary();
