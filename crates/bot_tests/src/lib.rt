@@ -7,4 +7,8 @@ mod match_case;
 #[cfg(test)]
 mod matches;
 #[cfg(test)]
+mod more_bots;
+#[cfg(test)]
+mod one_bot;
+#[cfg(test)]
 mod playing;
