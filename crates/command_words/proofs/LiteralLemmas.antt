@@ -3,7 +3,7 @@ use Rattle.std.proofs.Common.{◌≡◌, ◌==◌, Bool, true, false, [], ◌∷
 use Rattle.clap.specs.Walk.{Text}
 use Rattle.clap.proofs.OnLiterals.{clap_on_literals}
 use Rattle.clap.proofs.SimpleLemmas.{is_false}
-use Rattle.command_words.specs.RequestPlain.{Drill, Replay, Migrate, Save, Continue, View, Worlds, Compare, Route, Make, Local, Serve, Play, match_alone}
+use Rattle.command_words.specs.RequestPlain.{Drill, Replay, Migrate, Save, Continue, View, Worlds, Compare, Datagrams, Route, Make, Local, Serve, Play, match_alone}
 use Rattle.base.specs.Numbers.{number_of}
 use Rattle.rule_values.specs.Cells.{cell_of, coordinate_of}
 use Rattle.rule_values.specs.Parts.{parts_at}
@@ -59,9 +59,18 @@ pub compare_after_equals : (program first second : Text)
 unfolding request_on_literals all_commands clap_on_literals
 compare_after_equals program first second = refl
 
-pub local_after_equals : (program script : Text) → request_of (program ∷ codes "local" ∷ (codes "--script=" ++ script) ∷ []) ≡ Some (Local (match_alone script))
+pub local_after_equals : (program script : Text) → request_of (program ∷ codes "local" ∷ (codes "--script=" ++ script) ∷ []) ≡ Some (Local (match_alone script) 0)
 unfolding request_on_literals all_commands clap_on_literals
 local_after_equals program script = refl
+
+pub local_with_bots : (program script : Text)
+    → request_of (program ∷ codes "local" ∷ (codes "--script=" ++ script) ∷ codes "--bots=15" ∷ []) ≡ Some (Local (match_alone script) 15)
+unfolding request_on_literals all_commands clap_on_literals
+local_with_bots program script = refl
+
+pub datagrams_after_equals : (program script : Text) → request_of (program ∷ codes "datagrams" ∷ (codes "--script=" ++ script) ∷ []) ≡ Some (Datagrams script)
+unfolding request_on_literals all_commands clap_on_literals
+datagrams_after_equals program script = refl
 
 pub play_after_equals : (program at script : Text)
     → request_of (program ∷ codes "play" ∷ (codes "--at=" ++ at) ∷ (codes "--script=" ++ script) ∷ []) ≡ Some (Play (match_alone script) at)

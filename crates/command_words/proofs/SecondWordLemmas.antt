@@ -3,21 +3,22 @@ use Rattle.std.proofs.Common.{◌≡◌, ◌∙◌, ◌||◌, ap, sym, subst, re
 use Rattle.std.proofs.lemmas.Option.{none-some}
 use Rattle.std.proofs.lemmas.Slice.Eq.{bytes_eq-Decides}
 use Rattle.std.specs.Prelude.{find, fold, option_map, option_and_then, slice_get, IfSome}
+use Rattle.std.specs.List.{list_all}
 use Rattle.std.specs.Option.{option_map_or}
 use Rattle.std.specs.Str.{bytes_eq, chars}
 use Rattle.clap.specs.Lexer.{long_of, short_of}
-use Rattle.clap.specs.Walk.{Held, Names, Row, Text, Step, Walk, answers_to, nothing_held, walk, walk_from, walked, after_step, subcommand_met, subcommand_or_other, long_or_other, short_or_plain, after_flag, bundle_met, bundle_step, first_of, finished, settled}
+use Rattle.clap.specs.Walk.{Held, Names, Row, Text, Step, Walk, answers_to, nothing_held, walk, walk_from, walked, after_step, subcommand_met, subcommand_or_other, long_or_other, short_or_plain, after_flag, bundle_met, bundle_step, first_of, finished, settled, is_empty}
 use Rattle.clap.specs.Walk.{idle, plain, trailing}
 use Rattle.clap.specs.Simple.{Shape, built, entered, rows_at, label_of, names_of, subcommand_of}
 use Rattle.clap.specs.Kinds.{Kinds, or_else}
 use Rattle.clap.specs.Faults.{flag_word_fault, flags_fault, bundle_fault, bundle_step_fault, other_fault, step_fault, stray_fault, turn_fault, walk_fault, settle_fault, defaults_fault, check_fault, entered_fault, fault_of}
 use Rattle.clap.specs.declared.error.kind.ErrorKind.TheVariants.{UnknownArgument, InvalidSubcommand}
 use Rattle.clap.proofs.SimpleLemmas.{is_nil}
-use Rattle.clap.proofs.WalkLemmas.{walk_stopped}
+use Rattle.clap.proofs.WalkLemmas.{both, walk_stopped}
 use Rattle.command_words.specs.CommandNames.{command_of}
 use Rattle.command_words.specs.Commands.{lockstep_app}
-use Rattle.command_words.specs.RequestPlain.{RequestPlain, Drill, Yaml, Check, Route, Make, Local, Serve, Play, Replay, Migrate, Save, Continue, View, Worlds, Compare, RangePlain}
-use Rattle.command_words.specs.Reading.{is_accepted, command_request, names_in, number_in, match_in, play_in, serve_in, migrate_in, route_in, save_in, continue_in, view_in, range_in, worlds_in, compare_in, found_request, request_of}
+use Rattle.command_words.specs.RequestPlain.{RequestPlain, Drill, Yaml, Check, Route, Make, Local, Serve, Play, Replay, Migrate, Save, Continue, View, Worlds, Compare, Datagrams}
+use Rattle.command_words.specs.Reading.{is_accepted, command_request, names_in, number_in, bots_in, match_in, local_in, play_in, serve_in, migrate_in, route_in, save_in, continue_in, view_in, range_in, worlds_in, compare_in, found_request, request_of}
 use Rattle.command_words.proofs.OnCommands.{all_commands}
 use Rattle.command_words.proofs.LiteralLemmas.{no_words, alone}
 use Rattle.command_words.proofs.FoundValuesLemmas.{first_none, some_kind}
@@ -40,63 +41,53 @@ by_name command name first rest own others = go (bytes_eq command name) refl
     go true same = subst (λ n. IsOf n first) (sym ((bytes_eq-Decides command name).0 same)) own
     go false same = others
 
+then_of : {T : Type 0} (next : T → Option RequestPlain) (command : Text) → ((value : T) → IsOf command (next value)) → (value : Option T) → IsOf command (option_and_then next value)
+then_of next command each None = tt
+then_of next command each (Some value) = each value
+
+local_of : (found : List Row) → IsOf (codes "local") (local_in found)
+unfolding local_in
+local_of found =
+    then_of _ (codes "local") (λ bots. made_of (λ query. Local query bots) (codes "local") (λ query. refl) (match_in (codes "script") found)) (bots_in found)
+
 play_of : (found : List Row) → IsOf (codes "play") (play_in found)
 unfolding play_in
-play_of found = go (first_of (codes "at") found)
-  where
-    go : (at : Option Text) → IsOf (codes "play") (option_and_then (λ at. option_map (λ query. Play query at) (match_in (codes "script") found)) at)
-    go None = tt
-    go (Some at) = made_of (λ query. Play query at) (codes "play") (λ query. refl) (match_in (codes "script") found)
+play_of found =
+    then_of _ (codes "play") (λ at. made_of (λ query. Play query at) (codes "play") (λ query. refl) (match_in (codes "script") found)) (first_of (codes "at") found)
 
 migrate_of : (found : List Row) → IsOf (codes "migrate") (migrate_in found)
 unfolding migrate_in
-migrate_of found = go (first_of (codes "to") found)
-  where
-    go : (to : Option Text) → IsOf (codes "migrate") (option_and_then (λ to. option_map (λ query. Migrate query to) (match_in (codes "file") found)) to)
-    go None = tt
-    go (Some to) = made_of (λ query. Migrate query to) (codes "migrate") (λ query. refl) (match_in (codes "file") found)
+migrate_of found =
+    then_of _ (codes "migrate") (λ to. made_of (λ query. Migrate query to) (codes "migrate") (λ query. refl) (match_in (codes "file") found)) (first_of (codes "to") found)
 
 save_of : (found : List Row) → IsOf (codes "save") (save_in found)
 unfolding save_in
-save_of found = go (number_in (codes "frames") found) (first_of (codes "to") found)
-  where
-    go : (frames : Option ℕ) (to : Option Text)
-        → IsOf (codes "save") (option_and_then (λ frames. option_and_then (λ to. option_map (λ query. Save query frames to) (match_in (codes "file") found)) to) frames)
-    go None to = tt
-    go (Some frames) None = tt
-    go (Some frames) (Some to) = made_of (λ query. Save query frames to) (codes "save") (λ query. refl) (match_in (codes "file") found)
+save_of found =
+    then_of _ (codes "save") (λ frames. then_of _ (codes "save")
+    (λ to. made_of (λ query. Save query frames to) (codes "save") (λ query. refl) (match_in (codes "file") found)) (first_of (codes "to") found)) (number_in (codes "frames") found)
 
 continue_of : (found : List Row) → IsOf (codes "continue") (continue_in found)
 unfolding continue_in
-continue_of found = go (first_of (codes "save") found)
-  where
-    go : (save : Option Text) → IsOf (codes "continue") (option_and_then (λ save. option_map (λ query. Continue query save) (match_in (codes "file") found)) save)
-    go None = tt
-    go (Some save) = made_of (λ query. Continue query save) (codes "continue") (λ query. refl) (match_in (codes "file") found)
+continue_of found =
+    then_of _ (codes "continue") (λ save. made_of (λ query. Continue query save) (codes "continue") (λ query. refl) (match_in (codes "file") found))
+    (first_of (codes "save") found)
 
 view_of : (found : List Row) → IsOf (codes "view") (view_in found)
 unfolding view_in
-view_of found = go (number_in (codes "client") found)
-  where
-    go : (client : Option ℕ) → IsOf (codes "view") (option_and_then (λ client. option_map (λ query. View query client) (match_in (codes "file") found)) client)
-    go None = tt
-    go (Some client) = made_of (λ query. View query client) (codes "view") (λ query. refl) (match_in (codes "file") found)
+view_of found =
+    then_of _ (codes "view") (λ client. made_of (λ query. View query client) (codes "view") (λ query. refl) (match_in (codes "file") found))
+    (number_in (codes "client") found)
 
 worlds_of : (found : List Row) → IsOf (codes "worlds") (worlds_in found)
 unfolding worlds_in
-worlds_of found = go (range_in found)
-  where
-    go : (range : Option RangePlain) → IsOf (codes "worlds") (option_and_then (λ range. option_map (λ query. Worlds query range) (match_in (codes "file") found)) range)
-    go None = tt
-    go (Some range) = made_of (λ query. Worlds query range) (codes "worlds") (λ query. refl) (match_in (codes "file") found)
+worlds_of found =
+    then_of _ (codes "worlds") (λ range. made_of (λ query. Worlds query range) (codes "worlds") (λ query. refl) (match_in (codes "file") found)) (range_in found)
 
 compare_of : (found : List Row) → IsOf (codes "compare") (compare_in found)
 unfolding compare_in
-compare_of found = go (first_of (codes "with") found)
-  where
-    go : (second : Option Text) → IsOf (codes "compare") (option_and_then (λ second. option_map (λ query. Compare query second) (match_in (codes "file") found)) second)
-    go None = tt
-    go (Some second) = made_of (λ query. Compare query second) (codes "compare") (λ query. refl) (match_in (codes "file") found)
+compare_of found =
+    then_of _ (codes "compare") (λ second. made_of (λ query. Compare query second) (codes "compare") (λ query. refl) (match_in (codes "file") found))
+    (first_of (codes "with") found)
 
 request_is_of : (command : Text) (found : List Row) → IsOf command (command_request command found)
 unfolding command_request
@@ -106,7 +97,7 @@ request_is_of command found =
     (by_name command (codes "check") _ _ (made_of (Check (first_of (codes "map") found)) (codes "check") (λ names. refl) (names_in 1 found))
     (by_name command (codes "route") _ _ (made_of Route (codes "route") (λ query. refl) (route_in found))
     (by_name command (codes "make") _ _ (made_of Make (codes "make") (λ number. refl) (number_in (codes "number") found))
-    (by_name command (codes "local") _ _ (made_of Local (codes "local") (λ query. refl) (match_in (codes "script") found))
+    (by_name command (codes "local") _ _ (local_of found)
     (by_name command (codes "serve") _ _ (made_of Serve (codes "serve") (λ query. refl) (serve_in found))
     (by_name command (codes "play") _ _ (play_of found)
     (by_name command (codes "replay") _ _ (made_of Replay (codes "replay") (λ query. refl) (match_in (codes "file") found))
@@ -115,7 +106,8 @@ request_is_of command found =
     (by_name command (codes "continue") _ _ (continue_of found)
     (by_name command (codes "view") _ _ (view_of found)
     (by_name command (codes "worlds") _ _ (worlds_of found)
-    (by_name command (codes "compare") _ _ (compare_of found) tt))))))))))))))
+    (by_name command (codes "compare") _ _ (compare_of found)
+    (by_name command (codes "datagrams") _ _ (made_of Datagrams (codes "datagrams") (λ script. refl) (first_of (codes "script") found)) tt)))))))))))))))
 
 -- ---- the first word, where only commands stand
 
@@ -203,6 +195,12 @@ abbrev HaveOneName : List Shape → Type 0
 HaveOneName [] = Unit {0}
 HaveOneName (s ∷ shapes) = (s.aliases ≡ []) × HaveOneName shapes
 
+one_name : (shapes : List Shape) → list_all (λ (s : Shape). is_empty s.aliases) shapes ≡ true → HaveOneName shapes
+one_name [] none = tt
+one_name (s ∷ shapes) none =
+    let parts = both (is_empty s.aliases) (list_all (λ (s : Shape). is_empty s.aliases) shapes) none in
+    (is_nil s.aliases parts.0, one_name shapes parts.1)
+
 answers : (word name : Text) (aliases : List Text) → aliases ≡ [] → answers_to word (name, aliases) ≡ true → name ≡ word
 answers word name [] one is = go (bytes_eq name word) refl is
   where
@@ -246,7 +244,7 @@ named_of shapes one word words (Some name) same =
 
 all_one_name : HaveOneName (built lockstep_app).subs
 unfolding all_commands
-all_one_name = (refl, (refl, (refl, (refl, (refl, (refl, (refl, (refl, (refl, (refl, (refl, (refl, (refl, (refl, (refl, tt)))))))))))))))
+all_one_name = one_name (built lockstep_app).subs refl
 
 quiet_walk : (program word : Text) (words : List Text) → fault_of lockstep_app (program ∷ word ∷ words) ≡ []
     → walk_fault (above (built lockstep_app).top) (names_of (built lockstep_app)) (walk_from nothing_held) (word ∷ words) ≡ []

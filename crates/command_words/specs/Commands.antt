@@ -6,6 +6,7 @@ use Rattle.clap.specs.Simple.{App, new_app, new_rule, on_top, with_rule, with_su
 use Rattle.clap.specs.declared.builder.action.ArgAction.TheVariants.{Append}
 use Rattle.clap.specs.declared.builder.value_parser.ValueParser.TheVariants.{Signed}
 use Rattle.game_orders.specs.declared.limits.TheConstants.{MAX_CLIENTS, MAX_LAG}
+use Rattle.command_words.specs.declared.TheConstants.{MAX_BOTS}
 
 -- `--NAME VALUE`, which may be left out.
 abbrev pub option_named : Text → Rule
@@ -77,9 +78,14 @@ route_app = with_rule ends_app file_names
 unfoldable pub make_app : App
 make_app = with_rule (new_app (codes "make")) (required_number (codes "number") 0 4294967295)
 
--- `local --script FILE --map FILE RULES`, where the map may be left out.
+-- `local --script FILE --map FILE --bots N RULES`, where the map and the bots may be left out.
 unfoldable pub local_app : App
-local_app = with_rule (played_app (codes "local") (codes "script")) file_names
+local_app =
+    with_rule
+    (with_rule
+    (played_app (codes "local") (codes "script"))
+    (number_option (codes "bots") 0 MAX_BOTS))
+    file_names
 
 -- `serve --at ADDRESS --clients N`, so far.
 unfoldable pub hosted_app : App
@@ -167,6 +173,10 @@ compare_app =
     (with_rule (played_app (codes "compare") (codes "file")) (required_option (codes "with")))
     file_names
 
+-- `datagrams --script FILE`.
+unfoldable pub datagrams_app : App
+datagrams_app = with_rule (new_app (codes "datagrams")) (required_option (codes "script"))
+
 -- A command that one of its subcommands must follow, without words for help or the version.
 unfoldable pub bare_app : App
 bare_app = on_top (λ shape. record shape {
@@ -205,6 +215,7 @@ saving_app = with_subcommand (with_subcommand replaying_app save_app.top) contin
 unfoldable pub showing_app : App
 showing_app = with_subcommand (with_subcommand saving_app view_app.top) worlds_app.top
 
--- The whole command line, with the one that compares two files.
+-- The whole command line, with the one that compares two files and the one that runs links over
+-- datagrams.
 unfoldable pub lockstep_app : App
-lockstep_app = with_subcommand showing_app compare_app.top
+lockstep_app = with_subcommand (with_subcommand showing_app compare_app.top) datagrams_app.top

@@ -10,14 +10,14 @@ use Rattle.clap.specs.Simple.{subcommand_of}
 use Rattle.clap.specs.ValueTests.{is_unsigned_in}
 use Rattle.clap.specs.Faults.{fault_of}
 use Rattle.game_orders.specs.declared.limits.TheConstants.{MAX_CLIENTS, MAX_LAG}
-use Rattle.command_words.specs.declared.TheConstants.{MAX_FILES}
+use Rattle.command_words.specs.declared.TheConstants.{MAX_BOTS, MAX_FILES}
 use Rattle.command_words.specs.declared.serve_query.TheConstants.{DEFAULT_LAG, DEFAULT_SEED}
 use Rattle.command_words.specs.declared.world_range.TheConstants.{DEFAULT_EVERY, DEFAULT_FROM}
 use Rattle.rule_values.specs.Cells.{cell_of}
 use Rattle.world_units.specs.declared.cell.CPos.{CPos}
 use Rattle.command_words.specs.RequestPlain.{RequestPlain, Drill, Yaml, Check, Route, Make}
 use Rattle.command_words.specs.RequestPlain.{Local, Serve, Play, Replay, Migrate}
-use Rattle.command_words.specs.RequestPlain.{Save, Continue, View, Worlds, Compare}
+use Rattle.command_words.specs.RequestPlain.{Save, Continue, View, Worlds, Compare, Datagrams}
 use Rattle.command_words.specs.RequestPlain.{MatchPlain, RoutePlain, ServePlain, RangePlain}
 use Rattle.command_words.specs.Commands.{lockstep_app}
 
@@ -71,6 +71,14 @@ from_one number = if nat_le 1 number then Some number else None
 unfoldable pub step_or : (default : ℕ) → Text → List Row → Option ℕ
 step_or default name found = from_one (unwrap_or (number_in name found) default)
 
+-- A number up to this one.
+abbrev pub at_most : (most number : ℕ) → Option ℕ
+at_most most number = if nat_le number most then Some number else None
+
+-- The number of bots, up to `MAX_BOTS`; there are none where none are asked for.
+unfoldable pub bots_in : List Row → Option ℕ
+bots_in found = at_most MAX_BOTS (unwrap_or (number_in (codes "bots") found) 0)
+
 abbrev pub to_cell : ℕ × ℕ → CPos
 to_cell at = record { x = at.0; y = at.1 }
 
@@ -89,6 +97,13 @@ match_in option found =
     })
     (names_in 0 found))
     (first_of option found)
+
+-- The request to play a script on threads of this machine: which, and beside how many bots.
+unfoldable pub local_in : List Row → Option RequestPlain
+local_in found =
+    option_and_then (λ bots.
+    option_map (λ query. Local query bots) (match_in (codes "script") found))
+    (bots_in found)
 
 -- The request to migrate a replay: which, and what file the migrated one is written to.
 unfoldable pub migrate_in : List Row → Option RequestPlain
@@ -200,8 +215,7 @@ command_request command found =
     else if bytes_eq command (codes "route") then option_map Route (route_in found)
     else if bytes_eq command (codes "make")
     then option_map Make (number_in (codes "number") found)
-    else if bytes_eq command (codes "local")
-    then option_map Local (match_in (codes "script") found)
+    else if bytes_eq command (codes "local") then local_in found
     else if bytes_eq command (codes "serve") then option_map Serve (serve_in found)
     else if bytes_eq command (codes "play") then play_in found
     else if bytes_eq command (codes "replay")
@@ -212,6 +226,8 @@ command_request command found =
     else if bytes_eq command (codes "view") then view_in found
     else if bytes_eq command (codes "worlds") then worlds_in found
     else if bytes_eq command (codes "compare") then compare_in found
+    else if bytes_eq command (codes "datagrams")
+    then option_map Datagrams (first_of (codes "script") found)
     else None
 
 -- The request of the command that the words name, if they name one.

@@ -1,9 +1,9 @@
 -- A request as plain data: names are lists of bytes.
-use Rattle.std.specs.Prelude.{ℕ, ◌≤◌, List, [], length, Option, None, option_map}
+use Rattle.std.specs.Prelude.{◌≡◌, ℕ, ◌≤◌, List, [], length, Option, None, Some, option_map}
 use Rattle.std.specs.Borrow.{Bor}
 use Rattle.world_units.specs.declared.cell.CPos.{CPos}
 use Rattle.game_orders.specs.declared.limits.TheConstants.{MAX_CLIENTS}
-use Rattle.command_words.specs.declared.TheConstants.{MAX_FILES}
+use Rattle.command_words.specs.declared.TheConstants.{MAX_BOTS, MAX_FILES}
 use Rattle.command_words.specs.declared.match_query.MatchQuery.{MatchQuery}
 use Rattle.command_words.specs.declared.route_query.RouteQuery.{RouteQuery}
 use Rattle.command_words.specs.declared.serve_query.ServeQuery.{ServeQuery}
@@ -52,7 +52,7 @@ pub data RequestPlain : Type 0 where
   Check : (map_file : Option (List ℕ)) → (rules : List (List ℕ)) → RequestPlain
   Route : RoutePlain → RequestPlain
   Make : (number : ℕ) → RequestPlain
-  Local : MatchPlain → RequestPlain
+  Local : MatchPlain → (bots : ℕ) → RequestPlain
   Serve : ServePlain → RequestPlain
   Play : MatchPlain → (at : List ℕ) → RequestPlain
   Replay : MatchPlain → RequestPlain
@@ -62,6 +62,7 @@ pub data RequestPlain : Type 0 where
   View : MatchPlain → (client : ℕ) → RequestPlain
   Worlds : MatchPlain → RangePlain → RequestPlain
   Compare : MatchPlain → (second : List ℕ) → RequestPlain
+  Datagrams : (script : List ℕ) → RequestPlain
 
 abbrev pub plain_name : Option (Bor (List ℕ)) → Option (List ℕ)
 plain_name = option_map (λ name. name.now)
@@ -105,7 +106,7 @@ plain_of (request.Yaml files) = Yaml files
 plain_of (request.Check map_file rules) = Check (plain_name map_file) rules
 plain_of (request.Route query) = Route (plain_route query)
 plain_of (request.Make number) = Make number
-plain_of (request.Local query) = Local (plain_match query)
+plain_of (request.Local query bots) = Local (plain_match query) bots
 plain_of (request.Serve query) = Serve (plain_serve query)
 plain_of (request.Play query at) = Play (plain_match query) at.now
 plain_of (request.Replay query) = Replay (plain_match query)
@@ -115,34 +116,35 @@ plain_of (request.Continue query save) = Continue (plain_match query) save.now
 plain_of (request.View query client) = View (plain_match query) client
 plain_of (request.Worlds query range) = Worlds (plain_match query) (plain_range range)
 plain_of (request.Compare query second) = Compare (plain_match query) second.now
+plain_of (request.Datagrams script) = Datagrams script.now
 
--- A request has at most `MAX_FILES` positional arguments.
-abbrev pub HasFewFiles : Request → Type 0
-HasFewFiles (request.Drill query recorded) = length query.rules ≤ MAX_FILES
-HasFewFiles (request.Yaml files) = length files ≤ MAX_FILES
-HasFewFiles (request.Check map_file rules) = length rules ≤ MAX_FILES
-HasFewFiles (request.Route query) = length query.rules ≤ MAX_FILES
-HasFewFiles (request.Make number) = Unit {0}
-HasFewFiles (request.Local query) = length query.rules ≤ MAX_FILES
-HasFewFiles (request.Serve query) = length query.rules ≤ MAX_FILES
-HasFewFiles (request.Play query at) = length query.rules ≤ MAX_FILES
-HasFewFiles (request.Replay query) = length query.rules ≤ MAX_FILES
-HasFewFiles (request.Migrate query to) = length query.rules ≤ MAX_FILES
-HasFewFiles (request.Save query frames to) = length query.rules ≤ MAX_FILES
-HasFewFiles (request.Continue query save) = length query.rules ≤ MAX_FILES
-HasFewFiles (request.View query client) = length query.rules ≤ MAX_FILES
-HasFewFiles (request.Worlds query range) = length query.rules ≤ MAX_FILES
-HasFewFiles (request.Compare query second) = length query.rules ≤ MAX_FILES
+-- A match has at most `MAX_FILES` rule files.
+abbrev pub HasFewFiles : MatchQuery → Type 0
+HasFewFiles query = length query.rules ≤ MAX_FILES
 
 -- A match that is served has as many clients as a match may have.
 abbrev pub IsCount : ℕ → Type 0
 IsCount clients = (1 ≤ clients) × (clients ≤ MAX_CLIENTS)
 
-abbrev pub HasClients : Request → Type 0
-HasClients (request.Serve query) = IsCount query.clients
-HasClients request = Unit {0}
+-- The request has at most `MAX_FILES` positional arguments, and its numbers are within their bounds.
+abbrev pub IsWithinBounds : Request → Type 0
+IsWithinBounds (request.Drill query recorded) = HasFewFiles query
+IsWithinBounds (request.Yaml files) = length files ≤ MAX_FILES
+IsWithinBounds (request.Check map_file rules) = length rules ≤ MAX_FILES
+IsWithinBounds (request.Route query) = length query.rules ≤ MAX_FILES
+IsWithinBounds (request.Make number) = Unit {0}
+IsWithinBounds (request.Local query bots) = HasFewFiles query × (bots ≤ MAX_BOTS)
+IsWithinBounds (request.Serve query) = (length query.rules ≤ MAX_FILES) × IsCount query.clients
+IsWithinBounds (request.Play query at) = HasFewFiles query
+IsWithinBounds (request.Replay query) = HasFewFiles query
+IsWithinBounds (request.Migrate query to) = HasFewFiles query
+IsWithinBounds (request.Save query frames to) = HasFewFiles query
+IsWithinBounds (request.Continue query save) = HasFewFiles query
+IsWithinBounds (request.View query client) = HasFewFiles query
+IsWithinBounds (request.Worlds query range) = HasFewFiles query × (1 ≤ range.every)
+IsWithinBounds (request.Compare query second) = HasFewFiles query
+IsWithinBounds (request.Datagrams script) = Unit {0}
 
--- Worlds that are asked for are at least one frame apart.
-abbrev pub HasSteps : Request → Type 0
-HasSteps (request.Worlds query range) = 1 ≤ range.every
-HasSteps request = Unit {0}
+-- The request is the one that was read, and within its bounds.
+abbrev pub IsRead : Option RequestPlain → Request → Type 0
+IsRead read request = (read ≡ Some (plain_of request)) × IsWithinBounds request

@@ -5,7 +5,7 @@ ghost use Rattle.command_words.specs.Commands.{make_app, local_app, replay_app, 
 ghost use Rattle.command_words.specs.Commands.{hosted_app, timed_app, serve_app, play_app};
 ghost use Rattle.command_words.specs.Commands.{first_app, asking_app, playing_app, linked_app};
 ghost use Rattle.command_words.specs.Commands.{framed_app, save_app, continue_app, view_app};
-ghost use Rattle.command_words.specs.Commands.{ranged_app, worlds_app, compare_app};
+ghost use Rattle.command_words.specs.Commands.{ranged_app, worlds_app, compare_app, datagrams_app};
 ghost use Rattle.command_words.specs.Commands.{replaying_app, saving_app, showing_app, lockstep_app};
 ghost use Rattle.command_words.specs.Commands.{option_named, required_option, required_number};
 ghost use Rattle.command_words.specs.Commands.{file_names, number_option, within};
@@ -14,6 +14,7 @@ ghost use Rattle.clap.specs.Simple.{app_of};
 ghost use Rattle.clap.specs.Walk.{rule_of};
 
 use base::NoMemory;
+use crate::MAX_BOTS;
 use clap::builder::ValueParser;
 use clap::{Arg, ArgAction, Command};
 use game_orders::{MAX_CLIENTS, MAX_LAG};
@@ -24,7 +25,9 @@ use std::alloc::Global;
 pub(crate) fn lockstep_command<'a>(alloc: Global) -> Result<Command<'a>, NoMemory>
     ensures { IfOk result (λ command. app_of command ≡ lockstep_app) }
 {
-    showing_commands(alloc)?.subcommand(compare_command(alloc)?)
+    showing_commands(alloc)?
+        .subcommand(compare_command(alloc)?)?
+        .subcommand(datagrams_command(alloc)?)
 }
 
 /// The command of the program with the subcommands that show worlds of a replay, too.
@@ -179,7 +182,9 @@ fn routed_command<'a>(alloc: Global) -> Result<Command<'a>, NoMemory>
 fn local_command<'a>(alloc: Global) -> Result<Command<'a>, NoMemory>
     ensures { IfOk result (Follows local_app) }
 {
-    played_command(alloc, "local", "script")?.arg(file_names(alloc))
+    played_command(alloc, "local", "script")?
+        .arg(number_option(alloc, "bots", 0, u32::from(MAX_BOTS)))?
+        .arg(file_names(alloc))
 }
 
 #[tactic(auto, unfolding(crate::specs::Commands::serve_app))]
@@ -297,6 +302,13 @@ fn compare_command<'a>(alloc: Global) -> Result<Command<'a>, NoMemory>
     played_command(alloc, "compare", "file")?
         .arg(required_option(alloc, "with"))?
         .arg(file_names(alloc))
+}
+
+#[tactic(auto, unfolding(crate::specs::Commands::datagrams_app))]
+fn datagrams_command<'a>(alloc: Global) -> Result<Command<'a>, NoMemory>
+    ensures { IfOk result (Follows datagrams_app) }
+{
+    Command::new(alloc, "datagrams").arg(required_option(alloc, "script"))
 }
 
 #[tactic(auto, unfolding(crate::specs::Commands::make_app))]

@@ -6,7 +6,7 @@ ghost use Rattle.command_words.specs.CommandNames.{command_of};
 ghost use Rattle.command_words.specs.Commands.{lockstep_app};
 ghost use Rattle.command_words.specs.RequestPlain.{RequestPlain, Drill, Yaml, Check, Replay};
 ghost use Rattle.command_words.specs.RequestPlain.{Migrate, Route, Make, Local, Serve, Play};
-ghost use Rattle.command_words.specs.RequestPlain.{Save, Continue, View, Worlds, Compare};
+ghost use Rattle.command_words.specs.RequestPlain.{Save, Continue, View, Worlds, Compare, Datagrams};
 ghost use Rattle.command_words.specs.RequestPlain.{match_alone};
 ghost use Rattle.command_words.specs.Reading.{request_of, is_accepted, is_plain, allowed};
 ghost use Rattle.command_words.specs.Reading.{NamesRefused, CellRefused};
@@ -120,12 +120,30 @@ pub fn compare_after_equals()
         ≡ Some (Compare (match_alone first) second) }
 {}
 
-/// A law of the definition: `local --script=FILE` names FILE, whatever it is.
+/// A law of the definition: `datagrams --script=FILE` names FILE, whatever it is.
+#[tactic(auto, using(crate::proofs::LiteralLemmas::datagrams_after_equals))]
+pub fn datagrams_after_equals()
+    ensures { (program script : List ℕ) →
+        request_of (program ∷ codes "datagrams" ∷ (codes "--script=" ++ script) ∷ [])
+        ≡ Some (Datagrams script) }
+{}
+
+/// A law of the definition: `local --script=FILE` names FILE, whatever it is, and no bots.
 #[tactic(auto, using(crate::proofs::LiteralLemmas::local_after_equals))]
 pub fn local_after_equals()
     ensures { (program script : List ℕ) →
         request_of (program ∷ codes "local" ∷ (codes "--script=" ++ script) ∷ [])
-        ≡ Some (Local (match_alone script)) }
+        ≡ Some (Local (match_alone script) 0) }
+{}
+
+/// A law of the definition: `local --script=FILE --bots=N` names FILE, whatever it is, and N, the
+/// greatest number here.
+#[tactic(auto, using(crate::proofs::LiteralLemmas::local_with_bots))]
+pub fn local_with_bots()
+    ensures { (program script : List ℕ) →
+        request_of (program ∷ codes "local" ∷ (codes "--script=" ++ script)
+        ∷ codes "--bots=15" ∷ [])
+        ≡ Some (Local (match_alone script) 15) }
 {}
 
 /// A law of the definition: `play --at=ADDRESS --script=FILE` names the server's address and the

@@ -20,8 +20,9 @@ mod world_range;
 pub use file_names::FileNames;
 pub use laws::{
     accepted_words_name_a_request, check_names, command_comes_second, compare_after_equals,
-    continue_after_equals, local_after_equals, make_of_a_number, map_after_equals,
-    migrated_files_after_equals, no_command, play_after_equals, record_after_equals,
+    continue_after_equals, datagrams_after_equals, local_after_equals, local_with_bots,
+    make_of_a_number, map_after_equals, migrated_files_after_equals, no_command,
+    play_after_equals, record_after_equals,
     replay_after_equals, route_with_options, save_with_options, script_after_equals,
     script_in_a_word, serve_with_options, serve_without_options, view_of_a_client,
     worlds_with_options, worlds_without_options, yaml_names,
@@ -33,6 +34,9 @@ pub use route_query::RouteQuery;
 pub use serve_query::{DEFAULT_LAG, DEFAULT_SEED, ServeQuery};
 pub use words_fault::WordsFault;
 pub use world_range::{DEFAULT_EVERY, DEFAULT_FROM, WorldRange};
+
+/// The most bots beside the clients of a script, of which there is at least one.
+pub const MAX_BOTS: u8 = 15;
 
 /// The most positional arguments of a command that takes some.
 pub const MAX_FILES: usize = 64;

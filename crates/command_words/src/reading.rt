@@ -6,19 +6,20 @@ ghost use Rattle.clap.specs.Matches.{found_of};
 ghost use Rattle.clap.specs.Simple.{subcommand_of, subcommand_rows_of};
 ghost use Rattle.command_words.specs.Commands.{lockstep_app};
 ghost use Rattle.command_words.specs.RequestPlain.{plain_of, plain_match, plain_route, plain_serve};
-ghost use Rattle.command_words.specs.RequestPlain.{plain_range, HasClients, HasFewFiles, HasSteps};
-ghost use Rattle.command_words.specs.RequestPlain.{IsCount};
+ghost use Rattle.command_words.specs.RequestPlain.{plain_range, HasFewFiles, IsCount};
+ghost use Rattle.command_words.specs.RequestPlain.{IsRead, IsWithinBounds};
 ghost use Rattle.command_words.specs.Reading.{is_accepted, is_allowed, command_request};
 ghost use Rattle.command_words.specs.Reading.{found_request, request_of, names_in, number_in};
 ghost use Rattle.command_words.specs.Reading.{cell_in, match_in, route_in, migrate_in};
 ghost use Rattle.command_words.specs.Reading.{count_in, count_or, up_to, serve_in, play_in};
 ghost use Rattle.command_words.specs.Reading.{step_or, from_one, range_in, worlds_in};
 ghost use Rattle.command_words.specs.Reading.{save_in, continue_in, view_in, compare_in};
+ghost use Rattle.command_words.specs.Reading.{at_most, bots_in, local_in};
 
 use crate::command::lockstep_command;
 use crate::{
-    DEFAULT_EVERY, DEFAULT_FROM, DEFAULT_LAG, DEFAULT_SEED, FileNames, MAX_FILES, MatchQuery,
-    Request, RouteQuery, ServeQuery, WordsFault, WorldRange,
+    DEFAULT_EVERY, DEFAULT_FROM, DEFAULT_LAG, DEFAULT_SEED, FileNames, MAX_BOTS, MAX_FILES,
+    MatchQuery, Request, RouteQuery, ServeQuery, WordsFault, WorldRange,
 };
 use clap::ArgMatches;
 use clap::error::ErrorKind;
@@ -35,9 +36,7 @@ use world_units::CPos;
 pub fn read_words<'a>(alloc: Global, words: &'a [String]) -> Result<Request<'a>, WordsFault>
     ensures request { IfOk result
         (λ request. request_of (map string_bytes words.now) ≡ Some (plain_of request)) }
-    ensures few { IfOk result HasFewFiles }
-    ensures clients { IfOk result HasClients }
-    ensures steps { IfOk result HasSteps }
+    ensures bounds { IfOk result IsWithinBounds }
     ensures refused { result ≡ Err WordsFault.Refused →
         request_of (map string_bytes words.now) ≡ None }
 {
@@ -74,10 +73,7 @@ fn fault_by(kind: ErrorKind) -> WordsFault
 /// The request that the matches name.
 fn named_request<'a>(alloc: Global, matches: &ArgMatches<'a>) -> Result<Request<'a>, WordsFault>
     ensures request { IfOk result
-        (λ request. found_request (subcommand_rows_of matches.now) ≡ Some (plain_of request)) }
-    ensures few { IfOk result HasFewFiles }
-    ensures clients { IfOk result HasClients }
-    ensures steps { IfOk result HasSteps }
+        (IsRead (found_request (subcommand_rows_of matches.now))) }
     ensures refused { result ≡ Err WordsFault.Refused →
         found_request (subcommand_rows_of matches.now) ≡ None }
 {
@@ -94,11 +90,8 @@ fn request_for<'a>(
     command: &str,
     found: &ArgMatches<'a>,
 ) -> Result<Request<'a>, WordsFault>
-    ensures request { IfOk result (λ request.
-        command_request command.now (rows_of (found_of found.now)) ≡ Some (plain_of request)) }
-    ensures few { IfOk result HasFewFiles }
-    ensures clients { IfOk result HasClients }
-    ensures steps { IfOk result HasSteps }
+    ensures request { IfOk result
+        (IsRead (command_request command.now (rows_of (found_of found.now)))) }
     ensures refused { result ≡ Err WordsFault.Refused →
         command_request command.now (rows_of (found_of found.now)) ≡ None }
 {
@@ -115,7 +108,7 @@ fn request_for<'a>(
             rules: names_in(alloc, found, 1)?,
         }),
         "route" => Ok(Request::Route(route_in(alloc, found)?)),
-        "local" => Ok(Request::Local(match_in(alloc, found, "script")?)),
+        "local" => local_in(alloc, found),
         "serve" => Ok(Request::Serve(serve_in(alloc, found)?)),
         "play" => play_in(alloc, found),
         "replay" => Ok(Request::Replay(match_in(alloc, found, "file")?)),
@@ -125,6 +118,9 @@ fn request_for<'a>(
         "view" => view_in(alloc, found),
         "worlds" => worlds_in(alloc, found),
         "compare" => compare_in(alloc, found),
+        "datagrams" => Ok(Request::Datagrams {
+            script: value_in(found, "script").ok_or(WordsFault::Refused)?,
+        }),
         "make" => Ok(Request::Make {
             number: number_in(found, "number").ok_or(WordsFault::Refused)?,
         }),
@@ -141,7 +137,7 @@ fn match_in<'a>(
 ) -> Result<MatchQuery<'a>, WordsFault>
     ensures query { IfOk result (λ query.
         match_in option.now (rows_of (found_of found.now)) ≡ Some (plain_match query)) }
-    ensures few { IfOk result (λ query. length query.rules ≤ MAX_FILES) }
+    ensures few { IfOk result HasFewFiles }
     ensures refused { result ≡ Err WordsFault.Refused →
         match_in option.now (rows_of (found_of found.now)) ≡ None }
 {
@@ -155,14 +151,31 @@ fn match_in<'a>(
     })
 }
 
+/// The request to play a script on threads of this machine.
+#[tactic(auto, unfolding(crate::specs::Reading::local_in))]
+fn local_in<'a>(alloc: Global, found: &ArgMatches<'a>) -> Result<Request<'a>, WordsFault>
+    ensures request { IfOk result (IsRead (local_in (rows_of (found_of found.now)))) }
+    ensures refused { result ≡ Err WordsFault.Refused →
+        local_in (rows_of (found_of found.now)) ≡ None }
+{
+    let bots = bots_in(found).ok_or(WordsFault::Refused)?;
+    let query = match_in(alloc, found, "script")?;
+    Ok(Request::Local { query, bots })
+}
+
+/// The number of bots, up to `MAX_BOTS`; there are none where none are asked for.
+#[tactic(auto, unfolding(crate::specs::Reading::bots_in))]
+fn bots_in(found: &ArgMatches<'_>) -> Option<u8>
+    ensures value { result ≡ bots_in (rows_of (found_of found.now)) }
+    ensures most { IfSome result (λ bots. bots ≤ MAX_BOTS) }
+{
+    at_most(MAX_BOTS, number_in(found, "bots").unwrap_or(0))
+}
+
 /// The request to migrate a replay.
 #[tactic(auto, unfolding(crate::specs::Reading::migrate_in))]
 fn migrate_in<'a>(alloc: Global, found: &ArgMatches<'a>) -> Result<Request<'a>, WordsFault>
-    ensures request { IfOk result
-        (λ request. migrate_in (rows_of (found_of found.now)) ≡ Some (plain_of request)) }
-    ensures few { IfOk result HasFewFiles }
-    ensures clients { IfOk result HasClients }
-    ensures steps { IfOk result HasSteps }
+    ensures request { IfOk result (IsRead (migrate_in (rows_of (found_of found.now)))) }
     ensures refused { result ≡ Err WordsFault.Refused →
         migrate_in (rows_of (found_of found.now)) ≡ None }
 {
@@ -174,11 +187,7 @@ fn migrate_in<'a>(alloc: Global, found: &ArgMatches<'a>) -> Result<Request<'a>, 
 /// The request to play a script over a link.
 #[tactic(auto, unfolding(crate::specs::Reading::play_in))]
 fn play_in<'a>(alloc: Global, found: &ArgMatches<'a>) -> Result<Request<'a>, WordsFault>
-    ensures request { IfOk result
-        (λ request. play_in (rows_of (found_of found.now)) ≡ Some (plain_of request)) }
-    ensures few { IfOk result HasFewFiles }
-    ensures clients { IfOk result HasClients }
-    ensures steps { IfOk result HasSteps }
+    ensures request { IfOk result (IsRead (play_in (rows_of (found_of found.now)))) }
     ensures refused { result ≡ Err WordsFault.Refused →
         play_in (rows_of (found_of found.now)) ≡ None }
 {
@@ -190,11 +199,7 @@ fn play_in<'a>(alloc: Global, found: &ArgMatches<'a>) -> Result<Request<'a>, Wor
 /// The request to write a save of a replay.
 #[tactic(auto, unfolding(crate::specs::Reading::save_in))]
 fn save_in<'a>(alloc: Global, found: &ArgMatches<'a>) -> Result<Request<'a>, WordsFault>
-    ensures request { IfOk result
-        (λ request. save_in (rows_of (found_of found.now)) ≡ Some (plain_of request)) }
-    ensures few { IfOk result HasFewFiles }
-    ensures clients { IfOk result HasClients }
-    ensures steps { IfOk result HasSteps }
+    ensures request { IfOk result (IsRead (save_in (rows_of (found_of found.now)))) }
     ensures refused { result ≡ Err WordsFault.Refused →
         save_in (rows_of (found_of found.now)) ≡ None }
 {
@@ -207,11 +212,7 @@ fn save_in<'a>(alloc: Global, found: &ArgMatches<'a>) -> Result<Request<'a>, Wor
 /// The request to run the later frames of a replay from a save on.
 #[tactic(auto, unfolding(crate::specs::Reading::continue_in))]
 fn continue_in<'a>(alloc: Global, found: &ArgMatches<'a>) -> Result<Request<'a>, WordsFault>
-    ensures request { IfOk result
-        (λ request. continue_in (rows_of (found_of found.now)) ≡ Some (plain_of request)) }
-    ensures few { IfOk result HasFewFiles }
-    ensures clients { IfOk result HasClients }
-    ensures steps { IfOk result HasSteps }
+    ensures request { IfOk result (IsRead (continue_in (rows_of (found_of found.now)))) }
     ensures refused { result ≡ Err WordsFault.Refused →
         continue_in (rows_of (found_of found.now)) ≡ None }
 {
@@ -223,11 +224,7 @@ fn continue_in<'a>(alloc: Global, found: &ArgMatches<'a>) -> Result<Request<'a>,
 /// The request to show what a client has seen of a replay.
 #[tactic(auto, unfolding(crate::specs::Reading::view_in))]
 fn view_in<'a>(alloc: Global, found: &ArgMatches<'a>) -> Result<Request<'a>, WordsFault>
-    ensures request { IfOk result
-        (λ request. view_in (rows_of (found_of found.now)) ≡ Some (plain_of request)) }
-    ensures few { IfOk result HasFewFiles }
-    ensures clients { IfOk result HasClients }
-    ensures steps { IfOk result HasSteps }
+    ensures request { IfOk result (IsRead (view_in (rows_of (found_of found.now)))) }
     ensures refused { result ≡ Err WordsFault.Refused →
         view_in (rows_of (found_of found.now)) ≡ None }
 {
@@ -239,11 +236,7 @@ fn view_in<'a>(alloc: Global, found: &ArgMatches<'a>) -> Result<Request<'a>, Wor
 /// The request to print worlds of a replay.
 #[tactic(auto, unfolding(crate::specs::Reading::worlds_in))]
 fn worlds_in<'a>(alloc: Global, found: &ArgMatches<'a>) -> Result<Request<'a>, WordsFault>
-    ensures request { IfOk result
-        (λ request. worlds_in (rows_of (found_of found.now)) ≡ Some (plain_of request)) }
-    ensures few { IfOk result HasFewFiles }
-    ensures clients { IfOk result HasClients }
-    ensures steps { IfOk result HasSteps }
+    ensures request { IfOk result (IsRead (worlds_in (rows_of (found_of found.now)))) }
     ensures refused { result ≡ Err WordsFault.Refused →
         worlds_in (rows_of (found_of found.now)) ≡ None }
 {
@@ -267,11 +260,7 @@ fn range_in(found: &ArgMatches<'_>) -> Option<WorldRange>
 /// The request to compare two saves or two replays.
 #[tactic(auto, unfolding(crate::specs::Reading::compare_in))]
 fn compare_in<'a>(alloc: Global, found: &ArgMatches<'a>) -> Result<Request<'a>, WordsFault>
-    ensures request { IfOk result
-        (λ request. compare_in (rows_of (found_of found.now)) ≡ Some (plain_of request)) }
-    ensures few { IfOk result HasFewFiles }
-    ensures clients { IfOk result HasClients }
-    ensures steps { IfOk result HasSteps }
+    ensures request { IfOk result (IsRead (compare_in (rows_of (found_of found.now)))) }
     ensures refused { result ≡ Err WordsFault.Refused →
         compare_in (rows_of (found_of found.now)) ≡ None }
 {
@@ -397,6 +386,18 @@ fn up_to(most: u8, number: u32) -> Option<u8>
     ensures most { IfSome result (λ count. count ≤ most) }
 {
     if 1 <= number && number <= u32::from(most) {
+        Some(number as u8)
+    } else {
+        None
+    }
+}
+
+/// The number, if it is one up to `most`.
+fn at_most(most: u8, number: u32) -> Option<u8>
+    ensures value { result ≡ at_most most number }
+    ensures most { IfSome result (λ count. count ≤ most) }
+{
+    if number <= u32::from(most) {
         Some(number as u8)
     } else {
         None

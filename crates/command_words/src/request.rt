@@ -41,9 +41,14 @@ pub enum Request<'a> {
         number: u32,
     },
 
-    /// `local --script FILE --map FILE RULES`: play the script that the file holds on threads of
-    /// this machine, over the map and the rules.
-    Local(MatchQuery<'a>),
+    /// `local --script FILE --map FILE --bots N RULES`: play the script that the file holds, and
+    /// bots beside it, on threads of this machine, over the map and the rules.
+    Local {
+        /// The script.
+        query: MatchQuery<'a>,
+        /// How many bots play beside its clients, at most `MAX_BOTS`.
+        bots: u8,
+    },
 
     /// `serve --at ADDRESS --clients N --lag N --seed N --map FILE RULES`: serve a match to clients
     /// over links, over the map and the rules.
@@ -116,5 +121,11 @@ pub enum Request<'a> {
         query: MatchQuery<'a>,
         /// The name of the second one's file.
         second: &'a str,
+    },
+
+    /// `datagrams --script FILE`: run the schedule of datagrams that the file holds.
+    Datagrams {
+        /// The name of the schedule's file.
+        script: &'a str,
     },
 }

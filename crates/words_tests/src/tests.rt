@@ -410,9 +410,6 @@ compare|--file|f|--with|-g => refused
 compare|--file|f|--save|g => refused
 compare|--file|f|--with|g|--to|t => refused
 compares|--file|f|--with|g => refused
-# There are no such commands and no such option.
-datagrams|--script|s => refused
-local|--script|s|--bots|1 => refused
 ## Words that save a replay, go on from a save, show worlds or compare, with the request that they
 ## name.
 save|--file|f|--frames|1|--to|t => save 1 to <t> <f>
@@ -454,6 +451,7 @@ check => refused => check
 route|--map|m|--kind|k|--from|0,0|--to|1,1 => refused => route <m> <k> 0,0 1,1
 drill|--script|s|--record|r => drill record <r> <s> => drill record <r> <s>
 local|--script|s => local <s> => local <s>
+local|--script|s|--bots|3 => local bots 3 <s> => local bots 3 <s>
 replay|--file|f => replay <f> => replay <f>
 migrate|--file|f|--to|t => migrate to <t> <f> => migrate to <t> <f>
 play|--at|a|--script|s => play at <a> <s> => play at <a> <s>
@@ -463,6 +461,68 @@ continue|--save|s|--file|f => continue from <s> <f> => continue from <s> <f>
 view|--file|f|--client|0 => view 0 <f> => view 0 <f>
 worlds|--file|f => worlds 0 end 1 <f> => worlds 0 end 1 <f>
 compare|--file|f|--with|g => compare with <g> <f> => compare with <g> <f>";
+
+/// The same of the commands `local`, with bots, and `datagrams`.
+const LINES_OF_BOTS_AND_DATAGRAMS: &str = "\
+## Words that are refused.
+# `local`: the number of bots once, 0 to 15.
+local|--bots|1 => refused
+local|--script|s|--bots => refused
+local|--script|s|--bots= => refused
+local|--script|s|--bots|16 => refused
+local|--bots|16|--script|s => refused
+local|--bots=1024|--script|s|--map|m => refused
+local|--script|s|--bots|4294967296 => refused
+local|--script|s|--bots|1|--bots|1 => refused
+local|--script|s|--bots|one => refused
+local|--script|s|--bots|\u{661} => refused
+local|--script|s|--bots|0x1 => refused
+local|--script|s|--bots|1.0 => refused
+local|--script|s|--bots=-1 => refused
+local|--script|s|--bots|-1 => refused
+local|--script|s|--bots|-0 => refused
+local|--map=m|--bots|-00 => refused
+# No other command has bots.
+drill|--script|s|--bots|1 => refused
+replay|--file|f|--bots|1 => refused
+serve|--at|a|--clients|2|--bots|1 => refused
+# `datagrams`: a script once, no map and no name.
+datagrams => refused
+datagrams|k => refused
+datagrams|--script => refused
+datagrams|--script|-g => refused
+datagrams|--script|g|--script|g => refused
+datagrams|k|--script|g => refused
+datagrams|--script|g|k => refused
+datagrams|--script|g|--|k => refused
+datagrams|--script|g|--map|m => refused
+datagrams|--script|g|--bots|1 => refused
+datagrams|--file|g => refused
+datagram|--script|g => refused
+Datagrams|--script|g => refused
+## Words with the request that they name.
+local|--script|s|--bots|0 => local <s>
+local|k|--bots|0|--script|s => local <s> <k>
+local|--script|s|--bots=-0 => local <s>
+local|--bots|1|--script|s => local bots 1 <s>
+local|--map|m|--script|s|--bots=1|k => local bots 1 <s> map <m> <k>
+local|k|--bots=2|--script=s => local bots 2 <s> <k>
+local|--bots|8|k|--script|s => local bots 8 <s> <k>
+local|--script|s|--bots|15 => local bots 15 <s>
+local|--bots|007|--script|s => local bots 7 <s>
+local|--bots|+3|--script|s => local bots 3 <s>
+local|--script|s|--bots=000000000000000 => local <s>
+local|--map|m|--bots|1|--script=s => local bots 1 <s> map <m>
+local|--script|s|--bots=1|--map=m => local bots 1 <s> map <m>
+local|--script|s|--|--bots|1 => local <s> <--bots> <1>
+local|--script=--bots|--bots=9|9 => local bots 9 <--bots> <9>
+datagrams|--script|g => datagrams <g>
+datagrams|--script=g => datagrams <g>
+datagrams|--script=-g => datagrams <-g>
+datagrams|--script= => datagrams <>
+datagrams|--script|- => datagrams <->
+datagrams|--script|g|-- => datagrams <g>
+datagrams|--script|datagrams => datagrams <datagrams>";
 
 const REFUSED: &str = "refused";
 
@@ -576,11 +636,21 @@ fn put_drill(
     put_match(text, "", query)
 }
 
+/// Adds a local match, with its bots, if it has some.
+fn put_local(text: &mut String, bots: u8, query: &MatchQuery<'_>) -> Result<(), NoMemory> {
+    text.push_str("local")?;
+    if bots > 0 {
+        text.push_str(" bots")?;
+        put_number(text, ' ', u32::from(bots))?;
+    }
+    put_match(text, "", query)
+}
+
 /// Adds a request.
 fn put_request(text: &mut String, request: &Request<'_>) -> Result<(), NoMemory> {
     match request {
         Request::Drill { query, record } => put_drill(text, *record, query),
-        Request::Local(query) => put_match(text, "local", query),
+        Request::Local { query, bots } => put_local(text, *bots, query),
         Request::Serve(query) => put_serve(text, query),
         Request::Play { query, at } => {
             put_name(text, "play at", at)?;
@@ -606,6 +676,7 @@ fn put_request(text: &mut String, request: &Request<'_>) -> Result<(), NoMemory>
             put_name(text, "compare with", second)?;
             put_match(text, "", query)
         }
+        Request::Datagrams { script } => put_name(text, "datagrams", script),
         Request::Make { number } => {
             text.push_str("make")?;
             put_number(text, ' ', *number)
@@ -633,18 +704,33 @@ fn request_text(alloc: Global, words: &[String]) -> Result<String, NoMemory> {
     Ok(text)
 }
 
-#[test]
-fn lines_name_their_requests(rt: HostRuntime) -> Result<(), Fail> {
-    let alloc = rt.alloc();
-    for row in LINES.lines() {
+/// The first line of a table whose words name another request than it says, or that says none.
+fn wrong_line<'a>(alloc: Global, lines: &'a str) -> Result<Option<&'a str>, NoMemory> {
+    for row in lines.lines() {
         if let Some((words, want)) = row.split_once(" => ") {
             let line = command_line(alloc, words)?;
             let got = request_text(alloc, &line)?;
-            assert_eq!(rt; got.as_str(), want, "of {words}");
-        } else {
-            assert!(rt; row.starts_with('#'), "{row}");
+            if got.as_str() != want {
+                return Ok(Some(row));
+            }
+        } else if !row.starts_with('#') {
+            return Ok(Some(row));
         }
     }
+    Ok(None)
+}
+
+#[test]
+fn lines_name_their_requests(rt: HostRuntime) -> Result<(), Fail> {
+    let alloc = rt.alloc();
+    assert_eq!(rt; wrong_line(alloc, LINES)?, None);
+    Ok(())
+}
+
+#[test]
+fn lines_of_bots_and_datagrams_name_their_requests(rt: HostRuntime) -> Result<(), Fail> {
+    let alloc = rt.alloc();
+    assert_eq!(rt; wrong_line(alloc, LINES_OF_BOTS_AND_DATAGRAMS)?, None);
     Ok(())
 }
 
