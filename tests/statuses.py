@@ -21,6 +21,8 @@ COMMANDS = {
     'view': f'view --file scout/scout.replay --client 0 {SCOUT}',
     'worlds': f'worlds --file battle/battle.replay {BATTLE}',
     'local': 'local --script local.script',
+    'local with bots': 'local --script local.script --bots 1',
+    'datagrams': 'datagrams --script datagrams.script',
     'make': 'make --number 1',
     'yaml': 'yaml yaml/base.yaml yaml/units.yaml',
     'check': 'check --map maps/sample.map maps/sample.yaml',
@@ -68,6 +70,10 @@ REFUSED = {
     'worlds --file one_frame.replay --from 2 --to 0': 'one_frame.replay 0 TooFewFrames',
     'local --script none': 'none 0 Missing',
     'local --script refused.drill': 'refused.drill 3 BadWord',
+    'local --script local.script --bots 15': 'local.script 0 TooManyClients',
+    'local --script refused.drill --bots 15': 'refused.drill 3 BadWord',
+    'datagrams --script none': 'none 0 Missing',
+    'datagrams --script one_frame.drill': 'one_frame.drill 2 BadWord',
     'yaml yaml/base.yaml none': 'none 0 Missing',
     'yaml maps/sample.yaml mod/slip.yaml': 'mod/slip.yaml 5 NothingToRemove',
     'check none': 'none 0 Missing',
@@ -87,7 +93,8 @@ UNREADABLE = ['drill --script UNREAD', 'drill --script one_frame.drill --map UNR
               'migrate --file UNREAD --to new', 'save --file UNREAD --frames 1 --to new',
               'continue --save UNREAD --file one_frame.replay', 'continue --save one_frame.save --file UNREAD',
               'compare --file UNREAD --with one_frame.replay', 'compare --file one_frame.replay --with UNREAD',
-              'compare --file one_frame.save --with UNREAD', 'view --file UNREAD --client 0', 'worlds --file UNREAD', 'local --script UNREAD', 'yaml UNREAD', 'check maps/sample.yaml UNREAD',
+              'compare --file one_frame.save --with UNREAD', 'view --file UNREAD --client 0', 'worlds --file UNREAD', 'local --script UNREAD',
+              'local --script UNREAD --bots 1', 'datagrams --script UNREAD', 'yaml UNREAD', 'check maps/sample.yaml UNREAD',
               'route --map UNREAD --kind unit --from 0,1 --to 2,1 maps/walker.yaml',
               'serve --at 127.0.0.1:1 --clients 1 UNREAD', 'play --at 127.0.0.1:1 --script UNREAD']
 
@@ -104,7 +111,7 @@ WORDS_REFUSED = Ran(2, b'refused words\n')
 READ_FAULT = Ran(4, b'fault read\n')
 
 # The lengths that files may have.
-LONGEST = {'drill --script long': 67_108_864, 'local --script long': 67_108_864, 'yaml long': 4_194_304,
+LONGEST = {'drill --script long': 67_108_864, 'local --script long': 67_108_864, 'datagrams --script long': 67_108_864, 'yaml long': 4_194_304,
            'check maps/sample.yaml --map long': 4_194_304, 'replay --file long': 268_435_456,
            'save --file long --frames 1 --to new': 268_435_456, 'continue --save long --file one_frame.replay': 4_194_304,
            'continue --save one_frame.save --file long': 268_435_456, 'view --file long --client 0': 268_435_456,
@@ -160,7 +167,7 @@ class Statuses:
     def of_words(self):
         """Status 2."""
         for words in ('', 'dance', 'drill --script', 'make --number 4294967296', 'save --file r --frames 4294967296 --to v',
-                      'view --file r --client -1', 'worlds --file r --every 0', *(f'{it} --what' for it in COMMANDS.values())):
+                      'view --file r --client -1', 'worlds --file r --every 0', 'local --script s --bots 16', *(f'{it} --what' for it in COMMANDS.values())):
             self.tally.same(f'"{words}"', self.run(words), WORDS_REFUSED)
         for words in ([b'\xff'], [b'drill', b'--script', b'\xff.drill'], [b'yaml', b'\xc3']):
             self.tally.same(f'{words}, no UTF-8', self.run(words), WORDS_REFUSED)
