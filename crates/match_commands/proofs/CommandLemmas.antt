@@ -4,7 +4,7 @@ use Rattle.std.proofs.lemmas.Option.{slice_get-map}
 use Rattle.std.specs.Prelude.{option_map, slice_get}
 use Rattle.command_words.specs.CommandNames.{command_of}
 use Rattle.command_words.specs.Reading.{request_of}
-use Rattle.command_words.specs.RequestPlain.{RequestPlain, Drill, Yaml, Check, Route, Make, Local, Serve, Play, Replay, Migrate, Save, Continue, View, Worlds, Compare}
+use Rattle.command_words.specs.RequestPlain.{RequestPlain, Drill, Yaml, Check, Route, Make, Local, Serve, Play, Replay, Migrate, Save, Continue, View, Worlds, Compare, Datagrams}
 use Rattle.command_words.proofs.SecondWordLemmas.{command_comes_second}
 use Rattle.match_commands.specs.TopCalls.{waiting, names_waiting}
 
@@ -14,7 +14,7 @@ command_waits (Yaml names) = refl
 command_waits (Check map_file names) = refl
 command_waits (Route query) = refl
 command_waits (Make number) = refl
-command_waits (Local query) = refl
+command_waits (Local query bots) = refl
 command_waits (Serve query) = refl
 command_waits (Play query at) = refl
 command_waits (Replay query) = refl
@@ -24,6 +24,7 @@ command_waits (Continue query save) = refl
 command_waits (View query client) = refl
 command_waits (Worlds query range) = refl
 command_waits (Compare query second) = refl
+command_waits (Datagrams script) = refl
 
 -- What the second of some words tells, seen by `view`, is right of the request that they name.
 pub second_tells :

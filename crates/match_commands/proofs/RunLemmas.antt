@@ -1,7 +1,7 @@
 -- A whole run: from the request that the words name, or that they name none.
 use Rattle.std.specs.Prelude.{◌==◌, option_and_then, unwrap_or, if◌then◌else◌, nat_lt, length}
 use Rattle.std.proofs.Common.{◌≡◌, ◌⊎◌, ℕ, Bool, true, false, List, [], Option, None, Some, Ok, Err, IsOk, IfSome, IfNone, ◌≢◌, refl, sym, subst, inl, inr, arith}
-use Rattle.command_words.specs.RequestPlain.{RequestPlain, MatchPlain, Drill, Yaml, Check, Route, Make, Local, Serve, Play, Replay, Migrate, Save, Continue, View, Worlds, Compare}
+use Rattle.command_words.specs.RequestPlain.{RequestPlain, MatchPlain, Drill, Yaml, Check, Route, Make, Local, Serve, Play, Replay, Migrate, Save, Continue, View, Worlds, Compare, Datagrams}
 use Rattle.game_io.specs.Files.{Files}
 use Rattle.command_answers.specs.declared.statuses.TheConstants.{DONE, REFUSED_FILE, FAULT_READ, FAULT_WRITE, OUT_OF_MEMORY, MARK_DIFFERS}
 use Rattle.base.specs.Steps.{◌>>=◌}
@@ -113,7 +113,7 @@ given_done (Yaml names) contents ok = text_done (yaml_step names contents.rules)
 given_done (Check map_file names) contents ok = text_done (check_step names map_file contents) ok
 given_done (Route query) contents ok = text_done (route_step query contents) ok
 given_done (Make number) contents ok = text_done (make_step number) ok
-given_done (Local query) contents ok = text_done (local_match_step query contents) ok
+given_done (Local query bots) contents ok = text_done (local_match_step query bots contents) ok
 given_done (Serve query) contents ok = refl
 given_done (Play query at) contents ok = refl
 given_done (Replay query) contents ok =
@@ -216,7 +216,7 @@ request_sound (Drill query record_file) status causes old new runs = tt
 request_sound (Yaml names) status causes old new runs = tt
 request_sound (Check map_file names) status causes old new runs = tt
 request_sound (Route query) status causes old new runs = tt
-request_sound (Local query) status causes old new runs = tt
+request_sound (Local query bots) status causes old new runs = tt
 request_sound (Serve query) status causes old new runs = tt
 request_sound (Play query at) status causes old new runs = tt
 request_sound (Replay query) status causes old new runs = tt
@@ -226,6 +226,7 @@ request_sound (Continue query save) status causes old new runs = tt
 request_sound (View query client) status causes old new runs = tt
 request_sound (Worlds query range) status causes old new runs = tt
 request_sound (Compare query second) status causes old new runs = tt
+request_sound (Datagrams script) status causes old new runs = tt
 
 -- The words name a request, which was run.
 pub request_runs :

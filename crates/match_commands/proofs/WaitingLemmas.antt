@@ -10,7 +10,7 @@ use Rattle.game_io.specs.Files.{Files}
 use Rattle.game_io.specs.NetState.{NetState}
 use Rattle.game_io.specs.SinkState.{SinkState}
 use Rattle.game_io.specs.SourceState.{SourceState}
-use Rattle.command_words.specs.RequestPlain.{RequestPlain, ServePlain, Drill, Yaml, Check, Route, Make, Local, Serve, Play, Replay, Migrate, Save, Continue, View, Worlds, Compare}
+use Rattle.command_words.specs.RequestPlain.{RequestPlain, ServePlain, Drill, Yaml, Check, Route, Make, Local, Serve, Play, Replay, Migrate, Save, Continue, View, Worlds, Compare, Datagrams}
 use Rattle.command_answers.specs.declared.statuses.TheConstants.{OUT_OF_MEMORY}
 use Rattle.command_answers.specs.declared.stop.Stop.{Stop}
 use Rattle.command_answers.specs.declared.stop.Stop.TheVariants.{NoMemory}
@@ -124,14 +124,15 @@ request_waits (Continue query save) d s net console = none_waits d s net console
 request_waits (View query client) d s net console = none_waits d s net console
 request_waits (Worlds query range) d s net console = none_waits d s net console
 request_waits (Compare query second) d s net console = none_waits d s net console
+request_waits (Datagrams script) d s net console = none_waits d s net console
 request_waits (Serve query) d s net console =
     let all = rules_and_map query.rules query.map_file in
     let old = with_links d s net console in
     linked_stopped all all (serve_step query) (ServesOver query OUT_OF_MEMORY old old) IsServeDone NoMemory OUT_OF_MEMORY (NetFailed net net) old old
     refl refl (omega arith) (omega arith) (unread_told d.files _ (λ files. tt)) (unread_untold d.files _ tt) (refl, refl) (refl, refl)
-request_waits (Local query) d s net console = (
-  request_runs (Local query) OUT_OF_MEMORY _ (environment d s) (environment d s)
-      (request_stopped (Local query) NoMemory OUT_OF_MEMORY d d s s refl (omega arith) (omega arith)
+request_waits (Local query bots) d s net console = (
+  request_runs (Local query bots) OUT_OF_MEMORY _ (environment d s) (environment d s)
+      (request_stopped (Local query bots) NoMemory OUT_OF_MEMORY d d s s refl (omega arith) (omega arith)
       (unread_told d.files _ (λ files. tt)) (unread_untold d.files _ tt) (refl, refl)),
   (refl, refl),
 )

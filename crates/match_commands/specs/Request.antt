@@ -1,10 +1,10 @@
 -- The answer to a request.
-use Rattle.std.specs.Prelude.{ℕ, List, [], map, Option, None, Some, Ok, IsOk}
+use Rattle.std.specs.Prelude.{ℕ, List, [], map, Option, None, Some, Ok, IsOk, unwrap_or}
 use Rattle.base.specs.Steps.{◌>>=◌}
 use Rattle.game_io.specs.Files.{Files}
 use Rattle.command_words.specs.RequestPlain.{RequestPlain, Drill, Yaml, Check, Route, Make}
 use Rattle.command_words.specs.RequestPlain.{Local, Serve, Play, Replay, Migrate, Save}
-use Rattle.command_words.specs.RequestPlain.{Continue, View, Worlds, Compare}
+use Rattle.command_words.specs.RequestPlain.{Continue, View, Worlds, Compare, Datagrams}
 use Rattle.command_answers.specs.Reply.{Reply, done}
 use Rattle.command_answers.specs.Step.{Step, replied}
 use Rattle.command_answers.specs.WantedFiles.{WantedFiles, no_files, rule_file}
@@ -14,6 +14,7 @@ use Rattle.command_answers.specs.Contents.{Contents, contents_of}
 use Rattle.rule_commands.specs.RuleFiles.{yaml_step}
 use Rattle.rule_commands.specs.Checks.{check_step}
 use Rattle.rule_commands.specs.Routes.{route_step}
+use Rattle.datagrams_command.specs.Datagrams.{datagrams_step}
 use Rattle.match_commands.specs.Compared.{compared_step}
 use Rattle.match_commands.specs.Drills.{drill_step}
 use Rattle.match_commands.specs.Locals.{local_match_step}
@@ -31,7 +32,7 @@ wanted (Yaml names) = record no_files { rules = map rule_file names }
 wanted (Check map_file names) = rules_and_map names map_file
 wanted (Route query) = rules_and_map query.rules (Some query.map_file)
 wanted (Make number) = no_files
-wanted (Local query) = with_script query.file (rules_and_map query.rules query.map_file)
+wanted (Local query bots) = with_script query.file (rules_and_map query.rules query.map_file)
 wanted (Serve query) = rules_and_map query.rules query.map_file
 wanted (Play query at) = with_script query.file (rules_and_map query.rules query.map_file)
 wanted (Replay query) = with_replay query.file (rules_and_map query.rules query.map_file)
@@ -44,6 +45,7 @@ wanted (View query client) = with_replay query.file (rules_and_map query.rules q
 wanted (Worlds query range) = with_replay query.file (rules_and_map query.rules query.map_file)
 wanted (Compare query second) =
     with_compared query.file second (rules_and_map query.rules query.map_file)
+wanted (Datagrams script) = with_script script no_files
 
 -- The file that a request names to be written, if it names one.
 abbrev pub written_by : RequestPlain → Option (List ℕ)
@@ -52,7 +54,7 @@ written_by (Yaml names) = None
 written_by (Check map_file names) = None
 written_by (Route query) = None
 written_by (Make number) = None
-written_by (Local query) = None
+written_by (Local query bots) = None
 written_by (Serve query) = None
 written_by (Play query at) = None
 written_by (Replay query) = None
@@ -62,6 +64,7 @@ written_by (Continue query save) = None
 written_by (View query client) = None
 written_by (Worlds query range) = None
 written_by (Compare query second) = None
+written_by (Datagrams script) = None
 
 -- The reply of a command that prints a text alone, or its refusal.
 abbrev pub text_reply : Step (List ℕ) → Step Reply
@@ -76,7 +79,7 @@ answer_of (Yaml names) contents = text_reply (yaml_step names contents.rules)
 answer_of (Check map_file names) contents = text_reply (check_step names map_file contents)
 answer_of (Route query) contents = text_reply (route_step query contents)
 answer_of (Make number) contents = text_reply (make_step number)
-answer_of (Local query) contents = text_reply (local_match_step query contents)
+answer_of (Local query bots) contents = text_reply (local_match_step query bots contents)
 answer_of (Serve query) contents = text_reply (Ok [])
 answer_of (Play query at) contents = text_reply (Ok [])
 answer_of (Replay query) contents = replayed_step query contents
@@ -86,6 +89,7 @@ answer_of (Continue query save) contents = continued_step query save contents
 answer_of (View query client) contents = viewed_step query client contents
 answer_of (Worlds query range) contents = text_reply (told_worlds query range contents)
 answer_of (Compare query second) contents = compared_step query second contents
+answer_of (Datagrams script) contents = datagrams_step script (unwrap_or contents.script [])
 
 -- The answer to a request whose files have these contents.
 abbrev pub given_reply : RequestPlain → Contents → Reply

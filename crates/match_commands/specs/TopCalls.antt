@@ -5,14 +5,14 @@ use Rattle.command_words.specs.RequestPlain.{RequestPlain, Local, Serve, Play}
 
 -- The request, where its command always returns.
 abbrev pub returning : RequestPlain → Option RequestPlain
-returning (Local query) = None
+returning (Local query bots) = None
 returning (Serve query) = None
 returning (Play query at) = None
 returning request = Some request
 
 -- The request, where its command may wait for threads or links.
 abbrev pub waiting : RequestPlain → Option RequestPlain
-waiting (Local query) = Some (Local query)
+waiting (Local query bots) = Some (Local query bots)
 waiting (Serve query) = Some (Serve query)
 waiting (Play query at) = Some (Play query at)
 waiting request = None

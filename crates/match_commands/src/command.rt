@@ -1,7 +1,7 @@
 ghost use Rattle.std.specs.Prelude.{◌≡◌, ◌≤◌, None, Some, length, map, option_map, string_bytes};
 ghost use Rattle.std.specs.Prelude.{option_and_then};
 ghost use Rattle.command_words.specs.RequestPlain.{Drill, Yaml, Check, Route, plain_of};
-ghost use Rattle.command_words.specs.RequestPlain.{plain_match, plain_route, HasFewFiles};
+ghost use Rattle.command_words.specs.RequestPlain.{plain_match, plain_route, IsWithinBounds};
 ghost use Rattle.command_words.specs.Reading.{request_of};
 ghost use Rattle.command_answers.specs.Causes.{causes_of};
 ghost use Rattle.command_answers.specs.Environment.{environment};
@@ -10,6 +10,7 @@ ghost use Rattle.match_commands.specs.Run.{Runs, RunsRequest};
 ghost use Rattle.match_commands.specs.TopCalls.{returning, returning_request};
 
 use crate::comparing::run_compare;
+use crate::datagrams::run_datagrams;
 use crate::making::make_text;
 use crate::preparing::{prepare_drill, prepare_recorded};
 use crate::recording::record_drill;
@@ -67,7 +68,7 @@ fn run_request<D: Disk, K: Sink>(
     disk: &mut D,
     out: &mut K,
 ) -> u8
-    requires { HasFewFiles request.now }
+    requires { IsWithinBounds request.now }
     ensures { let old = environment (D.state disk.old) (K.state out.old) in
         let new = environment (D.state disk.new) (K.state out.new) in
         let named = returning (plain_of request.now) in
@@ -86,7 +87,8 @@ fn run_request<D: Disk, K: Sink>(
         Request::View { query, client } => run_view(alloc, query, *client, disk, out),
         Request::Worlds { query, range } => run_worlds_query(alloc, query, *range, disk, out),
         Request::Compare { query, second } => run_compare(alloc, query, second, disk, out),
-        Request::Local(_) | Request::Serve(_) | Request::Play { .. } => refuse_words(out),
+        Request::Datagrams { script } => run_datagrams(alloc, script, disk, out),
+        Request::Local { .. } | Request::Serve(_) | Request::Play { .. } => refuse_words(out),
     }
 }
 

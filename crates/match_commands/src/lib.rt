@@ -10,6 +10,7 @@
 
 mod command;
 mod comparing;
+mod datagrams;
 mod hosting;
 mod linking;
 mod making;

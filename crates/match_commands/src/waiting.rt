@@ -1,7 +1,7 @@
 //! The commands that may wait for threads or links.
 ghost use Rattle.std.specs.Prelude.{◌≡◌, ◌≤◌, [], None, Some, length, map, option_map, slice_get};
 ghost use Rattle.std.specs.Prelude.{string_bytes, is_some};
-ghost use Rattle.command_words.specs.RequestPlain.{Local, HasClients, HasFewFiles, plain_match};
+ghost use Rattle.command_words.specs.RequestPlain.{Local, IsWithinBounds, plain_match};
 ghost use Rattle.command_words.specs.RequestPlain.{RequestPlain, plain_of};
 ghost use Rattle.command_words.specs.Reading.{request_of};
 ghost use Rattle.command_answers.specs.Causes.{causes_of};
@@ -20,7 +20,7 @@ use command_answers::{
     GivenFiles, OUT_OF_MEMORY, PlayedFile, Stop, print_stop, print_text, read_played_files,
     refuse_words,
 };
-use command_words::{MAX_FILES, MatchQuery, Request, WordsFault, read_words};
+use command_words::{MAX_BOTS, MAX_FILES, MatchQuery, Request, WordsFault, read_words};
 use drill_words::MAX_DRILL_BYTES;
 use game_io::{Disk, Gate, Net, Sink, Source};
 use local_command::local_text;
@@ -65,8 +65,9 @@ fn is_waiting(command: &str) -> bool
 ///
 /// - 0, the command is done, and exactly its text was written;
 /// - 2, the words are refused;
-/// - 3, a file that they name is missing, too long, or has a fault; or the server or the bytes of
-///   the link refused a player, whose text was written;
+/// - 3, a file that they name is missing, too long, or has a fault; or a script's clients and the
+///   bots beside them are more than `MAX_CLIENTS`; or the server or the bytes of the link refused a
+///   player, whose text was written;
 /// - 4, a read, the net or a player's link failed: a count of faults rose;
 /// - 5, a write failed: the sink's count of faults rose, and a prefix of the text was written;
 /// - 6, out of memory, and a prefix of the text was written.
@@ -121,15 +122,16 @@ fn run_request<
     console: &mut C,
     gate: &G,
 ) -> u8
-    requires few { HasFewFiles request.now }
-    requires clients { HasClients request.now }
+    requires bounds { IsWithinBounds request.now }
     requires links { (N.state net.old).given ≡ [] }
     ensures { RunsWaiting (waiting (plain_of request.now)) result
         (with_links (D.state disk.old) (K.state out.old) (N.state net.old) (C.state console.old))
         (with_links (D.state disk.new) (K.state out.new) (N.state net.new) (C.state console.new)) }
 {
     match request {
-        Request::Local(query) => run_local_match(rt, alloc, query, disk, out, gate),
+        Request::Local { query, bots } => {
+            run_local_match(rt, alloc, query, *bots, disk, out, gate)
+        }
         Request::Play { query, at } => run_play(alloc, query, at, disk, out, net),
         Request::Serve(query) => run_serve(rt, alloc, query, disk, out, net, console),
         Request::Drill { .. }
@@ -143,24 +145,27 @@ fn run_request<
         | Request::Continue { .. }
         | Request::View { .. }
         | Request::Worlds { .. }
-        | Request::Compare { .. } => refuse_words(out),
+        | Request::Compare { .. }
+        | Request::Datagrams { .. } => refuse_words(out),
     }
 }
 
 /// The command `local`: reads rule files, a map, if one is named, and a script, and plays the script
-/// on threads.
+/// and these bots on threads.
 fn run_local_match<D: Disk, K: Sink, G: Gate + Sync, R: Threads + Wait + Sync>(
     rt: &R,
     alloc: Global,
     query: &MatchQuery<'_>,
+    bots: u8,
     disk: &mut D,
     out: &mut K,
     gate: &G,
 ) -> u8
-    requires { length query.now.rules ≤ MAX_FILES }
+    requires rules { length query.now.rules ≤ MAX_FILES }
+    requires bots { bots ≤ MAX_BOTS }
     ensures { let old = environment (D.state disk.old) (K.state out.old) in
         let new = environment (D.state disk.new) (K.state out.new) in
-        RunsRequest (Local (plain_match query.now)) result (causes_of None old new) old new }
+        RunsRequest (Local (plain_match query.now) bots) result (causes_of None old new) old new }
 {
     let names = query.rules.as_slice();
     match read_played_files(
@@ -170,25 +175,31 @@ fn run_local_match<D: Disk, K: Sink, G: Gate + Sync, R: Threads + Wait + Sync>(
         query.map_file,
         PlayedFile::Script(query.file),
     ) {
-        Ok(given) => print_text(alloc, match_text(rt, alloc, query, &given, gate), out),
+        Ok(given) => {
+            let text = match_text(rt, alloc, query, bots, &given, gate);
+            print_text(alloc, text, out)
+        },
         Err(stop) => print_stop(alloc, stop, out),
     }
 }
 
-/// Plays the script on threads, over what the files hold, and makes the text of the command.
+/// Plays the script and these bots on threads, over what the files hold, and makes the text of the
+/// command.
 fn match_text<'a, G: Gate + Sync, R: Threads + Wait + Sync>(
     rt: &R,
     alloc: Global,
     query: &MatchQuery<'a>,
+    bots: u8,
     given: &(GivenFiles, Vec<u8>),
     gate: &G,
 ) -> Result<Vec<u8>, Stop<'a>>
+    requires bots { bots ≤ MAX_BOTS }
     requires rules { length given.now.0.rules.items ≤ MAX_FILES }
     requires script { length given.now.1.items ≤ MAX_DRILL_BYTES }
     ensures { ReturnsStep result (λ text. text.items)
-        (local_match_step (plain_match query.now) (script_contents given.now)) }
+        (local_match_step (plain_match query.now) bots (script_contents given.now)) }
 {
     let (files, script) = given;
     let maker = read_maker(alloc, query.rules.as_slice(), query.map_file, files)?;
-    local_text(rt, alloc, &maker, query.file, script, gate)
+    local_text(rt, alloc, &maker, query.file, script, bots, gate)
 }
