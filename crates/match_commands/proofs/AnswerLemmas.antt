@@ -42,7 +42,8 @@ use Rattle.save_commands.specs.Refusals.{of_match, read_save_step, with_frames}
 use Rattle.save_commands.specs.Saves.{resumed_rerun, save_bytes_at, saved_reply}
 use Rattle.tick_core.specs.Game.{GameState}
 use Rattle.match_commands.specs.Compared.{compared_step, first_step}
-use Rattle.match_commands.specs.Replayed.{migrated_step, replayed_step, standing_step}
+use Rattle.match_commands.specs.Replayed.{migrated_step, replayed_step}
+use Rattle.rule_commands.specs.Numbers.{numbered_setup_step}
 use Rattle.match_commands.specs.Saves.{continued_step, saved_step}
 use Rattle.match_commands.specs.Views.{viewed_step}
 use Rattle.match_commands.specs.Worlds.{worlds_over, PrintsWorlds}
@@ -157,13 +158,13 @@ migrate_fits setup to r = migrated_fits setup to r (difference_of (game_rerun se
 
 pub replayed_fits : (query : MatchPlain) (contents : Contents) → AllFit None (replayed_step query contents)
 replayed_fits query contents =
-    bind_fits None (standing_step query.rules query.map_file contents) _ (λ made.
+    bind_fits None (numbered_setup_step query.rules query.map_file contents) _ (λ made.
     bind_fits None (read_step query.file (read_of made.1 (unwrap_or contents.replay []))) _ (λ r.
     ok_fits None (replay_reply made.0 r) (replay_fits made.0 r)))
 
 pub all_migrated_fits : (query : MatchPlain) (to : List ℕ) (contents : Contents) → AllFit (Some to) (migrated_step query to contents)
 all_migrated_fits query to contents =
-    bind_fits (Some to) (standing_step query.rules query.map_file contents) _ (λ made.
+    bind_fits (Some to) (numbered_setup_step query.rules query.map_file contents) _ (λ made.
     bind_fits (Some to) (read_step query.file (read_of made.1 (unwrap_or contents.replay []))) _ (λ r.
     ok_fits (Some to) (migrate_reply made.0 to r) (migrate_fits made.0 to r)))
 
@@ -171,14 +172,14 @@ all_migrated_fits query to contents =
 
 pub saved_fits : (query : MatchPlain) (frames : ℕ) (to : List ℕ) (contents : Contents) → AllFit (Some to) (saved_step query frames to contents)
 saved_fits query frames to contents =
-    bind_fits (Some to) (standing_step query.rules query.map_file contents) _ (λ made.
+    bind_fits (Some to) (numbered_setup_step query.rules query.map_file contents) _ (λ made.
     bind_fits (Some to) (read_step query.file (read_of made.1 (unwrap_or contents.replay []))) _ (λ r.
     bind_fits (Some to) (with_frames query.file frames r) _ (λ long.
     ok_fits (Some to) (saved_reply to frames (save_bytes_at made.1 frames made.0 long)) (record { settled = done_settled; named = inr refl }))))
 
 pub continued_fits : (query : MatchPlain) (save : List ℕ) (contents : Contents) → AllFit None (continued_step query save contents)
 continued_fits query save contents =
-    bind_fits None (standing_step query.rules query.map_file contents) _ (λ made.
+    bind_fits None (numbered_setup_step query.rules query.map_file contents) _ (λ made.
     bind_fits None (read_save_step save (read_save_of made.1 made.0 (unwrap_or contents.first []))) _ (λ saved.
     bind_fits None (read_step query.file (read_of made.1 (unwrap_or contents.replay []))) _ (λ r.
     bind_fits None (of_match query.file saved r) _ (λ same.
@@ -199,7 +200,7 @@ compared_reply_fits differences =
 pub compared_fits : (query : MatchPlain) (second : List ℕ) (contents : Contents) → AllFit None (compared_step query second contents)
 compared_fits query second contents =
     bind_fits None (first_step query.file (unwrap_or contents.first [])) _ (λ first.
-    bind_fits None (standing_step query.rules query.map_file contents) _ (λ made.
+    bind_fits None (numbered_setup_step query.rules query.map_file contents) _ (λ made.
     both_kinds first (unwrap_or contents.replay []) made.1 made.0 (begins_save first)))
   where
     both_kinds : (bytes others : List ℕ) (rules : ℕ) (setup : Setup) (saves : Bool)
@@ -215,7 +216,7 @@ compared_fits query second contents =
 
 pub viewed_fits : (query : MatchPlain) (client : ℕ) (contents : Contents) → AllFit None (viewed_step query client contents)
 viewed_fits query client contents =
-    bind_fits None (standing_step query.rules query.map_file contents) _ (λ made.
+    bind_fits None (numbered_setup_step query.rules query.map_file contents) _ (λ made.
     bind_fits None (read_step query.file (read_of made.1 (unwrap_or contents.replay []))) _ (λ r.
     choice (nat_lt client r.clients) (view_text made.0 r client)))
   where

@@ -17,7 +17,7 @@ use Rattle.drill.specs.MadeDrill.{made_drill_of}
 use Rattle.rule_commands.specs.SampleSetup.{sample_setup}
 use Rattle.match_commands.specs.Made.{make_step, made_text}
 use Rattle.match_commands.proofs.SampleLemmas.{make_is}
-use Rattle.match_commands.specs.Replayed.{standing_step}
+use Rattle.rule_commands.specs.Numbers.{numbered_setup_step}
 use Rattle.game_model.specs.Setup.{Setup}
 use Rattle.replay_file.specs.declared.replay.Replay as file
 use Rattle.replay_file.specs.Reading.{read_of}
@@ -117,32 +117,32 @@ given_done (Local query bots) contents ok = text_done (local_match_step query bo
 given_done (Serve query) contents ok = refl
 given_done (Play query at) contents ok = refl
 given_done (Replay query) contents ok =
-    replayed_done (standing_step query.rules query.map_file contents) _ IsReplayDone
+    replayed_done (numbered_setup_step query.rules query.map_file contents) _ IsReplayDone
     (λ made. replayed_done (read_step query.file (read_of made.1 (unwrap_or contents.replay []))) _ IsReplayDone
     (λ r ok. mark_done (difference_of (game_rerun made.0 r) r))) ok
 given_done (Migrate query to) contents ok =
-    replayed_done (standing_step query.rules query.map_file contents) _ IsReplayDone
+    replayed_done (numbered_setup_step query.rules query.map_file contents) _ IsReplayDone
     (λ made. replayed_done (read_step query.file (read_of made.1 (unwrap_or contents.replay []))) _ IsReplayDone
     (λ r ok. migrate_done made.0 to r (difference_of (game_rerun made.0 r) r))) ok
 given_done (Save query frames to) contents ok =
-    replayed_done (standing_step query.rules query.map_file contents) _ (λ status. status ≡ DONE)
+    replayed_done (numbered_setup_step query.rules query.map_file contents) _ (λ status. status ≡ DONE)
     (λ made. replayed_done (read_step query.file (read_of made.1 (unwrap_or contents.replay []))) _ (λ status. status ≡ DONE)
     (λ r. replayed_done (with_frames query.file frames r) _ (λ status. status ≡ DONE) (λ long ok. refl))) ok
 given_done (Continue query save) contents ok =
-    replayed_done (standing_step query.rules query.map_file contents) _ IsReplayDone
+    replayed_done (numbered_setup_step query.rules query.map_file contents) _ IsReplayDone
     (λ made. replayed_done (read_save_step save (read_save_of made.1 made.0 (unwrap_or contents.first []))) _ IsReplayDone
     (λ saved. replayed_done (read_step query.file (read_of made.1 (unwrap_or contents.replay []))) _ IsReplayDone
     (λ r. replayed_done (of_match query.file saved r) _ IsReplayDone
     (λ same. replayed_done (with_frames query.file saved.frames same) _ IsReplayDone
     (λ long ok. mark_done (replayed_from (resumed_rerun made.0 saved) saved.frames long).difference))))) ok
 given_done (View query client) contents ok =
-    replayed_done (standing_step query.rules query.map_file contents) _ (λ status. status ≡ DONE)
+    replayed_done (numbered_setup_step query.rules query.map_file contents) _ (λ status. status ≡ DONE)
     (λ made. replayed_done (read_step query.file (read_of made.1 (unwrap_or contents.replay []))) _ (λ status. status ≡ DONE)
     (λ r ok. client_done made.0 r client (nat_lt client r.clients) ok)) ok
 given_done (Worlds query range) contents ok = text_done (told_worlds query range contents) ok
 given_done (Compare query second) contents ok =
     replayed_done (first_step query.file (unwrap_or contents.first [])) _ IsReplayDone
-    (λ first. replayed_done (standing_step query.rules query.map_file contents) _ IsReplayDone
+    (λ first. replayed_done (numbered_setup_step query.rules query.map_file contents) _ IsReplayDone
     (λ made. compare_done query.file second made.1 made.0 (unwrap_or contents.replay []) first)) ok
 
 read_done :

@@ -7,7 +7,7 @@ use Rattle.command_answers.specs.Reply.{Reply, refusal}
 use Rattle.command_answers.specs.Step.{Step}
 use Rattle.command_answers.specs.WantedFiles.{is_too_long}
 use Rattle.compare_command.specs.Comparing.{compare_step}
-use Rattle.match_commands.specs.Replayed.{standing_step}
+use Rattle.rule_commands.specs.Numbers.{numbered_setup_step}
 
 -- The bytes of the first file, which has this name, if they are not too many for what they begin.
 abbrev pub first_step : (name first : List ℕ) → Step (List ℕ)
@@ -19,7 +19,7 @@ first_step name first =
 abbrev pub compared_over :
     MatchPlain → (second : List ℕ) → Contents → (first : List ℕ) → Step Reply
 compared_over query second contents first = do
-  made ← standing_step query.rules query.map_file contents
+  made ← numbered_setup_step query.rules query.map_file contents
   compare_step query.file second made.1 made.0 first (unwrap_or contents.replay [])
 
 -- The reply to `compare`, or the first fault: that the first file is too long, where the second was

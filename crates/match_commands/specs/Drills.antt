@@ -18,10 +18,10 @@ use Rattle.command_answers.specs.Step.{Step}
 use Rattle.command_answers.specs.Stop.{PrintsStop}
 use Rattle.command_answers.specs.Contents.{Contents}
 use Rattle.command_answers.specs.Writing.{AnswersReply}
+use Rattle.rule_commands.specs.Numbers.{numbered_setup_step}
 use Rattle.rule_commands.specs.Setups.{setup_step}
 use Rattle.replay_commands.specs.Matches.{game_match}
 use Rattle.replay_commands.specs.Records.{drill_record}
-use Rattle.match_commands.specs.Numbers.{number_step}
 
 -- The report of a drill over rules and a map.
 unfoldable pub drill_report : Setup → DrillPlain → List ℕ
@@ -56,9 +56,9 @@ prepared_step query contents = do
 -- The same with the rules number of the match.
 abbrev pub numbered_step : MatchPlain → Contents → Step (Setup × DrillPlain × ℕ)
 numbered_step query contents = do
-  made ← prepared_step query contents
-  number ← number_step query.rules contents.rules query.map_file contents.map_file
-  Ok (made.0, made.1, number)
+  made ← numbered_setup_step query.rules query.map_file contents
+  drill ← script_step query.file (unwrap_or contents.script [])
+  Ok (made.0, drill, made.1)
 
 -- The reply to `drill`, which is recorded where a file is named for that, or the first fault.
 abbrev pub drill_step : MatchPlain → (record_file : Option (List ℕ)) → Contents → Step Reply

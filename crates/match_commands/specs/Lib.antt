@@ -1,4 +1,3 @@
-pub mod Numbers
 pub mod Drills
 pub mod Made
 pub mod Locals

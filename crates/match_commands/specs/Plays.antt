@@ -17,7 +17,7 @@ use Rattle.command_answers.specs.WantedFiles.{rules_and_map, with_script}
 use Rattle.link_commands.specs.Links.{WithLinks, RunsLinked, causes_by}
 use Rattle.link_commands.specs.Plays.{PlaysBy, LinkFailed, IsPlayDone}
 use Rattle.link_commands.specs.SoloScript.{solo_step}
-use Rattle.match_commands.specs.Replayed.{standing_step}
+use Rattle.rule_commands.specs.Numbers.{numbered_setup_step}
 
 -- What a player plays by: the rules and the map, their number, and its script.
 pub record PlayMeans : Type 0 where
@@ -34,7 +34,7 @@ terms_of means =
 -- these before those of the script.
 abbrev pub play_step : MatchPlain → Contents → Step PlayMeans
 play_step query contents = do
-  made ← standing_step query.rules query.map_file contents
+  made ← numbered_setup_step query.rules query.map_file contents
   script ← solo_step query.file (unwrap_or contents.script [])
   Ok (record { setup = made.0; number = made.1; script = script })
 

@@ -12,13 +12,13 @@ use Rattle.command_answers.specs.Reply.{Reply, refusal}
 use Rattle.command_answers.specs.Step.{Step}
 use Rattle.replay_commands.specs.Refusals.{read_step}
 use Rattle.save_commands.specs.Refusals.{read_save_step}
-use Rattle.match_commands.specs.Replayed.{standing_step}
+use Rattle.rule_commands.specs.Numbers.{numbered_setup_step}
 
 -- The files of a command on a replay are accepted: they are what the match stands on and this
 -- replay of it.
 pub record Accepts (query : MatchPlain) (contents : Contents) (made : Setup × ℕ) (r : Replay)
     : Type 0 where
-  pub stands : standing_step query.rules query.map_file contents ≡ Ok made
+  pub stands : numbered_setup_step query.rules query.map_file contents ≡ Ok made
   pub reads : read_step query.file (read_of made.1 (unwrap_or contents.replay [])) ≡ Ok r
 
 -- So is the save of this name, which is read before the replay.

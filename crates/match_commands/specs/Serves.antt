@@ -12,7 +12,7 @@ use Rattle.command_answers.specs.Stop.{PrintsStop}
 use Rattle.command_answers.specs.WantedFiles.{rules_and_map}
 use Rattle.link_commands.specs.Links.{WithLinks, RunsLinked, IsApart, causes_by}
 use Rattle.serve_command.specs.Serves.{ServesBy, NetFailed, IsServeDone}
-use Rattle.match_commands.specs.Replayed.{standing_step}
+use Rattle.rule_commands.specs.Numbers.{numbered_setup_step}
 
 -- The match: its worlds begin as the opening game. They ask no lag.
 abbrev pub served_match : ServePlain → Setup → Match GameState
@@ -39,7 +39,7 @@ invite_of query number =
 
 -- What the files hold, or the first fault: those of the rules come before those of the map.
 abbrev pub serve_step : ServePlain → Contents → Step (Setup × ℕ)
-serve_step query contents = standing_step query.rules query.map_file contents
+serve_step query contents = numbered_setup_step query.rules query.map_file contents
 
 -- The match was served over that.
 abbrev pub ServesOver : ServePlain → ℕ → (old new : WithLinks) → Setup × ℕ → Type 0

@@ -11,7 +11,7 @@ use Rattle.command_answers.specs.Reply.{done}
 use Rattle.command_answers.specs.Step.{Step, ended}
 use Rattle.command_answers.specs.Stop.{PrintsStop}
 use Rattle.worlds_command.specs.Worlds.{worlds_step}
-use Rattle.match_commands.specs.Replayed.{standing_step}
+use Rattle.rule_commands.specs.Numbers.{numbered_setup_step}
 
 -- The worlds of the replay with these bytes, over what it stands on, or the first fault.
 abbrev pub worlds_over : MatchPlain → RangePlain → (bytes : List ℕ) → Setup × ℕ → Step (List ℕ)
@@ -22,7 +22,7 @@ worlds_over query range bytes made =
 -- replay.
 abbrev pub told_worlds : MatchPlain → RangePlain → Contents → Step (List ℕ)
 told_worlds query range contents = do
-  made ← standing_step query.rules query.map_file contents
+  made ← numbered_setup_step query.rules query.map_file contents
   worlds_over query range (unwrap_or contents.replay []) made
 
 -- What is printed and answered for what a replay stands on in code, or for the stop before it.

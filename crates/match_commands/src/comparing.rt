@@ -9,13 +9,13 @@ ghost use Rattle.command_answers.specs.Stop.{ReturnsStep};
 ghost use Rattle.match_commands.specs.Compared.{compared_over, compared_step, first_step};
 ghost use Rattle.match_commands.specs.Run.{RunsRequest};
 
-use crate::standing::read_standing;
 use command_answers::{
     Answer, ComparedFiles, Stop, is_too_long, print_answer, print_stop, read_compared_files,
 };
 use command_words::{MAX_FILES, MatchQuery};
 use compare_command::compare_answer;
 use game_io::{Disk, Sink};
+use rule_commands::read_numbered_maker;
 use std::alloc::Global;
 
 /// Refuses the first of two files that are compared, if it has too many bytes.
@@ -47,7 +47,7 @@ fn answer_over<'a>(
         given.now.first.items) }
 {
     let names = query.rules.as_slice();
-    let (maker, number) = read_standing(alloc, names, query.map_file, &given.files)?;
+    let (maker, number) = read_numbered_maker(alloc, names, query.map_file, &given.files)?;
     compare_answer(
         alloc,
         query.file,

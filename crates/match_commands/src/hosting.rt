@@ -5,11 +5,11 @@ ghost use Rattle.game_io.specs.DiskState.{DiskState};
 ghost use Rattle.link_commands.specs.Links.{with_links};
 ghost use Rattle.match_commands.specs.Serves.{RunsServe, ServesFrom};
 
-use crate::standing::read_standing;
 use command_answers::{Stop, print_stop, read_files};
 use command_words::{MAX_FILES, ServeQuery};
 use game_io::{Disk, Net, Sink, Source};
 use match_net::Invite;
+use rule_commands::read_numbered_maker;
 use serve_command::serve_over;
 use std::alloc::Global;
 use std::sync::Wait;
@@ -36,7 +36,7 @@ pub(crate) fn run_serve<D: Disk, K: Sink, N: Net, C: Source + Send, R: Threads +
     let names = query.rules.as_slice();
     match read_files(alloc, disk, names, query.map_file) {
         Ok(given) => {
-            let made = read_standing(alloc, names, query.map_file, &given);
+            let made = read_numbered_maker(alloc, names, query.map_file, &given);
             serve_made(rt, alloc, query, made, out, net, console)
         }
         Err(stop) => print_stop(alloc, stop, out),

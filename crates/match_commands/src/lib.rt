@@ -14,14 +14,12 @@ mod datagrams;
 mod hosting;
 mod linking;
 mod making;
-mod numbers;
 mod preparing;
 mod recording;
 mod refusing;
 mod replaying;
 mod reporting;
 mod saving;
-mod standing;
 mod viewing;
 mod waiting;
 

@@ -7,13 +7,13 @@ ghost use Rattle.game_io.specs.SourceState.{SourceState};
 ghost use Rattle.link_commands.specs.Links.{with_links};
 ghost use Rattle.match_commands.specs.Plays.{PlaysFrom, RunsPlay, play_means, play_step};
 
-use crate::standing::read_standing;
 use command_answers::{GivenFiles, PlayedFile, Stop, print_stop, read_played_files};
 use command_words::{MAX_FILES, MatchQuery};
 use drill_words::MAX_DRILL_BYTES;
 use game_io::{Disk, Net, Sink};
 use game_orders::Orders;
 use link_commands::{play_over, read_solo};
+use rule_commands::read_numbered_maker;
 use std::alloc::Global;
 use tick_core::GameMaker;
 
@@ -58,7 +58,12 @@ fn prepare_play<'a>(
         (play_step (plain_match query.now) (script_contents given.now)) }
 {
     let (files, bytes) = given;
-    let (maker, number) = read_standing(alloc, query.rules.as_slice(), query.map_file, files)?;
+    let (maker, number) = read_numbered_maker(
+        alloc,
+        query.rules.as_slice(),
+        query.map_file,
+        files,
+    )?;
     let script = read_solo(alloc, query.file, bytes)?;
     Ok((maker, number, script))
 }

@@ -5,11 +5,10 @@ ghost use Rattle.command_answers.specs.Given.{script_contents};
 ghost use Rattle.command_answers.specs.Stop.{ReturnsStep};
 ghost use Rattle.match_commands.specs.Drills.{numbered_step, prepared_step, script_step};
 
-use crate::numbers::read_number;
 use command_answers::{GivenFiles, Stop, drill_stop};
 use command_words::{MAX_FILES, MatchQuery};
 use drill_words::{Drill, MAX_DRILL_BYTES, read_drill};
-use rule_commands::read_maker;
+use rule_commands::{read_maker, read_numbered_maker};
 use std::alloc::Global;
 use tick_core::GameMaker;
 
@@ -52,7 +51,9 @@ pub(crate) fn prepare_recorded<'a>(
     ensures { ReturnsStep result (λ made. (made.0, plain_of made.1, made.2))
         (numbered_step (plain_match query.now) (script_contents given.now)) }
 {
-    let (maker, drill) = prepare_drill(alloc, query, given)?;
-    let number = read_number(alloc, query.rules.as_slice(), query.map_file, &given.0)?;
+    let (files, script) = given;
+    let names = query.rules.as_slice();
+    let (maker, number) = read_numbered_maker(alloc, names, query.map_file, files)?;
+    let drill = read_script(alloc, query.file, script)?;
     Ok((maker, drill, number))
 }

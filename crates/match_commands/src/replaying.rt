@@ -9,13 +9,13 @@ ghost use Rattle.command_answers.specs.Stop.{ReturnsStep};
 ghost use Rattle.match_commands.specs.Replayed.{migrated_step, replayed_step};
 ghost use Rattle.match_commands.specs.Run.{RunsRequest};
 
-use crate::standing::read_standing;
 use command_answers::{
     Answer, GivenFiles, PlayedFile, Stop, print_answer, print_stop, read_played_files,
 };
 use command_words::{MAX_FILES, MatchQuery};
 use game_io::{Disk, Sink};
 use replay_commands::{migrate_answer, replay_answer};
+use rule_commands::read_numbered_maker;
 use std::alloc::Global;
 
 /// The answer to `replay`.
@@ -29,7 +29,12 @@ fn answer_replay<'a>(
         (replayed_step (plain_match query.now) (replay_contents given.now)) }
 {
     let (files, bytes) = given;
-    let (maker, number) = read_standing(alloc, query.rules.as_slice(), query.map_file, files)?;
+    let (maker, number) = read_numbered_maker(
+        alloc,
+        query.rules.as_slice(),
+        query.map_file,
+        files,
+    )?;
     replay_answer(alloc, query.file, number, &maker, bytes)
 }
 
@@ -45,7 +50,12 @@ fn answer_migrate<'a>(
         (migrated_step (plain_match query.now) to.now (replay_contents given.now)) }
 {
     let (files, bytes) = given;
-    let (maker, number) = read_standing(alloc, query.rules.as_slice(), query.map_file, files)?;
+    let (maker, number) = read_numbered_maker(
+        alloc,
+        query.rules.as_slice(),
+        query.map_file,
+        files,
+    )?;
     migrate_answer(alloc, query.file, to, number, &maker, bytes)
 }
 

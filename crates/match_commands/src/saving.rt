@@ -9,13 +9,13 @@ ghost use Rattle.command_answers.specs.Stop.{ReturnsStep};
 ghost use Rattle.match_commands.specs.Run.{RunsRequest};
 ghost use Rattle.match_commands.specs.Saves.{continued_step, saved_step};
 
-use crate::standing::read_standing;
 use command_answers::{
     Answer, GivenFiles, PairedFiles, PlayedFile, Stop, print_answer, print_stop, read_paired_files,
     read_played_files,
 };
 use command_words::{MAX_FILES, MatchQuery};
 use game_io::{Disk, Sink};
+use rule_commands::read_numbered_maker;
 use save_commands::{continue_answer, save_answer};
 use std::alloc::Global;
 
@@ -32,7 +32,12 @@ fn answer_save<'a>(
         (saved_step (plain_match query.now) frames to.now (replay_contents given.now)) }
 {
     let (files, bytes) = given;
-    let (maker, number) = read_standing(alloc, query.rules.as_slice(), query.map_file, files)?;
+    let (maker, number) = read_numbered_maker(
+        alloc,
+        query.rules.as_slice(),
+        query.map_file,
+        files,
+    )?;
     save_answer(alloc, query.file, frames, to, number, &maker, bytes)
 }
 
@@ -48,7 +53,7 @@ fn answer_continue<'a>(
         (continued_step (plain_match query.now) save.now (paired_contents given.now)) }
 {
     let names = query.rules.as_slice();
-    let (maker, number) = read_standing(alloc, names, query.map_file, &given.files)?;
+    let (maker, number) = read_numbered_maker(alloc, names, query.map_file, &given.files)?;
     continue_answer(
         alloc,
         save,

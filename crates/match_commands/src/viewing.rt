@@ -10,12 +10,12 @@ ghost use Rattle.match_commands.specs.Run.{RunsRequest};
 ghost use Rattle.match_commands.specs.Views.{viewed_step};
 ghost use Rattle.match_commands.specs.Worlds.{PrintsWorlds};
 
-use crate::standing::read_standing;
 use command_answers::{
     Answer, GivenFiles, PlayedFile, Stop, print_answer, print_stop, read_played_files,
 };
 use command_words::{MAX_FILES, MatchQuery, WorldRange};
 use game_io::{Disk, Sink};
+use rule_commands::read_numbered_maker;
 use std::alloc::Global;
 use tick_core::GameMaker;
 use view_command::view_answer;
@@ -33,7 +33,12 @@ fn answer_view<'a>(
         (viewed_step (plain_match query.now) client (replay_contents given.now)) }
 {
     let (files, bytes) = given;
-    let (maker, number) = read_standing(alloc, query.rules.as_slice(), query.map_file, files)?;
+    let (maker, number) = read_numbered_maker(
+        alloc,
+        query.rules.as_slice(),
+        query.map_file,
+        files,
+    )?;
     view_answer(alloc, query.file, client, number, &maker, bytes)
 }
 
@@ -119,7 +124,7 @@ pub(crate) fn run_worlds_query<D: Disk, K: Sink>(
         PlayedFile::Replay(query.file),
     ) {
         Ok(given) => {
-            let made = read_standing(alloc, names, query.map_file, &given.0);
+            let made = read_numbered_maker(alloc, names, query.map_file, &given.0);
             print_range(alloc, query, range, &given, made, out)
         }
         Err(stop) => print_stop(alloc, stop, out),

@@ -2,4 +2,3 @@ pub mod Matches
 pub mod Records
 pub mod Refusals
 pub mod Replays
-pub mod RulesNumber

@@ -3,20 +3,17 @@
 //! [`replay_answer`] runs a replay's file, and [`migrate_answer`] writes it anew. Each is a step of
 //! a command: it has the answer, or stops with the first fault of the file, with which
 //! [`read_replay_file`] refuses it. The replies are in `specs/Replays.antt`. [`record_bytes`] makes
-//! the file of a drill that was run (`specs/Records.antt`). [`rules_number`] is the number by which
-//! a replay knows its rules and its map. [`MarkedGame`] is the game with the hash that the marks of
-//! old replays have.
+//! the file of a drill that was run (`specs/Records.antt`). [`MarkedGame`] is the game with the hash
+//! that the marks of old replays have.
 #![tactic(auto)]
 
 mod marked_game;
-mod number;
 mod reading;
 mod records;
 mod refusal;
 mod replays;
 
 pub use marked_game::MarkedGame;
-pub use number::rules_number;
 pub use reading::read_replay_file;
 pub use records::record_bytes;
 pub use replays::{migrate_answer, replay_answer, replayed_answer};

@@ -5,4 +5,5 @@ pub mod Routes
 pub mod FoundRoute
 pub mod Refusals
 pub mod Setups
+pub mod Numbers
 pub mod SampleSetup

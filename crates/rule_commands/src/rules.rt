@@ -2,8 +2,12 @@ ghost use Rattle.std.specs.Prelude.{◌≤◌, ◌∷◌, [], map, length, IfOk}
 ghost use Rattle.game_model.specs.ValidMap.{IsMapFor};
 ghost use Rattle.rule_traits.specs.ValidRules.{AreValidRules};
 ghost use Rattle.yaml_lines.specs.Trees.{trees_of};
-ghost use Rattle.rule_commands.specs.Maps.{map_step, typed_rules};
-ghost use Rattle.rule_commands.specs.RuleFiles.{parsed_files, resolved_rules, yaml_step};
+ghost use Rattle.map_grid.specs.MapOf.{map_of};
+ghost use Rattle.rule_traits.specs.Typed.{typed};
+ghost use Rattle.yaml_merge.specs.Resolving.{resolved_files};
+ghost use Rattle.rule_commands.specs.Maps.{made_step, map_step, typed_rules, typed_step};
+ghost use Rattle.rule_commands.specs.RuleFiles.{merge_step, parsed_files, resolved_rules};
+ghost use Rattle.rule_commands.specs.RuleFiles.{yaml_step};
 ghost use Rattle.command_answers.specs.Stop.{ReturnsStep};
 
 use crate::refusals::{line_stop, map_stop, merge_stop, rule_stop};
@@ -39,6 +43,21 @@ fn parse_files<'a>(
     Ok(forests)
 }
 
+/// The parsed files as one resolved forest.
+fn resolve_forests<'a>(
+    alloc: Global,
+    names: &[&'a str],
+    forests: &[Forest],
+) -> Result<Forest, Stop<'a>>
+    ensures { ReturnsStep result trees_of (merge_step (map (λ name. name.now) names.now)
+        (resolved_files (map trees_of forests.now))) }
+{
+    match resolve(alloc, forests) {
+        Ok(forest) => Ok(forest),
+        Err(fault) => Err(merge_stop(names, &fault)),
+    }
+}
+
 /// The files as one resolved forest.
 #[tactic(auto, unfolding(crate::specs::RuleFiles::resolved_rules))]
 pub fn resolve_rules<'a>(
@@ -51,10 +70,7 @@ pub fn resolve_rules<'a>(
         (map (λ name. name.now) names.now) (map (λ bytes. bytes.items) contents.now)) }
 {
     let forests = parse_files(alloc, names, contents)?;
-    match resolve(alloc, forests.as_slice()) {
-        Ok(forest) => Ok(forest),
-        Err(fault) => Err(merge_stop(names, &fault)),
-    }
+    resolve_forests(alloc, names, forests.as_slice())
 }
 
 /// The resolved forest as text.
@@ -71,6 +87,22 @@ pub fn yaml_text<'a>(
     Ok(print(alloc, &forest)?)
 }
 
+/// The kinds of a resolved forest, and what was passed over in it.
+pub(crate) fn type_forest<'a>(
+    alloc: Global,
+    names: &[&'a str],
+    forest: &Forest,
+) -> Result<(Rules, SkippedList), Stop<'a>>
+    ensures made { ReturnsStep result (λ made. made)
+        (typed_step (map (λ name. name.now) names.now) (typed (trees_of forest.now))) }
+    ensures valid { IfOk result (λ made. AreValidRules made.0) }
+{
+    match type_rules(alloc, forest) {
+        Ok(made) => Ok(made),
+        Err(fault) => Err(rule_stop(names, &fault)),
+    }
+}
+
 /// The kinds of rule files, and what was passed over in them.
 #[tactic(auto, unfolding(crate::specs::Maps::typed_rules))]
 pub fn read_typed<'a>(
@@ -84,9 +116,34 @@ pub fn read_typed<'a>(
     ensures valid { IfOk result (λ made. AreValidRules made.0) }
 {
     let forest = resolve_rules(alloc, names, contents)?;
-    match type_rules(alloc, &forest) {
+    type_forest(alloc, names, &forest)
+}
+
+/// The resolved forest of a map's file, which is read alone.
+#[tactic(auto, unfolding(crate::specs::RuleFiles::resolved_rules))]
+pub(crate) fn map_forest<'a>(alloc: Global, name: &'a str, bytes: &[u8]) -> Result<Forest, Stop<'a>>
+    ensures { ReturnsStep result trees_of (resolved_rules (name.now ∷ []) (bytes.now ∷ [])) }
+{
+    match parse(alloc, 0, bytes) {
+        Ok(forest) => resolve_forests(alloc, &[name], &[forest]),
+        Err(fault) => Err(line_stop(&[name], &fault)),
+    }
+}
+
+/// The map of a resolved forest, for these rules. Its file has this name.
+pub(crate) fn map_of_forest<'a>(
+    alloc: Global,
+    rules: &Rules,
+    name: &'a str,
+    forest: &Forest,
+) -> Result<Map, Stop<'a>>
+    ensures made { ReturnsStep result (λ made. made)
+        (made_step name.now (map_of rules.now (trees_of forest.now))) }
+    ensures valid { IfOk result (IsMapFor rules.now) }
+{
+    match read_map(alloc, forest, rules) {
         Ok(made) => Ok(made),
-        Err(fault) => Err(rule_stop(names, &fault)),
+        Err(fault) => Err(map_stop(name, &fault)),
     }
 }
 
@@ -102,17 +159,5 @@ pub fn read_map_bytes<'a>(
     ensures valid { IfOk result (IsMapFor rules.now) }
 {
     let forest = map_forest(alloc, name, bytes)?;
-    match read_map(alloc, &forest, rules) {
-        Ok(made) => Ok(made),
-        Err(fault) => Err(map_stop(name, &fault)),
-    }
-}
-
-/// The forest of a map's file, which is read alone.
-fn map_forest<'a>(alloc: Global, name: &'a str, bytes: &[u8]) -> Result<Forest, Stop<'a>>
-    ensures { ReturnsStep result trees_of (resolved_rules (name.now ∷ []) (bytes.now ∷ [])) }
-{
-    let mut contents = Vec::new(alloc);
-    contents.push(bytes.to_vec(alloc)?)?;
-    resolve_rules(alloc, &[name], contents.as_slice())
+    map_of_forest(alloc, rules, name, &forest)
 }

@@ -18,13 +18,13 @@ returns-in-Ok g c =
     let d' = g.D.Disk.state c.read_files.new.disk in
     let old = with_links d (g.K.Sink.state c.args.out.now) (g.N.Net.state c.args.net.now) (g.C.Source.state c.args.console.now) in
     let new = with_links d' (g.K.Sink.state c.serve_made.new.out) (g.N.Net.state c.serve_made.new.net) (g.C.Source.state c.serve_made.new.console) in
-    let returns = rw c.as_slice-names.ensures at c.read_standing-made.ensures in
+    let returns = rw c.as_slice-names.ensures at c.read_numbered_maker-made.ensures in
     linked_given (rules_and_map query.rules query.map_file) (rules_and_map (map (λ name. name.now) c.as_slice-names.result.now) query.map_file)
     (serve_step query) (ServesOver query c.serve_made.result old new) IsServeDone contents c.serve_made.result _ old new
     (ap (λ names. rules_and_map names query.map_file) (sym c.as_slice-names.ensures))
     c.in-Ok.ensures.files c.in-Ok.ensures.later c.serve_made.ensures.later c.in-Ok.ensures.told c.in-Ok.ensures.untold
-    (serve_begins query c.read_standing-made.result (serve_step query contents) c.serve_made.result old new returns (c.serve_made.ensures.serves d d'))
-    (serve_caused query c.read_standing-made.result (serve_step query contents) c.serve_made.result old new returns (c.serve_made.ensures.serves d d'))
+    (serve_begins query c.read_numbered_maker-made.result (serve_step query contents) c.serve_made.result old new returns (c.serve_made.ensures.serves d d'))
+    (serve_caused query c.read_numbered_maker-made.result (serve_step query contents) c.serve_made.result old new returns (c.serve_made.ensures.serves d d'))
 
 -- One of them was not.
 pub returns-in-Err : goal.returns-in-Err
