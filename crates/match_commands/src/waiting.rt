@@ -190,5 +190,5 @@ fn match_text<'a, G: Gate + Sync, R: Threads + Wait + Sync>(
 {
     let (files, script) = given;
     let maker = read_maker(alloc, query.rules.as_slice(), query.map_file, files)?;
-    local_text(rt, alloc, &maker, query.file, script, gate)
+    local_text(rt, alloc, &maker, query.file, script, 0, gate)
 }
