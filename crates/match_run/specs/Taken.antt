@@ -31,9 +31,6 @@ pub record AreTaken (scripts : List (List (List Order))) (taken : List Taken) (n
       IsTaken (plays_of scripts c) (slice_index_or taken c d)
   pub from : (c : ℕ) (d : Taken) → c < length scripts → (slice_index_or taken c d).from ≤ n
 
--- It has frame n: the entry of each client, and a play of one.
-pub record HasFrame (taken : List Taken) (n : ℕ) : Type 0 where
-  pub each : (c : ℕ) (d : Taken) → c < length taken → HasEntry (slice_index_or taken c d) n
-  pub played : (c : ℕ) × (c < length taken)
-      × ((d : Taken) →
-      n - (slice_index_or taken c d).from < length (slice_index_or taken c d).plays)
+-- It has frame n: the entry of each client.
+abbrev pub HasFrame : List Taken → ℕ → Type 0
+HasFrame taken n = (c : ℕ) (d : Taken) → c < length taken → HasEntry (slice_index_or taken c d) n

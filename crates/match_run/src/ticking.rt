@@ -1,21 +1,28 @@
 //! The thread that ticks.
-ghost use Rattle.std.specs.Prelude.{◌≡◌, ◌+◌, ◌<◌, ◌≤◌, ℕ, length, IfOk, OnOk};
+ghost use Rattle.std.specs.Prelude.{◌≡◌, ◌+◌, ◌<◌, ◌≤◌, ◌++◌, [], ℕ, List, length, IfOk, OnOk};
 ghost use Rattle.std.specs.Bool.{OnTrue};
-ghost use Rattle.game_orders.specs.declared.limits.TheConstants.{MAX_FRAMES};
+ghost use Rattle.game_orders.specs.declared.limits.TheConstants.{MAX_CLIENTS, MAX_FRAMES};
+ghost use Rattle.game_orders.specs.declared.order.Order.{Order};
+ghost use Rattle.frame_core.specs.Column.{Column};
 ghost use Rattle.frame_core.specs.Ready.{frame_at};
 ghost use Rattle.drill_words.specs.Scripts.{plays_of};
 ghost use Rattle.frame_table.specs.Part.{OthersStay};
-ghost use Rattle.frame_table.specs.Calls.{view_of, standing, HasSeen};
+ghost use Rattle.frame_table.specs.Calls.{plan_of, view_of, standing, HasSeen};
+ghost use Rattle.match_run.specs.Bots.{bot_column};
+ghost use Rattle.match_run.specs.Feeding.{HasFedAll, HasEndedAll};
 ghost use Rattle.match_run.specs.Local.{IsAll, script_column, script_columns, frames_of};
 ghost use Rattle.match_run.specs.Passes.{IsLocalPass, KnowsAllSeen, IsStepped};
 ghost use Rattle.match_run.specs.Taken.{IsTaken, AreTaken, HasFrame};
 
+use crate::bots::Bots;
+use crate::feeding::{leave_all, put_plays};
+use crate::frames::frames_of;
 use crate::taken::Taken;
 use base::NoMemory;
 use drill_words::Scripts;
 use frame_core::{Ready, Sim};
 use frame_table::{FrameTable, Pass};
-use game_orders::Frame;
+use game_orders::{Entry, Frame};
 use std::alloc::{AllocError, Global};
 use std::sync::Wait;
 use std::sync::atomic::{AtomicBool, Ordering};
@@ -24,45 +31,129 @@ use std::thread;
 /// The most plays that are taken of a column at a time.
 const MOST_AT_ONCE: u32 = 256;
 
-/// Ticks each frame that is ready, until the match is over. Out of memory is its one error: a
-/// client's thread has raised the flag, or there is no room for what is taken.
-pub(crate) fn tick_all<S: Sim, R: Wait>(
+/// Ticks each frame until the match is over. For each frame it puts the plays of the bots before it
+/// asks whether the frame is ready; after the last it lets them leave. Out of memory is its one
+/// error: a client's thread has raised the flag, a bot is out of memory, or there is no room for what
+/// is taken.
+pub(crate) fn tick_all<S: Sim, B: Bots<S>, R: Wait>(
     rt: &R,
     alloc: Global,
     table: &FrameTable,
     scripts: &Scripts,
+    bots: &B,
+    count: u8,
     out_of_memory: &AtomicBool,
     pass: &mut Pass,
     sim: &mut S,
 ) -> Result<(), NoMemory>
     requires pass { IsLocalPass scripts.now table.now pass.old }
     requires knows { KnowsAllSeen scripts.now pass.old }
-    requires clients { S.clients_of sim.old ≡ length scripts.now }
+    requires table { length (plan_of table.now) ≡ length scripts.now + count }
+    requires fed { HasFedAll (length scripts.now) table.now (λ c. []) pass.old }
+    requires clients { S.clients_of sim.old ≡ length scripts.now + count }
     requires fresh { S.steps sim.old ≡ 0 }
     ensures pass { IsLocalPass scripts.now table.now pass.new }
     ensures share { (view_of pass.new).share ≡ (view_of pass.old).share }
     ensures all { OnOk result ((c : ℕ) → c < length scripts.now →
         IsAll (standing pass.new c) (script_column (plays_of scripts.now c))) }
-    ensures world { OnOk result (IsStepped S.after S.clients_of S.steps scripts.now sim.old sim.new
-        (frames_of scripts.now)) }
+    ensures bots { OnOk result (HasEndedAll (length scripts.now) table.now
+        (bot_column (record { after = S.after; orders = B.orders_of bots.now; start = sim.old;
+        scripts = scripts.now; bots = count })) pass.new) }
+    ensures world { OnOk result (IsStepped (record { after = S.after;
+        orders = B.orders_of bots.now; start = sim.old; scripts = scripts.now; bots = count })
+        S.clients_of S.steps sim.new (frames_of scripts.now)) }
 {
     let mut taken = nothing_taken(alloc, scripts)?;
+    let mut ordered = Frame::empty();
     let mut frame = Frame::empty();
-    let mut n: u32 = 0;
+    let frames = frames_of(scripts);
+    for n in 0..frames {
+        put_plays(rt, table, scripts, bots, count, sim, pass, n, &mut ordered)?;
+        take_frame(
+            rt,
+            alloc,
+            table,
+            scripts,
+            out_of_memory,
+            pass,
+            n,
+            taken.as_mut_slice(),
+        )?;
+        tick(scripts, taken.as_slice(), n, &ordered, &mut frame, sim);
+    }
+    leave_all(rt, table, scripts, count, pass);
+    await_end(rt, table, scripts, out_of_memory, pass, frames)
+}
+
+/// Takes what the scripts' clients have for frame `n`, which one of them plays, once it is ready.
+fn take_frame<R: Wait>(
+    rt: &R,
+    alloc: Global,
+    table: &FrameTable,
+    scripts: &Scripts,
+    out_of_memory: &AtomicBool,
+    pass: &mut Pass,
+    n: u32,
+    taken: &mut [Taken],
+) -> Result<(), NoMemory>
+    requires pass { IsLocalPass scripts.now table.now pass.old }
+    requires knows { KnowsAllSeen scripts.now pass.old }
+    requires played { n < frames_of scripts.now }
+    requires taken { AreTaken scripts.now taken.old n }
+    ensures pass { IsLocalPass scripts.now table.now pass.new }
+    ensures share { (view_of pass.new).share ≡ (view_of pass.old).share }
+    ensures knows { OnOk result (KnowsAllSeen scripts.now pass.new) }
+    ensures taken { OnOk result (AreTaken scripts.now taken.new n) }
+    ensures has { OnOk result (HasFrame taken.new n) }
+    ensures fed { OnOk result ((plays : ℕ → List (List Order)) →
+        HasFedAll (length scripts.now) table.now plays pass.old →
+        HasFedAll (length scripts.now) table.now plays pass.new) }
+{
     for _turn in rt.forever() {
-        if has_frame(scripts, taken.as_slice(), n) {
-            tick(scripts, taken.as_slice(), n, &mut frame, sim);
-            n += 1;
-            continue;
+        if has_frame(scripts, taken, n) {
+            return Ok(());
         }
         if out_of_memory.load(Ordering::SeqCst) {
             return Err(AllocError);
         }
         match table.ready(pass, n) {
-            Ready::Yes => take_more(rt, alloc, table, scripts, pass, n, taken.as_mut_slice())?,
+            Ready::Yes => take_more(rt, alloc, table, scripts, pass, n, taken)?,
             Ready::NotYet(_) => thread::yield_now(),
-            Ready::Over => return Ok(()),
+            // A script has a play at this frame, so its client can't have left before.
+            Ready::Over => unreachable!(),
         }
+    }
+    unreachable!()
+}
+
+/// Waits until all clients have left, by frame `n`, beyond which no script goes.
+fn await_end<R: Wait>(
+    rt: &R,
+    table: &FrameTable,
+    scripts: &Scripts,
+    out_of_memory: &AtomicBool,
+    pass: &mut Pass,
+    n: u32,
+) -> Result<(), NoMemory>
+    requires pass { IsLocalPass scripts.now table.now pass.old }
+    requires knows { KnowsAllSeen scripts.now pass.old }
+    ensures pass { IsLocalPass scripts.now table.now pass.new }
+    ensures share { (view_of pass.new).share ≡ (view_of pass.old).share }
+    ensures all { OnOk result ((c : ℕ) → c < length scripts.now →
+        IsAll (standing pass.new c) (script_column (plays_of scripts.now c))) }
+    ensures bots { OnOk result ((columns : ℕ → Column) →
+        HasEndedAll (length scripts.now) table.now columns pass.old →
+        HasEndedAll (length scripts.now) table.now columns pass.new) }
+{
+    let _clients = scripts.clients();
+    for _turn in rt.forever() {
+        if out_of_memory.load(Ordering::SeqCst) {
+            return Err(AllocError);
+        }
+        if table.ready(pass, n) == Ready::Over {
+            return Ok(());
+        }
+        thread::yield_now();
     }
     unreachable!()
 }
@@ -78,41 +169,60 @@ fn nothing_taken(alloc: Global, scripts: &Scripts) -> Result<Vec<Taken>, NoMemor
     Ok(taken)
 }
 
-/// Whether frame `n` was taken: the entry of each client, and a play of one.
-#[tactic(auto, using(crate::proofs::Taking::had_none, crate::proofs::Taking::had_play, crate::proofs::Taking::had_left, crate::proofs::Taking::had_all))]
+/// Whether frame `n` was taken: the entry of each client.
 fn has_frame(scripts: &Scripts, taken: &[Taken], n: u32) -> bool
     requires { AreTaken scripts.now taken.now n }
     ensures { OnTrue result (HasFrame taken.now n) }
 {
     let _clients = scripts.clients();
-    let mut played = false;
     for own in taken {
-        if own.has_play(n) {
-            played = true;
-        } else if !own.left {
+        if !own.left && !own.has_play(n) {
             return false;
         }
     }
-    played
+    true
 }
 
-/// Steps the world by frame `n`, which was taken, and is put together in `frame`.
-fn tick<S: Sim>(scripts: &Scripts, taken: &[Taken], n: u32, frame: &mut Frame, sim: &mut S)
+/// Steps the world by frame `n`: what was taken of the scripts' clients, and the entries of the bots.
+/// The frame is put together in `frame`.
+fn tick<S: Sim>(
+    scripts: &Scripts,
+    taken: &[Taken],
+    n: u32,
+    ordered: &Frame,
+    frame: &mut Frame,
+    sim: &mut S,
+)
     requires taken { AreTaken scripts.now taken.now n }
     requires has { HasFrame taken.now n }
-    requires clients { S.clients_of sim.old ≡ length scripts.now }
+    requires clients { S.clients_of sim.old ≡ length scripts.now + length ordered.now }
     requires steps { S.steps sim.old ≡ n }
     requires limit { n < MAX_FRAMES }
-    ensures world { sim.new ≡ S.after sim.old (frame_at (script_columns scripts.now) n) }
-    ensures clients { S.clients_of sim.new ≡ length scripts.now }
+    ensures world { sim.new ≡ S.after sim.old
+        (frame_at (script_columns scripts.now) n ++ ordered.now) }
+    ensures clients { S.clients_of sim.new ≡ S.clients_of sim.old }
     ensures steps { S.steps sim.new ≡ S.steps sim.old + 1 }
 {
-    let _clients = scripts.clients();
+    let _clients = sim.clients();
     frame.clear();
     for own in taken {
         own.add_to(n, frame);
     }
+    add_entries(frame, ordered);
     sim.step(frame);
+}
+
+/// Adds these entries to a frame with room for them.
+fn add_entries(frame: &mut Frame, entries: &Frame)
+    requires { length frame.old + length entries.now ≤ MAX_CLIENTS }
+    ensures { frame.new ≡ frame.old ++ entries.now }
+{
+    for i in 0..entries.len() {
+        match entries.get(i) {
+            Some(Entry::Play(orders)) => frame.push_play(orders.as_slice()),
+            _ => frame.push(Entry::Leave),
+        }
+    }
 }
 
 /// Takes more plays of each client of whom frame `n` wasn't taken. The pass has seen it of each.
