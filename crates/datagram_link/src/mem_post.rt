@@ -1,5 +1,6 @@
 ghost use Rattle.std.specs.Prelude.{◌≡◌, ◌++◌, ◌∷◌, [], ◌+◌, ◌-◌, ◌≤◌, ◌^◌, min, take, IfOk, OnOk};
-ghost use Rattle.std.specs.Prelude.{OnErr, OnTrue, is_err, true};
+ghost use Rattle.std.specs.Bool.{OnTrue};
+ghost use Rattle.std.specs.Prelude.{OnErr, is_err, true};
 ghost use Rattle.base.specs.Cause.{Increased};
 ghost use Rattle.datagram_link.specs.PostState.{Receives, Sends, with_sent};
 ghost use Rattle.datagram_link.specs.PlannedPost.{post_state, is_planned};

@@ -94,8 +94,10 @@ fn sent_bytes(alloc: Global, post: &MemPost) -> Result<Vec<u8>, Fail> {
 /// The payloads that a receiver has ready, one after another.
 fn popped(alloc: Global, receiver: &mut Receiver) -> Result<Vec<u8>, Fail> {
     let mut bytes = Vec::new(alloc);
-    while let Some(payload) = receiver.pop() {
-        bytes.extend_from_slice(payload.as_slice())?;
+    for _ in 0..3 {
+        if let Some(payload) = receiver.pop() {
+            bytes.extend_from_slice(payload.as_slice())?;
+        }
     }
     Ok(bytes)
 }

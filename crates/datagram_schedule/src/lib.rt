@@ -1,13 +1,24 @@
-// A library with one function.
+//! Schedules of a link over datagrams: which payloads are offered, which datagrams are put into the
+//! air, and which of them arrive, in any order, once, often or never.
+//!
+//! An [`Exchange`] has a sender, a receiver and the air between them, and does what each [`Event`]
+//! says (`specs/Exchange.antt`). Beside it stands what the same events leave as sets and lists
+//! (`specs/Schedule.antt`): the payloads offered, the datagrams in the air, the numbers that arrived,
+//! the highest acknowledgement that arrived. The laws say, of every schedule, that both agree, and
+//! what a link guarantees.
 #![tactic(auto)]
 
-ghost use Rattle.std.specs.Prelude.{◌≡◌};
-ghost use Rattle.datagram_schedule.specs.Echo.{echo_of};
+mod event;
+mod exchange;
+mod law;
+mod outcome;
+mod payload_view;
 
-// The `ensures` clause is the contract: what `echo` returns is `echo_of` of its argument, a definition
-// in `specs/Echo.antt`, which a caller's clause can cite too.
-pub fn echo(x: usize) -> usize
-    ensures { result ≡ echo_of x }
-{
-    x
-}
+pub use event::Event;
+pub use exchange::Exchange;
+pub use law::{
+    each_outcome_is_that_of_the_schedule, nothing_comes_from_the_future,
+    payloads_come_once_and_in_order, what_is_acknowledged_was_delivered,
+};
+pub use outcome::Outcome;
+pub use payload_view::PayloadView;

@@ -1,13 +1,14 @@
-// A library with one function.
+//! What the command `datagrams` answers: a schedule of a link over datagrams, event by event.
+//!
+//! [`datagrams_answer`] reads a script whose lines are events (`specs/Script.antt`), lets a
+//! `datagram_schedule::Exchange` do them, and gives the text (`specs/Text.antt`). The reply is
+//! defined over the schedule as sets and lists, with neither window nor queue: the laws of
+//! `datagram_schedule` say that both agree.
 #![tactic(auto)]
 
-ghost use Rattle.std.specs.Prelude.{◌≡◌};
-ghost use Rattle.datagrams_command.specs.Echo.{echo_of};
+mod datagrams;
+mod event_word;
+mod script_line;
+mod text;
 
-// The `ensures` clause is the contract: what `echo` returns is `echo_of` of its argument, a definition
-// in `specs/Echo.antt`, which a caller's clause can cite too.
-pub fn echo(x: usize) -> usize
-    ensures { result ≡ echo_of x }
-{
-    x
-}
+pub use datagrams::datagrams_answer;
