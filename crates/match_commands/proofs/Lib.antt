@@ -2,6 +2,7 @@ pub mod RequestLemmas
 pub mod FilesLemmas
 pub mod AnswerLemmas
 pub mod ComparedLemmas
+pub mod DatagramLemmas
 pub mod RefusingLemmas
 pub mod DrillLemmas
 pub mod MadeLemmas

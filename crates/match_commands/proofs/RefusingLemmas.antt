@@ -1,10 +1,17 @@
 -- What the commands on replays refuse, by the steps of their definitions.
-use Rattle.std.proofs.Common.{◌≡◌, ◌≢◌, ◌<◌, ◌≤◌, ◌⊎◌, ◌∙◌, ℕ, Bool, true, false, List, [], Ok, Err, refl, sym, ap, ap₂, subst, inl, inr, arith}
-use Rattle.std.specs.Prelude.{◌==◌, ◌&&◌, ◌||◌, nat_lt, if◌then◌else◌, unwrap_or}
-use Rattle.std.proofs.lemmas.Bool.{ltb-true, ltb-false}
+use Rattle.std.proofs.Common.{◌≡◌, ◌≢◌, ◌<◌, ◌≤◌, ◌⊎◌, ◌∙◌, ℕ, Bool, true, false, List, [], length, Result, Ok, Err, refl, sym, ap, ap₂, subst, inl, inr, arith}
+use Rattle.std.specs.Prelude.{◌==◌, ◌&&◌, ◌||◌, ◌+◌, nat_le, nat_lt, if◌then◌else◌, unwrap_or}
+use Rattle.std.proofs.lemmas.Bool.{leb-true, leb-false, ltb-true, ltb-false}
 use Rattle.std.proofs.lemmas.Bool.Decides.{eqb_tells}
 use Rattle.base.specs.Steps.{◌>>=◌}
-use Rattle.command_words.specs.RequestPlain.{MatchPlain, RangePlain, Continue, Save, View, Worlds}
+use Rattle.command_words.specs.RequestPlain.{MatchPlain, RangePlain, Continue, Local, Save, View, Worlds}
+use Rattle.drill_words.specs.declared.drill_fault.DrillFault.{DrillFault}
+use Rattle.drill_words.specs.Script.{ScriptPlain}
+use Rattle.frame_core.specs.declared.summary.Summary.{Summary}
+use Rattle.game_orders.specs.declared.entry.Entry.{Entry}
+use Rattle.game_orders.specs.declared.order.Order.{Order}
+use Rattle.game_orders.specs.declared.limits.TheConstants.{MAX_CLIENTS}
+use Rattle.local_command.specs.LocalText.{local_step, match_step, script_step, too_many_clients}
 use Rattle.game_model.specs.Setup.{Setup}
 use Rattle.game_model.specs.World.{clients_of}
 use Rattle.game_save.specs.declared.saved.Saved.{Saved}
@@ -19,7 +26,7 @@ use Rattle.replay_commands.specs.Refusals.{read_step}
 use Rattle.save_commands.specs.Refusals.{read_save_step, of_match, with_frames}
 use Rattle.save_commands.specs.Saves.{continued_reply, save_bytes_at, saved_reply}
 use Rattle.view_command.specs.Views.{client_step, no_such_client, view_text}
-use Rattle.match_commands.specs.Refusing.{Accepts, AcceptsSave, IsOtherMatch, IsRefusedWhere, other_match, too_few}
+use Rattle.match_commands.specs.Refusing.{Accepts, AcceptsSave, AcceptsScript, IsOtherMatch, IsRefusedWhere, other_match, too_few}
 use Rattle.match_commands.specs.Request.{answer_of, text_reply}
 use Rattle.match_commands.specs.Worlds.{worlds_over}
 use Rattle.worlds_command.specs.Chosen.{chosen_of}
@@ -158,3 +165,28 @@ worlds_where query range contents made r accepts =
     at_step _ (told_step query range made.0 r (nat_lt (frame_count r) range.from || nat_lt (frame_count r) (unwrap_or range.to (frame_count r)))) _ (too_few query.file)
     (worlds_so query range contents made r accepts)
     (told_test query range made.0 r (frame_count r) range.from (unwrap_or range.to (frame_count r)) _ _ refl refl)
+
+-- ---- `local`
+
+count_test :
+    (n most : ℕ) (is : Bool) → nat_le n most ≡ is → (text : List ℕ) (reply : Reply) →
+    IsRefusedWhere (most < n) (text_reply (if is then Ok text else Err reply)) reply
+count_test n most true test text reply = record { refused = λ so. absurd (omega (arith, leb-true n most test, so)); accepted = λ never. refl }
+count_test n most false test text reply = record { refused = λ so. refl; accepted = λ never. absurd (never (leb-false n most test)) }
+
+local_where :
+    {W : Type 0} (after : W → List Entry → W) (hash : W → ℕ) (summary : W → Summary) (orders : W → ℕ → List Order) (made : ℕ → ℕ → W)
+    (name : List ℕ) (bots : ℕ) (read : Result ScriptPlain DrillFault) (script : ScriptPlain) → read ≡ Ok script →
+    IsRefusedWhere (MAX_CLIENTS < length script.scripts + bots) (text_reply (script_step after hash summary orders made name bots read)) (too_many_clients name)
+local_where after hash summary orders made name bots read script is =
+    at_step _ (text_reply (match_step after hash summary orders made name bots script)) _ (too_many_clients name)
+    (ap (λ (read : Result ScriptPlain DrillFault). text_reply (script_step after hash summary orders made name bots read)) is)
+    (count_test (length script.scripts + bots) MAX_CLIENTS (nat_le (length script.scripts + bots) MAX_CLIENTS) refl _ (too_many_clients name))
+
+pub locals_where :
+    (query : MatchPlain) (bots : ℕ) (contents : Contents) (setup : Setup) (script : ScriptPlain) → AcceptsScript query contents setup script →
+    IsRefusedWhere (MAX_CLIENTS < length script.scripts + bots) (answer_of (Local query bots) contents) (too_many_clients query.file)
+locals_where query bots contents setup script accepts =
+    at_step _ (text_reply (local_step setup query.file (unwrap_or contents.script []) bots)) _ (too_many_clients query.file)
+    (ap (λ (step : Step Setup). text_reply (step >>= λ setup. local_step setup query.file (unwrap_or contents.script []) bots)) accepts.stands)
+    (local_where _ _ _ _ _ query.file bots _ script accepts.reads)

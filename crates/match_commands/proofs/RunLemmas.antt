@@ -17,6 +17,7 @@ use Rattle.drill.specs.MadeDrill.{made_drill_of}
 use Rattle.rule_commands.specs.SampleSetup.{sample_setup}
 use Rattle.match_commands.specs.Made.{make_step, made_text}
 use Rattle.match_commands.proofs.SampleLemmas.{make_is}
+use Rattle.match_commands.proofs.DatagramLemmas.{datagrams_done}
 use Rattle.rule_commands.specs.Numbers.{numbered_setup_step}
 use Rattle.game_model.specs.Setup.{Setup}
 use Rattle.replay_file.specs.declared.replay.Replay as file
@@ -144,6 +145,7 @@ given_done (Compare query second) contents ok =
     replayed_done (first_step query.file (unwrap_or contents.first [])) _ IsReplayDone
     (λ first. replayed_done (numbered_setup_step query.rules query.map_file contents) _ IsReplayDone
     (λ made. compare_done query.file second made.1 made.0 (unwrap_or contents.replay []) first)) ok
+given_done (Datagrams script) contents ok = datagrams_done script (unwrap_or contents.script []) ok
 
 read_done :
     (request : RequestPlain) (step : Step Contents) → IsOk (step >>= answer_of request) → IsDone request (replied (step >>= answer_of request)).status

@@ -1,6 +1,7 @@
--- What the commands on replays refuse once their files are accepted, and exactly where.
-use Rattle.std.specs.Prelude.{◌≡◌, ◌≢◌, ◌⊎◌, ℕ, List, [], Ok, Err, IsOk, codes, unwrap_or}
+-- What the commands on replays and `local` refuse once their files are accepted, and exactly where.
+use Rattle.std.specs.Prelude.{◌≡◌, ◌≢◌, ◌⊎◌, ℕ, List, [], Ok, Err, IsOk, codes, false, unwrap_or}
 use Rattle.command_words.specs.RequestPlain.{MatchPlain}
+use Rattle.drill_words.specs.Script.{ScriptPlain, read_script_of}
 use Rattle.game_model.specs.Setup.{Setup}
 use Rattle.game_model.specs.World.{clients_of}
 use Rattle.game_save.specs.declared.saved.Saved.{Saved}
@@ -11,6 +12,7 @@ use Rattle.command_answers.specs.Contents.{Contents}
 use Rattle.command_answers.specs.Reply.{Reply, refusal}
 use Rattle.command_answers.specs.Step.{Step}
 use Rattle.replay_commands.specs.Refusals.{read_step}
+use Rattle.rule_commands.specs.Setups.{setup_step}
 use Rattle.save_commands.specs.Refusals.{read_save_step}
 use Rattle.rule_commands.specs.Numbers.{numbered_setup_step}
 
@@ -25,6 +27,14 @@ pub record Accepts (query : MatchPlain) (contents : Contents) (made : Setup × �
 abbrev pub AcceptsSave : (save : List ℕ) → Contents → Setup × ℕ → Saved → Type 0
 AcceptsSave save contents made saved =
     read_save_step save (read_save_of made.1 made.0 (unwrap_or contents.first [])) ≡ Ok saved
+
+-- The files of a local match are accepted: they are the rules and the map, and this script.
+pub record AcceptsScript
+    (query : MatchPlain) (contents : Contents) (setup : Setup) (script : ScriptPlain)
+    : Type 0 where
+  pub stands :
+      setup_step query.rules contents.rules query.map_file contents.map_file ≡ Ok setup
+  pub reads : read_script_of false (unwrap_or contents.script []) ≡ Ok script
 
 -- The step is refused with this reply exactly where this is so.
 pub record IsRefusedWhere (so : Type 0) (step : Step Reply) (reply : Reply) : Type 0 where

@@ -1,4 +1,4 @@
-use Rattle.match_commands.proofs.RefusingLemmas.{saves_where, other_refused, continues_where, worlds_where, views_where}
+use Rattle.match_commands.proofs.RefusingLemmas.{saves_where, other_refused, continues_where, worlds_where, views_where, locals_where}
 use Rattle.match_commands.proofs.refusing.refusals_are_exact.Goals as goal
 
 pub returns-clause-save : goal.returns-clause-save
@@ -15,3 +15,6 @@ returns-clause-worlds c = worlds_where
 
 pub returns-clause-view : goal.returns-clause-view
 returns-clause-view c = views_where
+
+pub returns-clause-local : goal.returns-clause-local
+returns-clause-local c = locals_where
