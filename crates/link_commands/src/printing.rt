@@ -54,7 +54,7 @@ pub fn play_bot_over<M: Maker, B: Bots<M::World>, K: Sink, N: Net>(
     requires { (N.state net.old).given ≡ [] }
     ensures plays { PlaysBy M.World.hash_of M.World.summary_of
         (bot_terms (M.made maker.now) M.World.after M.World.hash_of M.World.clients_of
-        (B.ordered rule.now) rules frames) result
+        (B.orders_of rule.now) rules frames) result
         (N.state net.old) (N.state net.new) (K.state out.old) (K.state out.new) }
     ensures later { (K.state out.old).faults ≤ (K.state out.new).faults }
 {
