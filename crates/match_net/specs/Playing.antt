@@ -83,7 +83,8 @@ abbrev pub farewell_bytes : Bool → List ℕ
 farewell_bytes true = up_bytes Bye
 farewell_bytes false = []
 
--- A player: its peer, how many of its frames it has sealed, and whether it writes no more, since it has said farewell or its own departure has come.
+-- A player: its peer, how many of its frames it has sealed, and whether it writes no more, since it
+-- has said farewell or its own departure has come.
 pub record Player (W : Type 0) : Type 0 where
   pub peer : PeerState W
   pub sealed : ℕ

@@ -26,4 +26,7 @@ own_orders clients_of ordered world client =
 -- A bot plays so many frames, each by the world that it holds then.
 abbrev pub bot_plays : {W : Type 0} → (W → ℕ) → (W → ℕ → List Order) → ℕ → Plays W
 bot_plays clients_of ordered frames =
-    record { frames = frames; orders = λ world client n. own_orders clients_of ordered world client }
+    record {
+      frames = frames;
+      orders = λ world client n. own_orders clients_of ordered world client;
+    }

@@ -33,8 +33,8 @@ count_reports (Bye ∷ packets) = count_reports packets
 -- What a player writes after its greeting that has reported and sealed so many frames. It plays so
 -- many frames with this lag; `play r n` is its orders of the frame n where it has reported r frames
 -- by then, and `hash n` is that of its world after the frame n. It reports frame by frame, and it
--- sends its orders frame by frame, none of them for a frame that is its lag or more beyond the frames
--- that it has ticked and reported. Its farewell comes only when each of its frames was reported, and
+-- sends its orders frame by frame, none of them for a frame that is its lag or more beyond the
+-- frames that it has ticked and reported. Its farewell comes only when each of its frames was reported, and
 -- nothing comes after it.
 abbrev pub IsInTurn : ℕ → (ℕ → ℕ → List Order) → ℕ → (ℕ → ℕ) → ℕ → ℕ → List Up → Type 0
 IsInTurn frames play lag hash reported sealed [] = Unit {0}

@@ -20,7 +20,7 @@ impl<'a, S: Sim, B: Bots<S>> OrderSource<S> for Bot<'a, B> {
     ghost frames_of = { λ bot. bot.frames };
 
     ghost orders_of = { λ bot world client n.
-        own_orders S.clients_of (B.orders_of bot.rule) world client };
+        own_orders S.clients_of (B.orders_of bot.rule.now) world client };
 
     fn frames(&self) -> usize {
         self.frames as usize

@@ -8,10 +8,11 @@
 //! the welcome and all columns, a refusal, or nothing (`specs/Sending.antt`,
 //! `specs/SenderSession.antt`). Each leaves no column but its client's. At the client
 //! [`play_match`] greets and plays a script by what comes down (`specs/Playing.antt`,
-//! `specs/Stages.antt`, `specs/PlayMatch.antt`), and [`play_match_from`] whatever an [`OrderSource`]
-//! orders, as a [`Bot`] does by the world that the player holds (`specs/Plays.antt`). The crate stands on `order_packets` for the
-//! packets, on `game_io` for the links, on `frame_table` for the columns, and on `peer_core` for
-//! what has reached a client.
+//! `specs/Stages.antt`, `specs/PlayMatch.antt`), and [`play_match_from`] whatever an
+//! [`OrderSource`] orders, as a [`Bot`] does by the world that the player holds
+//! (`specs/Plays.antt`). The crate stands on `order_packets` for the packets, on `game_io` for the
+//! links, on `frame_table` for the columns, on `peer_core` for what has reached a client, and on
+//! `bots` for the rule of a bot.
 #![tactic(auto)]
 
 mod bot;

@@ -17,8 +17,8 @@ pub trait OrderSource<S: Sim> {
     fn frames(&self) -> usize
         ensures { result ≡ frames_of self.now };
 
-    /// The orders of client `c` for frame `n`, one of its frames, by the world that the client holds
-    /// when it seals that frame. Out of memory is its one error.
+    /// The orders of client `c` for frame `n`, one of its frames, by the world that the client
+    /// holds when it seals that frame. Out of memory is its one error.
     fn orders(&self, sim: &S, c: u8, n: usize) -> Result<Orders, NoMemory>
         requires { n < frames_of self.now }
         ensures { IfOk result (λ orders. orders ≡ orders_of self.now sim.now c n) };

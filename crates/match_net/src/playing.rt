@@ -110,10 +110,12 @@ fn turn<S: Sim, P: OrderSource<S>, I: Source, O: Sink>(
         (feeder.new.at + length feeder.new.rest ≤ MAX_PLAY_BYTES)) }
     ensures on { IfOk result (λ answer. IfNone answer (feeder.old.at < feeder.new.at)) }
     ensures means { (made : ℕ → ℕ → S) (rules : ℕ) (first : SourceState) (before : SinkState) →
-        PlaySoFar (terms_from made S.after S.hash_of rules (plays_by (P.frames_of plays.now) (P.orders_of plays.now))) first
+        PlaySoFar (terms_from made S.after S.hash_of rules
+        (plays_by (P.frames_of plays.now) (P.orders_of plays.now))) first
         (I.state input.old) before (O.state output.old)
         (player_at player.old.peer player.old.sealed player.old.quiet) feeder.old →
-        TurnMeans (terms_from made S.after S.hash_of rules (plays_by (P.frames_of plays.now) (P.orders_of plays.now))) first
+        TurnMeans (terms_from made S.after S.hash_of rules
+        (plays_by (P.frames_of plays.now) (P.orders_of plays.now))) first
         (I.state input.new) before (O.state output.new)
         (player_at player.new.peer player.new.sealed player.new.quiet) feeder.new result }
 {
@@ -137,10 +139,12 @@ fn play_rest<S: Sim, P: OrderSource<S>, I: Source, O: Sink>(
     requires fault { feeder.old.fault ≡ None }
     requires few { feeder.old.at + length feeder.old.rest ≤ MAX_PLAY_BYTES }
     ensures means { (made : ℕ → ℕ → S) (rules : ℕ) (first : SourceState) (before : SinkState) →
-        PlaySoFar (terms_from made S.after S.hash_of rules (plays_by (P.frames_of plays.now) (P.orders_of plays.now))) first
+        PlaySoFar (terms_from made S.after S.hash_of rules
+        (plays_by (P.frames_of plays.now) (P.orders_of plays.now))) first
         (I.state input.old) before (O.state output.old)
         (player_at player.old.peer player.old.sealed player.old.quiet) feeder.old →
-        MatchMeans (terms_from made S.after S.hash_of rules (plays_by (P.frames_of plays.now) (P.orders_of plays.now))) first
+        MatchMeans (terms_from made S.after S.hash_of rules
+        (plays_by (P.frames_of plays.now) (P.orders_of plays.now))) first
         (I.state input.new) before (O.state output.new)
         (player_at player.new.peer player.new.sealed player.new.quiet) result }
 {
@@ -165,10 +169,12 @@ fn play_on<S: Sim, P: OrderSource<S>, I: Source, O: Sink>(
     requires fault { feeder.old.fault ≡ None }
     requires few { feeder.old.at + length feeder.old.rest ≤ MAX_PLAY_BYTES }
     ensures means { (made : ℕ → ℕ → S) (rules : ℕ) (first : SourceState) (before : SinkState) →
-        PlayBegins (terms_from made S.after S.hash_of rules (plays_by (P.frames_of plays.now) (P.orders_of plays.now))) first
+        PlayBegins (terms_from made S.after S.hash_of rules
+        (plays_by (P.frames_of plays.now) (P.orders_of plays.now))) first
         (I.state input.old) before (O.state output.old)
         (player_at player.old.peer player.old.sealed player.old.quiet) feeder.old →
-        MatchMeans (terms_from made S.after S.hash_of rules (plays_by (P.frames_of plays.now) (P.orders_of plays.now))) first
+        MatchMeans (terms_from made S.after S.hash_of rules
+        (plays_by (P.frames_of plays.now) (P.orders_of plays.now))) first
         (I.state input.new) before (O.state output.new)
         (player_at player.new.peer player.new.sealed player.new.quiet) result }
 {
@@ -191,17 +197,21 @@ pub(crate) fn play_welcomed<S: Sim, P: OrderSource<S>, I: Source, O: Sink>(
     requires fault { feeder.old.fault ≡ None }
     requires few { feeder.old.at + length feeder.old.rest ≤ MAX_PLAY_BYTES }
     ensures ok { (made : ℕ → ℕ → S) (rules : ℕ) (first : SourceState) (before : SinkState) →
-        PlayBegins (terms_from made S.after S.hash_of rules (plays_by (P.frames_of plays.now) (P.orders_of plays.now))) first
+        PlayBegins (terms_from made S.after S.hash_of rules
+        (plays_by (P.frames_of plays.now) (P.orders_of plays.now))) first
         (I.state input.old) before (O.state output.old)
         (player_at player.peer player.sealed player.quiet) feeder.old →
-        IfOk result (λ played. PlaysAs (terms_from made S.after S.hash_of rules (plays_by (P.frames_of plays.now) (P.orders_of plays.now)))
-        first (I.state input.new) before (O.state output.new) played.end played.client
+        IfOk result (λ played. PlaysAs (terms_from made S.after S.hash_of rules
+        (plays_by (P.frames_of plays.now) (P.orders_of plays.now))) first
+        (I.state input.new) before (O.state output.new) played.end played.client
         played.frames played.sim) }
     ensures err { (made : ℕ → ℕ → S) (rules : ℕ) (first : SourceState) (before : SinkState) →
-        PlayBegins (terms_from made S.after S.hash_of rules (plays_by (P.frames_of plays.now) (P.orders_of plays.now))) first
+        PlayBegins (terms_from made S.after S.hash_of rules
+        (plays_by (P.frames_of plays.now) (P.orders_of plays.now))) first
         (I.state input.old) before (O.state output.old)
         (player_at player.peer player.sealed player.quiet) feeder.old →
-        OnErr result (PlaysPartly (terms_from made S.after S.hash_of rules (plays_by (P.frames_of plays.now) (P.orders_of plays.now))) first
+        OnErr result (PlaysPartly (terms_from made S.after S.hash_of rules
+        (plays_by (P.frames_of plays.now) (P.orders_of plays.now))) first
         (I.state input.new) before (O.state output.new)) }
 {
     let mut player = player;

@@ -52,9 +52,9 @@ pub fn play_match<M: Maker, I: Source, O: Sink>(
 /// Plays over a link what a source orders.
 ///
 /// The player greets the server with the hash of its rules and map. After the welcome and after
-/// each entry it ticks every frame that is ready and writes a report of each; then it seals those of
-/// its frames that its lag allows, and writes what the source orders for each by the world that the
-/// player holds now; then, once each of its frames was ticked, its farewell. After its farewell, or
+/// each entry it ticks every frame that is ready and writes a report of each; then it seals those
+/// of its frames that its lag allows, and writes what the source orders for each by the world that
+/// the player holds now; then, once each of its frames was ticked, its farewell. After its farewell, or
 /// once its own departure has come, it goes on ticking and writes nothing more. It takes the next
 /// packet only when this is written.
 ///
@@ -63,8 +63,8 @@ pub fn play_match<M: Maker, I: Source, O: Sink>(
 /// packet that is neither a refusal nor a welcome to a match that can be, or a later one that is no
 /// entry; an entry that is of no client or that contradicts what was kept; the end of the bytes, or
 /// of the first [`crate::MAX_PLAY_BYTES`] of them, before the match is over. `Lost` only where the
-/// count of faults of the input or the output rose in this call. Out of memory, which the source may
-/// be too, is its one error.
+/// count of faults of the input or the output rose in this call. Out of memory, which the source
+/// may be too, is its one error.
 pub fn play_match_from<M: Maker, P: OrderSource<M::World>, I: Source, O: Sink>(
     alloc: Global,
     rules: u64,

@@ -13,9 +13,9 @@ pub struct Script<'a> {
 }
 
 impl<'a, S: Sim> OrderSource<S> for Script<'a> {
-    ghost frames_of = { λ script. length script.plays };
+    ghost frames_of = { λ script. length script.plays.now };
 
-    ghost orders_of = { λ script world client n. slice_index_or script.plays n [] };
+    ghost orders_of = { λ script world client n. slice_index_or script.plays.now n [] };
 
     fn frames(&self) -> usize {
         self.plays.len()
