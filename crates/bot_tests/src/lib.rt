@@ -11,4 +11,6 @@ mod more_bots;
 #[cfg(test)]
 mod one_bot;
 #[cfg(test)]
+mod over_links;
+#[cfg(test)]
 mod playing;

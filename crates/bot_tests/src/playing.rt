@@ -1,12 +1,13 @@
 //! How a match with bots is played frame by frame, each bot by the world as it is.
 
-ghost use Rattle.std.specs.Prelude.{◌<◌};
+ghost use Rattle.std.specs.Prelude.{◌≤◌, ◌<◌, IfOk};
+ghost use Rattle.game_orders.specs.declared.limits.TheConstants.{MAX_CLIENTS};
 ghost use Rattle.tick_core.specs.Game.{game_clients};
 
 use crate::match_case::MatchCase;
 use bot_player::{bot_orders, bot_orders_from};
 use drill_words::{MAX_DRILL_BYTES, Scripts, read_script};
-use frame_core::{MAX_STEPS, Sim};
+use frame_core::{MAX_STEPS, Maker, Sim};
 use game_model::{Actor, Map};
 use game_orders::{Entry, Frame, MAX_CLIENTS, Orders};
 use map_grid::read_map;
@@ -16,7 +17,7 @@ use std::alloc::Global;
 use std::process::Abort;
 use std::rc::Rc;
 use std::test::Fail;
-use tick_core::Game;
+use tick_core::{Game, GameMaker};
 use yaml_lines::{Forest, parse};
 use yaml_merge::resolve;
 
@@ -78,7 +79,7 @@ fn entry_of(
 }
 
 /// The entries of all clients for a frame.
-fn frame_of(
+pub(crate) fn frame_of(
     rt: &impl Abort,
     alloc: Global,
     game: &Game,
@@ -95,30 +96,51 @@ fn frame_of(
 
 /// Steps a game by a frame with an entry for each client, if it was not stepped as often as a game
 /// can be.
-fn step(rt: &impl Abort, game: &mut Game, frame: &Frame) {
+pub(crate) fn step(rt: &impl Abort, game: &mut Game, frame: &Frame) {
     assert!(rt; frame.len() == game.clients() as usize);
     if game.step_count() < MAX_STEPS {
         game.step(frame);
     }
 }
 
-/// The opening game of a case, and what its first clients play.
-fn opening(rt: &impl Abort, alloc: Global, case: &MatchCase) -> Result<(Game, Scripts), Fail> {
+/// What a match begins with: the maker of its games, its seed, what its first clients play, and the
+/// number of all clients.
+#[derive(Drop)]
+pub(crate) struct Opening {
+    pub(crate) maker: GameMaker,
+    pub(crate) seed: u32,
+    pub(crate) scripts: Scripts,
+    pub(crate) clients: u8,
+}
+
+/// What the match of a case begins with.
+pub(crate) fn opening(
+    rt: &impl Abort,
+    alloc: Global,
+    case: &MatchCase,
+) -> Result<Opening, Fail>
+    ensures { IfOk result (λ opening. (1 ≤ opening.clients) × (opening.clients ≤ MAX_CLIENTS)) }
+{
     let (rules, _) = type_rules(alloc, &forest_of(alloc, case.rules)?)?;
     let map = read_map(alloc, &forest_of(alloc, case.map)?, &rules)?;
     assert!(rt; case.script.len() <= MAX_DRILL_BYTES as usize);
     let (seed, scripts) = read_script(alloc, case.script.as_bytes(), false)?;
     let clients = scripts.clients().saturating_add(case.bots);
     assert!(rt; clients <= MAX_CLIENTS);
-    let (rules, map) = (Rc::new(alloc, rules)?, Rc::new(alloc, map)?);
-    Ok((Game::create(alloc, rules, map, seed, clients)?, scripts))
+    Ok(Opening {
+        maker: GameMaker::new(Rc::new(alloc, rules)?, Rc::new(alloc, map)?),
+        seed,
+        scripts,
+        clients,
+    })
 }
 
 /// Plays the match of a case to its end, and compares the last world with the expected one.
 pub(crate) fn play(rt: &impl Abort, alloc: Global, case: &MatchCase) -> Result<(), Fail> {
-    let (mut game, scripts) = opening(rt, alloc, case)?;
+    let opening = opening(rt, alloc, case)?;
+    let mut game = opening.maker.make(alloc, opening.seed, opening.clients)?;
     for n in 0..case.frames {
-        let frame = frame_of(rt, alloc, &game, &scripts, n)?;
+        let frame = frame_of(rt, alloc, &game, &opening.scripts, n)?;
         step(rt, &mut game, &frame);
     }
     assert_eq!(rt; game.hash(), case.hash);

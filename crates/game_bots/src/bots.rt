@@ -4,8 +4,8 @@ ghost use Rattle.tick_core.specs.Game.{game_clients};
 use crate::game_actors::GameActors;
 use base::NoMemory;
 use bot_player::bot_orders_from;
+use bots::Bots;
 use game_orders::Orders;
-use match_run::Bots;
 use tick_core::Game;
 
 /// Bots of a game, which order by the game's world alone. They are never out of memory.

@@ -1,6 +1,6 @@
 //! Bots of a game that a match runs.
 //!
-//! [`GameBots`] are `match_run::Bots` over `tick_core::Game`: what they order is what
+//! [`GameBots`] are `bots::Bots` over `tick_core::Game`: what they order is what
 //! `bot_player::bot_orders` orders in the game's world, by what the game lends. No world is copied,
 //! and no memory is taken.
 #![tactic(auto)]

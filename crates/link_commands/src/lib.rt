@@ -1,9 +1,10 @@
-//! The commands over links: a script that is played at a server.
+//! The commands over links: a script, or what a bot orders, that is played at a server.
 //!
-//! [`read_solo`] reads the script of one client (`specs/SoloScript.antt`), and [`play_over`] dials a
-//! server, plays it over the link (`specs/PlayedLink.antt`) and prints how that ended
-//! (`specs/PlayText.antt`, `specs/Plays.antt`). What a command over links does altogether, from its
-//! files on, is said by `specs/Links.antt`.
+//! [`read_solo`] reads the script of one client (`specs/SoloScript.antt`), and [`play_over`] dials
+//! a server, plays it over the link (`specs/PlayedLink.antt`) and prints how that ended
+//! (`specs/PlayText.antt`, `specs/Plays.antt`); [`play_bot_over`] does the same with what a bot
+//! orders. What a command over links does altogether, from its files on, is said by
+//! `specs/Links.antt`.
 #![tactic(auto)]
 
 mod causes;
@@ -15,5 +16,5 @@ mod solo;
 
 pub use causes::feed_name;
 pub use play_text::lost_answer;
-pub use printing::{play_over, print_made};
+pub use printing::{play_bot_over, play_over, print_made};
 pub use solo::read_solo;

@@ -3,6 +3,8 @@
 #![tactic(auto)]
 
 #[cfg(test)]
+mod bots;
+#[cfg(test)]
 mod greetings;
 #[cfg(test)]
 mod links;

@@ -8,7 +8,7 @@ use std::alloc::Global;
 use std::test::Fail;
 
 /// The rules of the tests.
-const RULES: u64 = 0xaf63_bd4c_8601_b7df;
+pub(crate) const RULES: u64 = 0xaf63_bd4c_8601_b7df;
 
 /// The bytes of links: how the player of each ends, its client and how many frames it ticked, and
 /// what it wrote.

@@ -1,8 +1,9 @@
 ghost use Rattle.std.specs.Prelude.{◌≡◌};
 
 use base::NoMemory;
+use bots::Bots;
 use frame_core::{Maker, Sim, Summary};
-use game_orders::{Frame, PerClient};
+use game_orders::{Frame, Order, Orders, PerClient};
 use std::alloc::Global;
 
 /// A world that counts its steps. That is its hash too.
@@ -60,5 +61,24 @@ impl Maker for StepsMaker {
             cash: PerClient::create(clients, 0),
             steps: 0,
         })
+    }
+}
+
+/// A rule of such worlds: a client gives itself as much as was counted.
+pub struct StepsRule;
+
+impl Bots<Steps> for StepsRule {
+    ghost use Rattle.std.specs.Prelude.{[], ◌∷◌};
+    ghost use Rattle.game_orders.specs.declared.order.Order.TheVariants.{Donate};
+
+    ghost orders_of = { λ rule w c. Donate c w.steps ∷ [] };
+
+    fn orders(&self, sim: &Steps, c: u8) -> Result<Orders, NoMemory> {
+        let mut orders = Orders::empty();
+        orders.push(Order::Donate {
+            to: c,
+            amount: sim.steps,
+        });
+        Ok(orders)
     }
 }

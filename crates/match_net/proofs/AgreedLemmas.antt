@@ -40,10 +40,10 @@ tick_true after start columns peer holds =
 round_true :
     {W : Type 0} (terms : Terms W) (start : W) (columns : List Column) (now : Stage W) →
     IsTrue terms.course.after start columns now.player.peer →
-    IsTrue terms.course.after start columns (round terms.course terms.script now).player.peer
+    IsTrue terms.course.after start columns (round terms.course terms.plays now).player.peer
 round_true terms start columns now holds =
     round_keeps (IsTrue terms.course.after start columns) terms.course
-    (λ p is holds. tick_true terms.course.after start columns p holds) terms.script now holds
+    (λ p is holds. tick_true terms.course.after start columns p holds) terms.plays now holds
 
 -- The first of some packets, and the rest.
 first_agreed :
@@ -128,13 +128,13 @@ is_agreed {W = W} terms client clients lag seed packets now columns follows whol
         }
 
     by : (fits : Bool) →
-        ((if fits then Ok (round terms.course terms.script fresh)
+        ((if fits then Ok (round terms.course terms.plays fresh)
         else Err (stop.Bad cause.BadWelcome))
         >>= λ next. after_packets terms (Some next) packets) ≡ Ok (Some now) →
         IsAt terms.course.after (terms.made seed clients) columns now.player.peer.ticked
         now.player.peer.world
     by true rest =
         (all_true terms (terms.made seed clients) columns
-        (round terms.course terms.script fresh) now packets agreed
+        (round terms.course terms.plays fresh) now packets agreed
         (round_true terms (terms.made seed clients) columns fresh new) rest).faithful.at
     by false rest = absurd cc

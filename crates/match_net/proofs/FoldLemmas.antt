@@ -36,6 +36,7 @@ use Rattle.match_net.specs.declared.stop_reason.StopReason.{StopReason}
 use Rattle.match_net.specs.declared.stop_reason.StopReason.TheVariants as stop
 use Rattle.match_net.specs.declared.play_cause.PlayCause.{PlayCause}
 use Rattle.match_net.specs.declared.play_cause.PlayCause.TheVariants as cause
+use Rattle.match_net.specs.Plays.{Plays}
 use Rattle.match_net.specs.Playing.{Course, Player, Stage, Telling, telling, ticked_if, tick_once}
 use Rattle.match_net.specs.Playing.{ticks, all_ticked, sealed_if, round, is_over, after_receipt}
 use Rattle.match_net.specs.Stages.{Terms, is_match, welcomed, greeting_bytes, after_down, rounded}
@@ -309,19 +310,19 @@ ticks_keep P course step (suc more) quiet now holds =
     (tick_keeps P course step quiet now holds)
 
 sealed_keeps :
-    {W : Type 0} (P : PeerState W → Type 0) (quiet : Bool) (script : List (List Order))
-    (sealed : ℕ) (now : Telling W) → P now.peer → P (sealed_if quiet script sealed now).player.peer
-sealed_keeps P true script sealed now holds = holds
-sealed_keeps P false script sealed now holds = holds
+    {W : Type 0} (P : PeerState W → Type 0) (quiet : Bool) (plays : Plays W)
+    (sealed : ℕ) (now : Telling W) → P now.peer → P (sealed_if quiet plays sealed now).player.peer
+sealed_keeps P true plays sealed now holds = holds
+sealed_keeps P false plays sealed now holds = holds
 
 pub round_keeps :
     {W : Type 0} (P : PeerState W → Type 0) (course : Course W) →
     ((p : PeerState W) → ready_by p.arrived p.clients p.ticked ≡ ready.Yes → P p →
     P (ticked_peer course.after p)) →
-    (script : List (List Order)) (now : Stage W) → P now.player.peer →
-    P (round course script now).player.peer
-round_keeps P course step script now holds =
-    sealed_keeps P now.player.quiet script now.player.sealed
+    (plays : Plays W) (now : Stage W) → P now.player.peer →
+    P (round course plays now).player.peer
+round_keeps P course step plays now holds =
+    sealed_keeps P now.player.quiet plays now.player.sealed
     (all_ticked course now.player.quiet (telling now.player.peer now.said))
     (ticks_keep P course step MAX_FRAMES now.player.quiet (telling now.player.peer now.said) holds)
 
@@ -487,7 +488,7 @@ pub record Rounds {W : Type 0} (terms : Terms W) (now : Stage W) (packet : Down)
   pub player : Player W
   pub follows : after_down now.player packet ≡ Ok player
   pub next_is :
-      next ≡ round terms.course terms.script (record { player = player; said = now.said })
+      next ≡ round terms.course terms.plays (record { player = player; said = now.said })
 
 pub goes_round :
     {W : Type 0} (terms : Terms W) (now next : Stage W) (packet : Down) →
@@ -496,7 +497,7 @@ goes_round {W = W} terms now next packet went = by_over (is_over now.player.peer
   by_down : (d : Result (Player W) PlayCause) → after_down now.player packet ≡ d →
       rounded terms now.said d ≡ Ok next → Rounds terms now packet next
   by_down (Ok player) is went =
-      let same : round terms.course terms.script (record { player = player; said = now.said })
+      let same : round terms.course terms.plays (record { player = player; said = now.said })
       ≡ next = cc in
       record { player = player; follows = is; next_is = sym same }
   by_down (Err why) is went = absurd cc
@@ -592,23 +593,23 @@ pub round_steady :
     {W : Type 0} (terms : Terms W) (start : W) (clients : ℕ) (now : Stage W) →
     IsSteady terms.course.after start clients now.player.peer →
     IsSteady terms.course.after start clients
-    (round terms.course terms.script now).player.peer
+    (round terms.course terms.plays now).player.peer
 round_steady terms start clients now steady =
     round_keeps (IsSteady terms.course.after start clients) terms.course
-    (λ p is holds. steady_tick terms.course.after start clients p is holds) terms.script now steady
+    (λ p is holds. steady_tick terms.course.after start clients p is holds) terms.plays now steady
 
 pub round_arrived :
     {W : Type 0} (terms : Terms W) (now : Stage W) →
-    (round terms.course terms.script now).player.peer.arrived ≡ now.player.peer.arrived
+    (round terms.course terms.plays now).player.peer.arrived ≡ now.player.peer.arrived
 round_arrived {W = W} terms now =
     round_keeps (λ (p : PeerState W). p.arrived ≡ now.player.peer.arrived) terms.course
-    (λ p is holds. holds) terms.script now refl
+    (λ p is holds. holds) terms.plays now refl
 
 -- After a round the next frame is not ready.
 pub round_stops :
     {W : Type 0} (terms : Terms W) (start : W) (clients : ℕ) (now : Stage W) →
     IsSteady terms.course.after start clients now.player.peer →
-    IsReadyNext (round terms.course terms.script now).player.peer → ⊥
+    IsReadyNext (round terms.course terms.plays now).player.peer → ⊥
 round_stops {W = W} terms start clients now steady next =
     stops (ticks_keep (IsSteady terms.course.after start clients) terms.course
     (λ p is holds. steady_tick terms.course.after start clients p is holds) MAX_FRAMES
@@ -618,7 +619,7 @@ round_stops {W = W} terms start clients now steady next =
     all = all_ticked terms.course now.player.quiet (telling now.player.peer now.said)
 
     unsealed : (quiet : Bool) →
-        IsReadyNext (sealed_if quiet terms.script now.player.sealed all).player.peer →
+        IsReadyNext (sealed_if quiet terms.plays now.player.sealed all).player.peer →
         IsReadyNext all.peer
     unsealed true is = is
     unsealed false is = is
@@ -641,7 +642,7 @@ pub record IsSettled {W : Type 0} (terms : Terms W) (start : W) (clients : ℕ) 
 settles :
     {W : Type 0} (terms : Terms W) (start : W) (clients : ℕ) (now : Stage W) →
     IsSteady terms.course.after start clients now.player.peer →
-    IsSettled terms start clients (round terms.course terms.script now)
+    IsSettled terms start clients (round terms.course terms.plays now)
 settles terms start clients now steady =
     record {
       steady = round_steady terms start clients now steady;
@@ -737,10 +738,10 @@ is_fold {W = W} terms client clients lag seed packets now follows =
           world = refl;
         }
 
-    done : after_packets terms (Some (round terms.course terms.script fresh)) packets
+    done : after_packets terms (Some (round terms.course terms.plays fresh)) packets
         ≡ Ok (Some now) → IsFold terms.course.after start clients packets now.player.peer
     done rest =
-        let all = all_followed terms start clients (round terms.course terms.script fresh) now
+        let all = all_followed terms start clients (round terms.course terms.plays fresh) now
         packets (settles terms start clients fresh new) rest in
         let steady = all.0.steady in
         record {
@@ -756,7 +757,7 @@ is_fold {W = W} terms client clients lag seed packets now follows =
         }
 
     by : (fits : Bool) →
-        ((if fits then Ok (round terms.course terms.script fresh)
+        ((if fits then Ok (round terms.course terms.plays fresh)
         else Err (stop.Bad cause.BadWelcome))
         >>= λ next. after_packets terms (Some next) packets) ≡ Ok (Some now) →
         IsFold terms.course.after start clients packets now.player.peer

@@ -10,7 +10,6 @@ use Rattle.base.specs.Written.{Wrote, WrotePrefix, Wrote-nil, Wrote-append}
 use Rattle.game_io.specs.SourceState.{SourceState}
 use Rattle.game_io.specs.SinkState.{SinkState}
 use Rattle.game_orders.specs.declared.entry.Entry.{Entry as one_entry}
-use Rattle.game_orders.specs.declared.order.Order.{Order}
 use Rattle.order_packets.specs.declared.down.Down.{Down}
 use Rattle.order_packets.specs.declared.down.Down.TheVariants as down
 use Rattle.order_packets.specs.PacketReading.{FirstPacket, packet_at, down_at}
@@ -23,6 +22,7 @@ use Rattle.match_net.specs.declared.play_cause.PlayCause.{PlayCause}
 use Rattle.match_net.specs.declared.play_cause.PlayCause.TheVariants as cause
 use Rattle.match_net.specs.declared.play_end.PlayEnd.{PlayEnd}
 use Rattle.match_net.specs.declared.play_end.PlayEnd.TheVariants as end
+use Rattle.match_net.specs.Plays.{Plays}
 use Rattle.match_net.specs.Playing.{Course, Player, Stage, round, is_over}
 use Rattle.match_net.specs.Stages.{Terms, after_first}
 use Rattle.match_net.specs.Stages.{stop_of, stop_in}
@@ -298,57 +298,57 @@ fails_more first mid last said bytes had fails =
 
 -- What a player's acting says, by what it wrote. Nothing is left of what it wrote before.
 from_start :
-    {W : Type 0} (course : Course W) (script : List (List Order)) (player after : Player W)
+    {W : Type 0} (course : Course W) (plays : Plays W) (player after : Player W)
     (bytes start : List ℕ) → start ≡ [] →
     record { player = after; said = bytes }
-    ≡ round course script (record { player = player; said = start }) →
+    ≡ round course plays (record { player = player; said = start }) →
     record { player = after; said = bytes }
-    ≡ round course script (record { player = player; said = [] })
-from_start course script player after bytes start none is =
-    is ∙ ap (λ (b : List ℕ). round course script (record { player = player; said = b })) none
+    ≡ round course plays (record { player = player; said = [] })
+from_start course plays player after bytes start none is =
+    is ∙ ap (λ (b : List ℕ). round course plays (record { player = player; said = b })) none
 
 pub act_fails :
-    {W : Type 0} (course : Course W) (script : List (List Order)) (player after : Player W)
+    {W : Type 0} (course : Course W) (plays : Plays W) (player after : Player W)
     (bytes start written said : List ℕ) (first mid last : SinkState) (answer : PlayEnd)
     (found : Option PlayEnd) → start ≡ [] → written ≡ bytes →
     record { player = after; said = bytes }
-    ≡ round course script (record { player = player; said = start }) →
+    ≡ round course plays (record { player = player; said = start }) →
     found ≡ Some answer → PutMeans mid last written found → HasSaid first mid said →
-    ActMeans said (round course script (record { player = player; said = said })) after first last
+    ActMeans said (round course plays (record { player = player; said = said })) after first last
     (Some answer)
-act_fails {W = W} course script player after bytes start written said first mid last answer found
+act_fails {W = W} course plays player after bytes start written said first mid last answer found
     none same is some put had =
     by_answer answer
     (subst (λ (b : List ℕ). PutMeans mid last b (Some answer)) same
     (subst (PutMeans mid last written) some put))
   where
     by_answer : (answer : PlayEnd) → PutMeans mid last bytes (Some answer) →
-        ActMeans said (round course script (record { player = player; said = said })) after first
+        ActMeans said (round course plays (record { player = player; said = said })) after first
         last (Some answer)
     by_answer end.Over put = absurd put
     by_answer (end.Refused code) put = absurd put
     by_answer (end.BadLink at why) put = absurd put
     by_answer end.Lost put =
-        let now = from_start course script player after bytes start none is in
-        let moved = round_moves course script player after said bytes now in (
+        let now = from_start course plays player after bytes start none is in
+        let moved = round_moves course plays player after said bytes now in (
           moved.0,
           subst (FailsAfter first last said) (sym moved.1)
               (fails_more first mid last said bytes had put),
         )
 
 acts_on :
-    {W : Type 0} (course : Course W) (script : List (List Order)) (player after : Player W)
+    {W : Type 0} (course : Course W) (plays : Plays W) (player after : Player W)
     (bytes start written said : List ℕ) (first mid last : SinkState) (found : Option PlayEnd) →
     start ≡ [] → written ≡ bytes →
     record { player = after; said = bytes }
-    ≡ round course script (record { player = player; said = start }) →
+    ≡ round course plays (record { player = player; said = start }) →
     found ≡ None → PutMeans mid last written found → HasSaid first mid said →
-    (after ≡ (round course script (record { player = player; said = said })).player)
-    × HasSaid first last ((round course script (record { player = player; said = said })).said)
-acts_on course script player after bytes start written said first mid last found nothing same is
+    (after ≡ (round course plays (record { player = player; said = said })).player)
+    × HasSaid first last ((round course plays (record { player = player; said = said })).said)
+acts_on course plays player after bytes start written said first mid last found nothing same is
     none put had =
-    let now = from_start course script player after bytes start nothing is in
-    let moved = round_moves course script player after said bytes now in
+    let now = from_start course plays player after bytes start nothing is in
+    let moved = round_moves course plays player after said bytes now in
     let has : HasSaid mid last bytes
     = subst (HasSaid mid last) same (subst (PutMeans mid last written) none put) in (
       moved.0,
@@ -357,33 +357,33 @@ acts_on course script player after bytes start written said first mid last found
     )
 
 pub act_goes :
-    {W : Type 0} (course : Course W) (script : List (List Order)) (player after : Player W)
+    {W : Type 0} (course : Course W) (plays : Plays W) (player after : Player W)
     (bytes start written said : List ℕ) (first mid last : SinkState) (found : Option PlayEnd)
     (over : Bool) → start ≡ [] → written ≡ bytes →
     record { player = after; said = bytes }
-    ≡ round course script (record { player = player; said = start }) →
+    ≡ round course plays (record { player = player; said = start }) →
     found ≡ None → PutMeans mid last written found → over ≡ is_over after.peer → over ≡ false →
     HasSaid first mid said →
-    ActMeans said (round course script (record { player = player; said = said })) after first last
+    ActMeans said (round course plays (record { player = player; said = said })) after first last
     None
-act_goes course script player after bytes start written said first mid last found over nothing same
+act_goes course plays player after bytes start written said first mid last found over nothing same
     is none put decides goes had =
-    let went = acts_on course script player after bytes start written said first mid last found
+    let went = acts_on course plays player after bytes start written said first mid last found
     nothing same is none put had in
     (went.0, sym decides ∙ goes, went.1)
 
 pub act_ends :
-    {W : Type 0} (course : Course W) (script : List (List Order)) (player after : Player W)
+    {W : Type 0} (course : Course W) (plays : Plays W) (player after : Player W)
     (bytes start written said : List ℕ) (first mid last : SinkState) (found : Option PlayEnd)
     (over : Bool) → start ≡ [] → written ≡ bytes →
     record { player = after; said = bytes }
-    ≡ round course script (record { player = player; said = start }) →
+    ≡ round course plays (record { player = player; said = start }) →
     found ≡ None → PutMeans mid last written found → over ≡ is_over after.peer → over ≡ true →
     HasSaid first mid said →
-    ActMeans said (round course script (record { player = player; said = said })) after first last
+    ActMeans said (round course plays (record { player = player; said = said })) after first last
     (Some end.Over)
-act_ends course script player after bytes start written said first mid last found over nothing same
+act_ends course plays player after bytes start written said first mid last found over nothing same
     is none put decides ends had =
-    let went = acts_on course script player after bytes start written said first mid last found
+    let went = acts_on course plays player after bytes start written said first mid last found
     nothing same is none put had in
     (went.0, sym decides ∙ ends, went.1)

@@ -166,7 +166,7 @@ pub after_handling :
     (answer : Option PlayEnd) →
     (so_far : PlaySoFar terms old mid before first player fed) →
     NextMeans old now so_far.packets next_fed (next.Packet at packet) →
-    HandlingMeans terms.course terms.script (after_down player packet) player so_far.said at after
+    HandlingMeans terms.course terms.plays (after_down player packet) player so_far.said at after
     before later answer →
     AfterTurn terms old now before later after next_fed answer
 after_handling {W = W} terms old mid now before first later player after fed next_fed at packet answer
@@ -174,11 +174,11 @@ after_handling {W = W} terms old mid now before first later player after fed nex
     by_down (after_down player packet) refl handles
   where
     by_down : (d : Result (Player W) PlayCause) → after_down player packet ≡ d →
-        HandlingMeans terms.course terms.script d player so_far.said at after before later answer →
+        HandlingMeans terms.course terms.plays d player so_far.said at after before later answer →
         AfterTurn terms old now before later after next_fed answer
     by_down (Ok next_player) is acts =
         acted terms old now before later (so_far.packets ++ packet ∷ []) so_far.said
-        (round terms.course terms.script (record { player = next_player; said = so_far.said }))
+        (round terms.course terms.plays (record { player = next_player; said = so_far.said }))
         after next_fed answer found.0
         (after_one_more terms so_far.packets None
         (Some (record { player = player; said = so_far.said })) _ packet so_far.follows
@@ -380,7 +380,7 @@ begins {W = W} terms old now before later player fed client clients lag seed fit
       follows =
           rw fits (ap
           (λ (p : Player W). Ok
-          (Some (round terms.course terms.script
+          (Some (round terms.course terms.plays
           (record { player = p; said = greeting_bytes terms.rules })))) (sym is));
       wrote = said;
     }
@@ -394,7 +394,7 @@ pub turn_packet :
     ((packets : List Down) → InStream old mid packets fed →
     NextMeans old now packets next_fed found) →
     IfOk result (λ answer. (start : SinkState) (said : List ℕ) → HasSaid start first said →
-    HandlingMeans terms.course terms.script (after_down player packet) player said at after start later
+    HandlingMeans terms.course terms.plays (after_down player packet) player said at after start later
     answer) →
     OnErr result (later ≡ first) →
     PlaySoFar terms old mid before first player fed →
@@ -449,13 +449,13 @@ pub first_act :
     {W : Type 0} (terms : Terms W) (old now : SourceState) (before first later : SinkState)
     (player after : Player W) (fed : Fed) (answer : Option PlayEnd) →
     ((start : SinkState) (said : List ℕ) → HasSaid start first said →
-    ActMeans said (round terms.course terms.script (record { player = player; said = said })) after
+    ActMeans said (round terms.course terms.plays (record { player = player; said = said })) after
     start later answer) →
     PlayBegins terms old now before first player fed →
     AfterTurn terms old now before later after fed answer
 first_act terms old now before first later player after fed answer acts begins =
     acted terms old now before later begins.packets (greeting_bytes terms.rules)
-    (round terms.course terms.script
+    (round terms.course terms.plays
     (record { player = player; said = greeting_bytes terms.rules })) after fed answer
     begins.stream begins.follows
     (inr (record {
@@ -501,7 +501,7 @@ pub first_ended :
     (player after : Player W) (fed : Fed) (found : Option PlayEnd) (answer : PlayEnd) →
     found ≡ Some answer →
     ((start : SinkState) (said : List ℕ) → HasSaid start first said →
-    ActMeans said (round terms.course terms.script (record { player = player; said = said })) after
+    ActMeans said (round terms.course terms.plays (record { player = player; said = said })) after
     start later found) →
     PlayBegins terms old now before first player fed →
     PlaysTo terms old now before later (Some after) answer
@@ -513,7 +513,7 @@ pub first_goes :
     {W : Type 0} (terms : Terms W) (old now : SourceState) (before first later : SinkState)
     (player after : Player W) (fed : Fed) (found : Option PlayEnd) → found ≡ None →
     ((start : SinkState) (said : List ℕ) → HasSaid start first said →
-    ActMeans said (round terms.course terms.script (record { player = player; said = said })) after
+    ActMeans said (round terms.course terms.plays (record { player = player; said = said })) after
     start later found) →
     PlayBegins terms old now before first player fed →
     PlaySoFar terms old now before later after fed

@@ -1,7 +1,7 @@
 -- Ticks and seals, one after another.
 use Rattle.std.proofs.Common.{◌≡◌, ℕ, zero, suc, ◌+◌, ◌-◌, Bool, true, false, List, [], ◌++◌, refl}
 use Rattle.std.proofs.Common.{sym, ap, ◌∙◌, append_assoc, append-nil}
-use Rattle.std.specs.Prelude.{slice_index_or, nat_le, max, length}
+use Rattle.std.specs.Prelude.{nat_le, max}
 use Rattle.game_orders.specs.declared.order.Order.{Order}
 use Rattle.order_packets.specs.declared.up.Up.TheVariants.{Orders}
 use Rattle.order_packets.specs.PacketBytes.{up_bytes}
@@ -10,6 +10,7 @@ use Rattle.frame_core.specs.declared.ready.Ready.{Ready}
 use Rattle.frame_core.specs.declared.ready.Ready.TheVariants as ready
 use Rattle.peer_core.specs.Arrived.{ready_by}
 use Rattle.peer_core.specs.Peer.{ticked_peer}
+use Rattle.match_net.specs.Plays.{Plays}
 use Rattle.match_net.specs.Playing.{Course, Player, Stage, Telling, telling, stage_at, report_bytes}
 use Rattle.match_net.specs.Playing.{ticked_if, tick_once, ticks, all_ticked, RestsIf, sealed_bytes}
 use Rattle.match_net.specs.Playing.{may_seal, farewell_bytes, sealed_if, round}
@@ -53,26 +54,26 @@ unfolding ticks
 ticks_end more course quiet first now none so_far =
     sym (ap (λ (k : ℕ). ticks k course quiet now) none) ∙ so_far
 
--- A frame more of the script.
+-- A frame more that is sealed.
 pub sealed_step :
-    (script : List (List Order)) (n more rest : ℕ) (said now next : List ℕ) → more ≡ suc rest →
-    now ++ sealed_bytes script n more ≡ said → next
-    ≡ now ++ up_bytes (Orders n (slice_index_or script n [])) →
-    next ++ sealed_bytes script (n + 1) rest ≡ said
+    (play : ℕ → List Order) (n more rest : ℕ) (said now next : List ℕ) → more ≡ suc rest →
+    now ++ sealed_bytes play n more ≡ said → next
+    ≡ now ++ up_bytes (Orders n (play n)) →
+    next ++ sealed_bytes play (n + 1) rest ≡ said
 unfolding sealed_bytes
-sealed_step script n more rest said now next is so_far wrote =
-    ap (λ (b : List ℕ). b ++ sealed_bytes script (n + 1) rest) wrote
-    ∙ append_assoc now (up_bytes (Orders n (slice_index_or script n [])))
-    (sealed_bytes script (n + 1) rest)
-    ∙ ap (λ (k : ℕ). now ++ sealed_bytes script n k) (sym is)
+sealed_step play n more rest said now next is so_far wrote =
+    ap (λ (b : List ℕ). b ++ sealed_bytes play (n + 1) rest) wrote
+    ∙ append_assoc now (up_bytes (Orders n (play n)))
+    (sealed_bytes play (n + 1) rest)
+    ∙ ap (λ (k : ℕ). now ++ sealed_bytes play n k) (sym is)
     ∙ so_far
 
 pub sealed_end :
-    (script : List (List Order)) (n more : ℕ) (said now : List ℕ) → more ≡ 0 →
-    now ++ sealed_bytes script n more ≡ said → now ≡ said
+    (play : ℕ → List Order) (n more : ℕ) (said now : List ℕ) → more ≡ 0 →
+    now ++ sealed_bytes play n more ≡ said → now ≡ said
 unfolding sealed_bytes
-sealed_end script n more said now none so_far =
-    sym (append-nil now) ∙ ap (λ (k : ℕ). now ++ sealed_bytes script n k) (sym none) ∙ so_far
+sealed_end play n more said now none so_far =
+    sym (append-nil now) ∙ ap (λ (k : ℕ). now ++ sealed_bytes play n k) (sym none) ∙ so_far
 
 -- What was said before a tick stays before what it says.
 abbrev before : {W : Type 0} → List ℕ → Telling W → Telling W
@@ -105,45 +106,45 @@ abbrev stage_before : {W : Type 0} → List ℕ → Stage W → Stage W
 stage_before said now = record { player = now.player; said = said ++ now.said }
 
 seals_before :
-    {W : Type 0} (quiet : Bool) (script : List (List Order)) (sealed : ℕ) (said : List ℕ)
+    {W : Type 0} (quiet : Bool) (plays : Plays W) (sealed : ℕ) (said : List ℕ)
     (now : Telling W) →
-    sealed_if quiet script sealed (before said now)
-    ≡ stage_before said (sealed_if quiet script sealed now)
-seals_before true script sealed said now = refl
-seals_before {W = W} false script sealed said now =
-    let plays =
-    sealed_bytes script sealed (may_seal (length script) now.peer.ticked now.peer.lag -
+    sealed_if quiet plays sealed (before said now)
+    ≡ stage_before said (sealed_if quiet plays sealed now)
+seals_before true plays sealed said now = refl
+seals_before {W = W} false plays sealed said now =
+    let bytes =
+    sealed_bytes (plays.orders now.peer.world now.peer.me) sealed (may_seal (plays.frames) now.peer.ticked now.peer.lag -
     sealed) in
-    let bye = farewell_bytes (nat_le (length script) now.peer.ticked) in
+    let bye = farewell_bytes (nat_le (plays.frames) now.peer.ticked) in
     ap (λ (b : List ℕ). stage_at now.peer
-    (max sealed (may_seal (length script) now.peer.ticked now.peer.lag))
-    (nat_le (length script) now.peer.ticked) b)
-    (ap (λ (b : List ℕ). b ++ bye) (append_assoc said now.said plays)
-    ∙ append_assoc said (now.said ++ plays) bye)
+    (max sealed (may_seal (plays.frames) now.peer.ticked now.peer.lag))
+    (nat_le (plays.frames) now.peer.ticked) b)
+    (ap (λ (b : List ℕ). b ++ bye) (append_assoc said now.said bytes)
+    ∙ append_assoc said (now.said ++ bytes) bye)
 
 round_before :
-    {W : Type 0} (course : Course W) (script : List (List Order)) (player : Player W)
+    {W : Type 0} (course : Course W) (plays : Plays W) (player : Player W)
     (said : List ℕ) →
-    round course script (record { player = player; said = said })
-    ≡ stage_before said (round course script (record { player = player; said = [] }))
-round_before course script player said =
-    ap (λ (b : List ℕ). sealed_if player.quiet script player.sealed
+    round course plays (record { player = player; said = said })
+    ≡ stage_before said (round course plays (record { player = player; said = [] }))
+round_before course plays player said =
+    ap (λ (b : List ℕ). sealed_if player.quiet plays player.sealed
     (all_ticked course player.quiet (telling player.peer b))) (sym (append-nil said))
-    ∙ ap (sealed_if player.quiet script player.sealed) (ticks_before MAX_FRAMES course player.quiet
+    ∙ ap (sealed_if player.quiet plays player.sealed) (ticks_before MAX_FRAMES course player.quiet
     said (telling player.peer []))
-    ∙ seals_before player.quiet script player.sealed said
+    ∙ seals_before player.quiet plays player.sealed said
     (all_ticked course player.quiet (telling player.peer []))
 
 -- A round by what it says, after anything that was said before.
 pub round_moves :
-    {W : Type 0} (course : Course W) (script : List (List Order)) (player after : Player W)
+    {W : Type 0} (course : Course W) (plays : Plays W) (player after : Player W)
     (said bytes : List ℕ) →
     record { player = after; said = bytes }
-    ≡ round course script (record { player = player; said = [] }) →
-    (after ≡ (round course script (record { player = player; said = said })).player)
-    × ((round course script (record { player = player; said = said })).said ≡ said ++ bytes)
-round_moves {W = W} course script player after said bytes is =
-    let all : round course script (record { player = player; said = said })
+    ≡ round course plays (record { player = player; said = [] }) →
+    (after ≡ (round course plays (record { player = player; said = said })).player)
+    × ((round course plays (record { player = player; said = said })).said ≡ said ++ bytes)
+round_moves {W = W} course plays player after said bytes is =
+    let all : round course plays (record { player = player; said = said })
     ≡ stage_before said (record { player = after; said = bytes })
-    = round_before course script player said ∙ ap (stage_before said) (sym is) in
+    = round_before course plays player said ∙ ap (stage_before said) (sym is) in
     (ap (λ (s : Stage W). s.player) (sym all), ap (λ (s : Stage W). s.said) all)

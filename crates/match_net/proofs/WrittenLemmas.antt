@@ -6,6 +6,7 @@ use Rattle.std.proofs.Common.{append-nil}
 use Rattle.std.specs.Prelude.{if◌then◌else◌, nat_le, min, max, ◌⊎◌}
 use Rattle.std.proofs.lemmas.Bool.Decides.{nat_tests}
 use Rattle.base.specs.Steps.{◌>>=◌}
+use Rattle.game_orders.specs.declared.order.Order.{Order}
 use Rattle.game_orders.specs.declared.entry.Entry.{Entry as one_entry}
 use Rattle.game_orders.specs.declared.entry.Entry.TheVariants.{Play, Leave}
 use Rattle.game_orders.specs.declared.limits.TheConstants.{MAX_FRAMES}
@@ -35,7 +36,8 @@ use Rattle.match_net.specs.Playing.{ticks, all_ticked, sealed_bytes, may_seal, f
 use Rattle.match_net.specs.Playing.{sealed_if, round, after_receipt}
 use Rattle.match_net.specs.Stages.{Terms, is_match, welcomed, greeting_bytes, after_down}
 use Rattle.match_net.specs.Stages.{after_later, after_packets}
-use Rattle.match_net.specs.WritesInTurn.{ups_bytes, count_orders, count_reports, hash_after}
+use Rattle.match_net.specs.WritesInTurn.{ups_bytes, count_orders, count_reports, world_after}
+use Rattle.match_net.specs.WritesInTurn.{hash_after, orders_by}
 use Rattle.match_net.specs.WritesInTurn.{IsInTurn, WritesInTurn}
 use Rattle.match_net.proofs.FoldLemmas.{IsSteady, steady_tick, entry_of, keeps, ready_stays}
 use Rattle.match_net.proofs.FoldLemmas.{Follows, follows_so, followed, goes_round}
@@ -117,27 +119,28 @@ silent_tick terms start clients first said t is silent =
     }
 
 -- Ticks of a player that writes: it has written this, which leads to the ticked frames.
-record Tells {W : Type 0} (terms : Terms W) (start : W) (clients lag sealed : ℕ)
+record Tells {W : Type 0} (terms : Terms W) (start : W) (client clients lag sealed : ℕ)
     (first : PeerState W) (t : Telling W) : Type 0 where
   pub stays : Stays terms start clients first t.peer
   pub written : List Up
   pub said : t.said ≡ greeting_bytes terms.rules ++ ups_bytes written
-  pub leads : Leads terms.script lag (hash_after terms start clients first.arrived) 0 0 written
-      t.peer.ticked sealed
+  pub leads : Leads terms.plays.frames (orders_by terms start client clients first.arrived) lag
+      (hash_after terms start clients first.arrived) 0 0 written t.peer.ticked sealed
 
 tells_tick :
-    {W : Type 0} (terms : Terms W) (start : W) (clients lag sealed : ℕ) (first : PeerState W)
-    (t : Telling W) →
+    {W : Type 0} (terms : Terms W) (start : W) (client clients lag sealed : ℕ)
+    (first : PeerState W) (t : Telling W) →
     ready_by t.peer.arrived t.peer.clients t.peer.ticked ≡ ready.Yes →
-    Tells terms start clients lag sealed first t →
-    Tells terms start clients lag sealed first (ticked_if ready.Yes terms.course false t)
-tells_tick {W = W} terms start clients lag sealed first t is tells =
+    Tells terms start client clients lag sealed first t →
+    Tells terms start client clients lag sealed first (ticked_if ready.Yes terms.course false t)
+tells_tick {W = W} terms start client clients lag sealed first t is tells =
     record {
       stays = next;
       written = tells.written ++ sync ∷ [];
       said = said_then (greeting_bytes terms.rules) t.said (up_bytes sync) tells.written
           (sync ∷ []) tells.said (sym (append-nil (up_bytes sync)));
-      leads = leads_then terms.script lag (hash_after terms start clients first.arrived) 0 0
+      leads = leads_then terms.plays.frames (orders_by terms start client clients first.arrived)
+          lag (hash_after terms start clients first.arrived) 0 0
           t.peer.ticked sealed (ticked_peer terms.course.after t.peer).ticked sealed tells.written
           (sync ∷ []) tells.leads (refl, sum, (count, refl));
     }
@@ -169,21 +172,22 @@ pub record IsWriting {W : Type 0} (terms : Terms W) (start : W) (client clients 
   pub reported : ℕ
   pub sealed : ℕ
   pub said_is : now.said ≡ greeting_bytes terms.rules ++ ups_bytes (written ++ last)
-  pub leads : Leads terms.script lag
+  pub leads : Leads terms.plays.frames
+      (orders_by terms start client clients now.player.peer.arrived) lag
       (hash_after terms start clients now.player.peer.arrived) 0 0 written reported sealed
   pub below : reported ≤ now.player.peer.ticked
-  pub ends : (last ≡ []) ⊎ ((last ≡ Bye ∷ []) × (length terms.script ≤ reported))
+  pub ends : (last ≡ []) ⊎ ((last ≡ Bye ∷ []) × (terms.plays.frames ≤ reported))
   pub going : now.player.quiet ≡ false →
       (last ≡ []) × (reported ≡ now.player.peer.ticked) × (sealed ≡ now.player.sealed)
-      × (sealed ≤ length terms.script) × (sealed ≤ now.player.peer.ticked + lag)
+      × (sealed ≤ terms.plays.frames) × (sealed ≤ now.player.peer.ticked + lag)
 
 -- One that has done what it can.
 pub record IsRounded {W : Type 0} (terms : Terms W) (client clients lag : ℕ) (start : W)
     (now : Stage W) : Type 0 where
   pub writing : IsWriting terms start client clients lag now
   pub full : now.player.quiet ≡ false →
-      now.player.sealed ≡ min (length terms.script) (now.player.peer.ticked + lag)
-  pub done : length terms.script ≤ now.player.peer.ticked → now.player.quiet ≡ true
+      now.player.sealed ≡ min (terms.plays.frames) (now.player.peer.ticked + lag)
+  pub done : terms.plays.frames ≤ now.player.peer.ticked → now.player.quiet ≡ true
 
 -- Hashes by what arrived.
 hashes_by :
@@ -197,7 +201,7 @@ silent_round :
     {W : Type 0} (terms : Terms W) (start : W) (client clients lag : ℕ) (now : Stage W) →
     now.player.quiet ≡ true → IsWriting terms start client clients lag now →
     IsRounded terms client clients lag start
-    (sealed_if true terms.script now.player.sealed
+    (sealed_if true terms.plays now.player.sealed
     (all_ticked terms.course true (telling now.player.peer now.said)))
 silent_round {W = W} terms start client clients lag now quiet writing =
     record {
@@ -210,7 +214,8 @@ silent_round {W = W} terms start client clients lag now quiet writing =
         reported = writing.reported;
         sealed = writing.sealed;
         said_is = silent.same ∙ writing.said_is;
-        leads = subst (λ (xs : List Arrived). Leads terms.script lag
+        leads = subst (λ (xs : List Arrived). Leads terms.plays.frames
+            (orders_by terms start client clients xs) lag
             (hash_after terms start clients xs) 0 0 writing.written writing.reported
             writing.sealed) (sym silent.stays.arrived) writing.leads;
         below = let a = writing.below in let b = silent.stays.more in omega (arith, a, b);
@@ -278,7 +283,7 @@ writing_round :
     {W : Type 0} (terms : Terms W) (start : W) (client clients lag : ℕ) (now : Stage W) →
     now.player.quiet ≡ false → IsWriting terms start client clients lag now →
     IsRounded terms client clients lag start
-    (sealed_if false terms.script now.player.sealed
+    (sealed_if false terms.plays now.player.sealed
     (all_ticked terms.course false (telling now.player.peer now.said)))
 writing_round {W = W} terms start client clients lag now quiet writing =
     record {
@@ -291,35 +296,38 @@ writing_round {W = W} terms start client clients lag now quiet writing =
         reported = all.peer.ticked;
         sealed = upto;
         said_is = said_then (greeting_bytes terms.rules)
-            (all.said ++ sealed_bytes terms.script sealed (upto - sealed)) (farewell_bytes says)
+            (all.said ++ sealed_bytes (terms.plays.orders all.peer.world all.peer.me) sealed
+            (upto - sealed)) (farewell_bytes says)
             (tells.written ++ plays.packets) (farewell says)
             (said_then (greeting_bytes terms.rules) all.said
-            (sealed_bytes terms.script sealed (upto - sealed)) tells.written plays.packets
-            tells.said plays.bytes) (farewell_is says);
-        leads = subst (λ (xs : List Arrived). Leads terms.script lag
+            (sealed_bytes (terms.plays.orders all.peer.world all.peer.me) sealed (upto - sealed)) tells.written plays.packets
+            tells.said (ap (λ (p : ℕ → List Order). sealed_bytes p sealed (upto - sealed))
+            same_orders ∙ plays.bytes)) (farewell_is says);
+        leads = subst (λ (xs : List Arrived). Leads terms.plays.frames
+            (orders_by terms start client clients xs) lag
             (hash_after terms start clients xs) 0 0 (tells.written ++ plays.packets)
             all.peer.ticked upto) (sym tells.stays.arrived)
-            (leads_then terms.script lag hash 0 0 all.peer.ticked sealed all.peer.ticked upto
+            (leads_then terms.plays.frames play lag hash 0 0 all.peer.ticked sealed all.peer.ticked upto
             tells.written plays.packets tells.leads
-            (subst (λ (n : ℕ). Leads terms.script lag hash all.peer.ticked sealed plays.packets
+            (subst (λ (n : ℕ). Leads terms.plays.frames play lag hash all.peer.ticked sealed plays.packets
             all.peer.ticked n) here plays.leads));
         below = omega arith;
-        ends = farewell_ends (length terms.script) all.peer.ticked says refl;
+        ends = farewell_ends (terms.plays.frames) all.peer.ticked says refl;
         going = λ no. (
           farewell_not says no,
           refl,
           sym most,
-          least_len (length terms.script) (all.peer.ticked + all.peer.lag),
+          least_len (terms.plays.frames) (all.peer.ticked + all.peer.lag),
           subst (λ (k : ℕ). upto ≤ all.peer.ticked + k) lag_is
-              (least_ahead (length terms.script) (all.peer.ticked + all.peer.lag)),
+              (least_ahead (terms.plays.frames) (all.peer.ticked + all.peer.lag)),
         );
       };
-      full = λ no. most ∙ ap (λ (k : ℕ). min (length terms.script) (all.peer.ticked + k)) lag_is;
+      full = λ no. most ∙ ap (λ (k : ℕ). min (terms.plays.frames) (all.peer.ticked + k)) lag_is;
       done = λ most_ticked. grind (arith, nat_tests, most_ticked);
     }
   where
     open_so : (writing.last ≡ []) × (writing.reported ≡ now.player.peer.ticked)
-        × (writing.sealed ≡ now.player.sealed) × (writing.sealed ≤ length terms.script)
+        × (writing.sealed ≡ now.player.sealed) × (writing.sealed ≤ terms.plays.frames)
         × (writing.sealed ≤ now.player.peer.ticked + lag)
     open_so = writing.going quiet
 
@@ -329,13 +337,16 @@ writing_round {W = W} terms start client clients lag now quiet writing =
     hash : ℕ → ℕ
     hash = hash_after terms start clients now.player.peer.arrived
 
+    play : ℕ → ℕ → List Order
+    play = orders_by terms start client clients now.player.peer.arrived
+
     all : Telling W
     all = all_ticked terms.course false (telling now.player.peer now.said)
 
-    tells : Tells terms start clients lag sealed now.player.peer all
+    tells : Tells terms start client clients lag sealed now.player.peer all
     tells =
-        ticks_tell (Tells terms start clients lag sealed now.player.peer) terms.course false
-        (λ t is holds. tells_tick terms start clients lag sealed now.player.peer t is holds)
+        ticks_tell (Tells terms start client clients lag sealed now.player.peer) terms.course false
+        (λ t is holds. tells_tick terms start client clients lag sealed now.player.peer t is holds)
         MAX_FRAMES (telling now.player.peer now.said) (record {
           stays = record {
             steady = writing.steady;
@@ -350,21 +361,31 @@ writing_round {W = W} terms start client clients lag now quiet writing =
               greeting_bytes terms.rules ++ ups_bytes (writing.written ++ ps)) open_so.0
               ∙ ap (λ (ps : List Up). greeting_bytes terms.rules ++ ups_bytes ps)
               (append-nil writing.written);
-          leads = subst (λ (n : ℕ). Leads terms.script lag hash 0 0 writing.written n sealed)
-              open_so.1 (subst (λ (n : ℕ). Leads terms.script lag hash 0 0 writing.written
+          leads = subst (λ (n : ℕ). Leads terms.plays.frames play lag hash 0 0 writing.written n sealed)
+              open_so.1 (subst (λ (n : ℕ). Leads terms.plays.frames play lag hash 0 0 writing.written
               writing.reported n) open_so.2 writing.leads);
         })
 
     lag_is : all.peer.lag ≡ lag
     lag_is = tells.stays.lag ∙ writing.lag_is
 
+    same_world : all.peer.world
+        ≡ world_after terms start clients now.player.peer.arrived all.peer.ticked
+    same_world = tells.stays.steady.world
+        ∙ ap (λ (xs : List Arrived). world_after terms start clients xs all.peer.ticked)
+        tells.stays.arrived
+
+    same_orders : terms.plays.orders all.peer.world all.peer.me ≡ play all.peer.ticked
+    same_orders = ap₂ (λ (w : W) (c : ℕ). terms.plays.orders w c) same_world
+        (tells.stays.me ∙ writing.me_is)
+
     upto : ℕ
-    upto = may_seal (length terms.script) all.peer.ticked all.peer.lag
+    upto = may_seal (terms.plays.frames) all.peer.ticked all.peer.lag
 
     says : Bool
-    says = nat_le (length terms.script) all.peer.ticked
+    says = nat_le (terms.plays.frames) all.peer.ticked
 
-    within : sealed ≤ length terms.script
+    within : sealed ≤ terms.plays.frames
     within = let a = open_so.2 in let b = open_so.3 in omega (arith, a, b)
 
     near : sealed ≤ all.peer.ticked + all.peer.lag
@@ -376,30 +397,30 @@ writing_round {W = W} terms start client clients lag now quiet writing =
         omega (arith, a, b, d, e)
 
     here : sealed + (upto - sealed) ≡ upto
-    here = up_to sealed (length terms.script) (all.peer.ticked + all.peer.lag) within near
+    here = up_to sealed (terms.plays.frames) (all.peer.ticked + all.peer.lag) within near
 
     most : max sealed upto ≡ upto
-    most = most_of sealed (length terms.script) (all.peer.ticked + all.peer.lag) within near
+    most = most_of sealed (terms.plays.frames) (all.peer.ticked + all.peer.lag) within near
 
-    plays : Seals terms.script lag hash all.peer.ticked sealed (upto - sealed)
+    plays : Seals terms.plays.frames play lag hash all.peer.ticked sealed (upto - sealed)
     plays =
-        seals terms.script lag hash all.peer.ticked sealed (upto - sealed)
-        (subst (λ (n : ℕ). n ≤ length terms.script) (sym here)
-        (least_len (length terms.script) (all.peer.ticked + all.peer.lag)))
+        seals terms.plays.frames play lag hash all.peer.ticked sealed (upto - sealed)
+        (subst (λ (n : ℕ). n ≤ terms.plays.frames) (sym here)
+        (least_len (terms.plays.frames) (all.peer.ticked + all.peer.lag)))
         (subst (λ (n : ℕ). n ≤ all.peer.ticked + lag) (sym here)
         (subst (λ (k : ℕ). upto ≤ all.peer.ticked + k) lag_is
-        (least_ahead (length terms.script) (all.peer.ticked + all.peer.lag))))
+        (least_ahead (terms.plays.frames) (all.peer.ticked + all.peer.lag))))
 
 -- Any round.
 rounds_so :
     {W : Type 0} (terms : Terms W) (start : W) (client clients lag : ℕ) (now : Stage W) →
     IsWriting terms start client clients lag now →
-    IsRounded terms client clients lag start (round terms.course terms.script now)
+    IsRounded terms client clients lag start (round terms.course terms.plays now)
 rounds_so {W = W} terms start client clients lag now writing = by now.player.quiet refl
   where
     by : (quiet : Bool) → now.player.quiet ≡ quiet →
         IsRounded terms client clients lag start
-        (sealed_if quiet terms.script now.player.sealed
+        (sealed_if quiet terms.plays now.player.sealed
         (all_ticked terms.course quiet (telling now.player.peer now.said)))
     by true is = silent_round terms start client clients lag now is writing
     by false is = writing_round terms start client clients lag now is writing
@@ -515,9 +536,15 @@ follows_writing {W = W} terms start client clients lag packet player next said w
       reported = writing.reported;
       sealed = writing.sealed;
       said_is = writing.said_is;
-      leads = leads_same terms.script lag (hash_after terms start clients player.peer.arrived)
+      leads = leads_same terms.plays.frames
+          (orders_by terms start client clients player.peer.arrived)
+          (orders_by terms start client clients next.peer.arrived) lag
+          (hash_after terms start clients player.peer.arrived)
           (hash_after terms start clients next.peer.arrived) 0 0 writing.reported writing.sealed
-          writing.written same writing.leads;
+          writing.written
+          (λ k n most. ap (λ (w : W). terms.plays.orders w client n) (worlds k most))
+          (λ n before. ap terms.course.hash (worlds (n + 1) (omega (arith, before))))
+          writing.leads;
       below = subst (λ (n : ℕ). writing.reported ≤ n) (sym ticked) writing.below;
       ends = writing.ends;
       going = λ no. by player.quiet refl no;
@@ -532,19 +559,18 @@ follows_writing {W = W} terms start client clients lag packet player next said w
     ticked : next.peer.ticked ≡ player.peer.ticked
     ticked = ap (λ (p : PeerState W). p.ticked) goes.peer_is
 
-    same : (n : ℕ) → n < writing.reported →
-        hash_after terms start clients player.peer.arrived n
-        ≡ hash_after terms start clients next.peer.arrived n
-    same n before =
-        ap terms.course.hash (folded_same terms.course.after start
-        (λ k. frame_by player.peer.arrived clients k)
-        (λ k. frame_by next.peer.arrived clients k) (n + 1) (λ k below.
-        sym (frames_follow terms.course.after start clients k packet player next goes
-        writing.steady (let most = writing.below in omega (arith, below, before, most)))))
+    worlds : (k : ℕ) → k ≤ writing.reported →
+        world_after terms start clients player.peer.arrived k
+        ≡ world_after terms start clients next.peer.arrived k
+    worlds k most =
+        folded_same terms.course.after start (λ j. frame_by player.peer.arrived clients j)
+        (λ j. frame_by next.peer.arrived clients j) k (λ j below.
+        sym (frames_follow terms.course.after start clients j packet player next goes
+        writing.steady (let more = writing.below in omega (arith, below, most, more))))
 
     Open : Type 0
     Open = (writing.last ≡ []) × (writing.reported ≡ next.peer.ticked)
-        × (writing.sealed ≡ next.sealed) × (writing.sealed ≤ length terms.script)
+        × (writing.sealed ≡ next.sealed) × (writing.sealed ≤ terms.plays.frames)
         × (writing.sealed ≤ next.peer.ticked + lag)
 
     by : (quiet : Bool) → player.quiet ≡ quiet → next.quiet ≡ false → Open
@@ -629,31 +655,31 @@ welcomed_rounded {W = W} terms client clients lag seed packets now follows =
         }
 
     by : (fits : Bool) →
-        ((if fits then Ok (round terms.course terms.script fresh)
+        ((if fits then Ok (round terms.course terms.plays fresh)
         else Err (stop.Bad cause.BadWelcome))
         >>= λ next. after_packets terms (Some next) packets) ≡ Ok (Some now) →
         IsRounded terms client clients lag start now
     by true rest =
-        all_rounded terms start client clients lag (round terms.course terms.script fresh) now
+        all_rounded terms start client clients lag (round terms.course terms.plays fresh) now
         packets (rounds_so terms start client clients lag fresh new) rest
     by false rest = absurd cc
 
 -- What such a player has written, as the law says it.
 pub written_in_turn :
     {W : Type 0} (terms : Terms W) (start : W) (client clients lag : ℕ) (now : Stage W) →
-    IsRounded terms client clients lag start now → WritesInTurn terms start clients lag now
+    IsRounded terms client clients lag start now → WritesInTurn terms start client clients lag now
 written_in_turn {W = W} terms start client clients lag now rounded =
     record {
       written = so.written ++ so.last;
       said_is = so.said_is;
       in_turn = turn;
       ahead = λ front back is.
-          let all = in_turn_ahead terms.script lag hash 0 0 front back (omega arith)
-          (subst (λ (ps : List Up). IsInTurn terms.script lag hash 0 0 ps) is turn) in
+          let all = in_turn_ahead terms.plays.frames play lag hash 0 0 front back (omega arith)
+          (subst (λ (ps : List Up). IsInTurn terms.plays.frames play lag hash 0 0 ps) is turn) in
           omega (arith, all);
       whole = λ no.
           let open_so = so.going no in
-          let counts = leads_counts terms.script lag hash 0 0 so.reported so.sealed so.written
+          let counts = leads_counts terms.plays.frames play lag hash 0 0 so.reported so.sealed so.written
           so.leads in
           let same : so.written ++ so.last ≡ so.written =
           ap (λ (ps : List Up). so.written ++ ps) open_so.0 ∙ append-nil so.written in
@@ -670,26 +696,29 @@ written_in_turn {W = W} terms start client clients lag now rounded =
     hash : ℕ → ℕ
     hash = hash_after terms start clients now.player.peer.arrived
 
+    play : ℕ → ℕ → List Order
+    play = orders_by terms start client clients now.player.peer.arrived
+
     ended : (last : List Up) →
-        (last ≡ []) ⊎ ((last ≡ Bye ∷ []) × (length terms.script ≤ so.reported)) →
-        IsInTurn terms.script lag hash so.reported so.sealed last
+        (last ≡ []) ⊎ ((last ≡ Bye ∷ []) × (terms.plays.frames ≤ so.reported)) →
+        IsInTurn terms.plays.frames play lag hash so.reported so.sealed last
     ended last (inl none) =
-        subst (λ (ps : List Up). IsInTurn terms.script lag hash so.reported so.sealed ps)
+        subst (λ (ps : List Up). IsInTurn terms.plays.frames play lag hash so.reported so.sealed ps)
         (sym none) tt
     ended last (inr bye) =
-        subst (λ (ps : List Up). IsInTurn terms.script lag hash so.reported so.sealed ps)
+        subst (λ (ps : List Up). IsInTurn terms.plays.frames play lag hash so.reported so.sealed ps)
         (sym bye.0) (bye.1, refl)
 
-    turn : IsInTurn terms.script lag hash 0 0 (so.written ++ so.last)
+    turn : IsInTurn terms.plays.frames play lag hash 0 0 (so.written ++ so.last)
     turn =
-        leads_in_turn terms.script lag hash 0 0 so.reported so.sealed so.written so.last so.leads
+        leads_in_turn terms.plays.frames play lag hash 0 0 so.reported so.sealed so.written so.last so.leads
         (ended so.last so.ends)
 
 pub writes_in_turn :
     {W : Type 0} (terms : Terms W) (client clients lag seed : ℕ) (packets : List Down)
     (now : Stage W) →
     after_packets terms None (down.Welcome client clients lag seed ∷ packets) ≡ Ok (Some now) →
-    WritesInTurn terms (terms.made seed clients) clients lag now
+    WritesInTurn terms (terms.made seed clients) client clients lag now
 writes_in_turn terms client clients lag seed packets now follows =
     written_in_turn terms (terms.made seed clients) client clients lag now
     (welcomed_rounded terms client clients lag seed packets now follows)
@@ -704,15 +733,15 @@ silent_ticks {W = W} more course now =
 
 stays_silent :
     {W : Type 0} (terms : Terms W) (now : Stage W) → now.player.quiet ≡ true →
-    ((round terms.course terms.script now).said ≡ now.said)
-    × ((round terms.course terms.script now).player.quiet ≡ true)
+    ((round terms.course terms.plays now).said ≡ now.said)
+    × ((round terms.course terms.plays now).player.quiet ≡ true)
 stays_silent {W = W} terms now quiet = by now.player.quiet quiet
   where
     Same : Bool → Type 0
     Same quiet =
-        ((sealed_if quiet terms.script now.player.sealed
+        ((sealed_if quiet terms.plays now.player.sealed
         (all_ticked terms.course quiet (telling now.player.peer now.said))).said ≡ now.said)
-        × ((sealed_if quiet terms.script now.player.sealed
+        × ((sealed_if quiet terms.plays now.player.sealed
         (all_ticked terms.course quiet (telling now.player.peer now.said))).player.quiet ≡ true)
 
     by : (quiet : Bool) → quiet ≡ true → Same quiet
@@ -747,7 +776,7 @@ pub silent_finished :
     {W : Type 0} (terms : Terms W) (client clients lag seed : ℕ) (packets later : List Down)
     (mid now : Stage W) →
     after_packets terms None (down.Welcome client clients lag seed ∷ packets) ≡ Ok (Some mid) →
-    length terms.script ≤ mid.player.peer.ticked →
+    terms.plays.frames ≤ mid.player.peer.ticked →
     after_packets terms (Some mid) later ≡ Ok (Some now) → now.said ≡ mid.said
 silent_finished terms client clients lag seed packets later mid now follows ticked more =
     silent_rest terms mid now later

@@ -7,6 +7,7 @@ pub mod ReadSoFar
 pub mod Sessions
 pub mod Sending
 pub mod SenderSession
+pub mod Plays
 pub mod Playing
 pub mod Stages
 pub mod Downward

@@ -6,7 +6,6 @@ use Rattle.base.specs.Cause.{Increased}
 use Rattle.base.specs.Written.{Wrote, WrotePrefix}
 use Rattle.game_io.specs.SourceState.{SourceState}
 use Rattle.game_io.specs.SinkState.{SinkState}
-use Rattle.game_orders.specs.declared.order.Order.{Order}
 use Rattle.order_packets.specs.declared.down.Down.{Down}
 use Rattle.order_packets.specs.PacketReading.{FirstPacket}
 use Rattle.order_packets.specs.Feed.{Fed}
@@ -18,6 +17,7 @@ use Rattle.match_net.specs.declared.play_end.PlayEnd.{PlayEnd}
 use Rattle.match_net.specs.declared.play_end.PlayEnd.TheVariants as end
 use Rattle.match_net.specs.Taking.{NoneLeft}
 use Rattle.match_net.specs.Downward.{InStream, Finds}
+use Rattle.match_net.specs.Plays.{Plays}
 use Rattle.match_net.specs.Playing.{Course, Player, Stage, round, is_over}
 use Rattle.match_net.specs.Stages.{Terms, after_packets, stop_at, stop_in, said_by, player_of}
 use Rattle.match_net.specs.Stages.{greeting_bytes}
@@ -139,7 +139,7 @@ pub record PlayBegins {W : Type 0} (terms : Terms W) (old now : SourceState)
   pub first : (packet : Down) × (packets ≡ packet ∷ [])
   pub follows :
       after_packets terms None packets
-      ≡ Ok (Some (round terms.course terms.script
+      ≡ Ok (Some (round terms.course terms.plays
       (record { player = player; said = greeting_bytes terms.rules })))
   pub wrote : HasSaid before after (greeting_bytes terms.rules)
 
@@ -193,10 +193,10 @@ ActMeans said next player before after (Some end.Lost) =
 -- What a packet after the first one leaves, by what it makes of the player: it acts on, or the
 -- match ends.
 abbrev pub HandlingMeans :
-    {W : Type 0} → Course W → List (List Order) → Result (Player W) PlayCause → Player W →
+    {W : Type 0} → Course W → Plays W → Result (Player W) PlayCause → Player W →
     List ℕ → ℕ → Player W → SinkState → SinkState → Option PlayEnd → Type 0
-HandlingMeans course script (Ok mid) old said at new before after answer =
-    ActMeans said (round course script (record { player = mid; said = said })) new before after
+HandlingMeans course plays (Ok mid) old said at new before after answer =
+    ActMeans said (round course plays (record { player = mid; said = said })) new before after
     answer
-HandlingMeans course script (Err why) old said at new before after answer =
+HandlingMeans course plays (Err why) old said at new before after answer =
     (answer ≡ Some (end.BadLink at why)) × (new ≡ old) × HasSaid before after said

@@ -2,7 +2,7 @@
 use Rattle.std.specs.Prelude.{◌≡◌, ℕ, zero, suc, ◌+◌, ◌-◌, ◌==◌, ◌&&◌, ◌||◌, nat_lt, nat_le}
 use Rattle.std.specs.Prelude.{min, max, not}
 use Rattle.std.specs.Prelude.{if◌then◌else◌, Bool, true, false, List, [], ◌++◌, length}
-use Rattle.std.specs.Prelude.{slice_index_or, Option, Some, None, Result, Ok, Err}
+use Rattle.std.specs.Prelude.{Option, Some, None, Result, Ok, Err}
 use Rattle.game_orders.specs.declared.order.Order.{Order}
 use Rattle.game_orders.specs.declared.entry.Entry.{Entry as one_entry}
 use Rattle.game_orders.specs.declared.limits.TheConstants.{MAX_FRAMES}
@@ -19,6 +19,7 @@ use Rattle.peer_core.specs.Peer.{PeerState, ticked_peer, delivered_peer}
 use Rattle.peer_core.specs.Receipt.{receipt_of}
 use Rattle.match_net.specs.declared.play_cause.PlayCause.{PlayCause}
 use Rattle.match_net.specs.declared.play_cause.PlayCause.TheVariants as cause
+use Rattle.match_net.specs.Plays.{Plays}
 
 -- How worlds go on: the one after a frame, and the hash of each.
 pub record Course (W : Type 0) : Type 0 where
@@ -68,23 +69,22 @@ ticks (suc more) course quiet now = ticks more course quiet (tick_once course qu
 abbrev pub all_ticked : {W : Type 0} → Course W → Bool → Telling W → Telling W
 all_ticked course quiet now = ticks MAX_FRAMES course quiet now
 
--- The plays of so many frames of a script, from this one on.
-unfoldable pub sealed_bytes : List (List Order) → ℕ → ℕ → List ℕ
-sealed_bytes script n zero = []
-sealed_bytes script n (suc more) =
-    up_bytes (Orders n (slice_index_or script n [])) ++ sealed_bytes script (n + 1) more
+-- The plays of so many frames, from this one on: each with the orders of its number.
+unfoldable pub sealed_bytes : (ℕ → List Order) → ℕ → ℕ → List ℕ
+sealed_bytes play n zero = []
+sealed_bytes play n (suc more) = up_bytes (Orders n (play n)) ++ sealed_bytes play (n + 1) more
 
--- How many frames of a script may be sealed: no more than its lag after the ticked ones.
+-- How many of its frames a player may seal: no more than its lag after the ticked ones.
 abbrev pub may_seal : ℕ → ℕ → ℕ → ℕ
 may_seal frames ticked lag = min frames (ticked + lag)
 
--- The farewell is written once every frame of the script was ticked.
+-- The farewell is written once every frame that the player plays was ticked.
 abbrev pub farewell_bytes : Bool → List ℕ
 farewell_bytes true = up_bytes Bye
 farewell_bytes false = []
 
--- A player: its peer, how many frames of its script it has sealed, and whether it writes no more,
--- since it has said farewell or its own departure has come.
+-- A player: its peer, how many of its frames it has sealed, and whether it writes no more, since it
+-- has said farewell or its own departure has come.
 pub record Player (W : Type 0) : Type 0 where
   pub peer : PeerState W
   pub sealed : ℕ
@@ -101,28 +101,28 @@ player_at peer sealed quiet = record { peer = peer; sealed = sealed; quiet = qui
 abbrev pub stage_at : {W : Type 0} → PeerState W → ℕ → Bool → List ℕ → Stage W
 stage_at peer sealed quiet said = record { player = player_at peer sealed quiet; said = said }
 
--- After the ticks, by whether the player writes no more: the frames that it may seal, and then
--- perhaps its farewell.
-abbrev pub sealed_if : {W : Type 0} → Bool → List (List Order) → ℕ → Telling W → Stage W
-sealed_if true script sealed now =
+-- After the ticks, by whether the player writes no more: the frames that it may seal, each with the
+-- orders by the world that it holds now, and then perhaps its farewell.
+abbrev pub sealed_if : {W : Type 0} → Bool → Plays W → ℕ → Telling W → Stage W
+sealed_if true plays sealed now =
     record { player = record { peer = now.peer; sealed = sealed; quiet = true }; said = now.said }
-sealed_if false script sealed now =
+sealed_if false plays sealed now =
     record {
       player = record {
         peer = now.peer;
-        sealed = max sealed (may_seal (length script) now.peer.ticked now.peer.lag);
-        quiet = nat_le (length script) now.peer.ticked;
+        sealed = max sealed (may_seal plays.frames now.peer.ticked now.peer.lag);
+        quiet = nat_le plays.frames now.peer.ticked;
       };
       said = now.said
-          ++ sealed_bytes script sealed
-          (may_seal (length script) now.peer.ticked now.peer.lag - sealed)
-          ++ farewell_bytes (nat_le (length script) now.peer.ticked);
+          ++ sealed_bytes (plays.orders now.peer.world now.peer.me) sealed
+          (may_seal plays.frames now.peer.ticked now.peer.lag - sealed)
+          ++ farewell_bytes (nat_le plays.frames now.peer.ticked);
     }
 
 -- What a player does after each packet: it ticks, and writes, as far as it can.
-abbrev pub round : {W : Type 0} → Course W → List (List Order) → Stage W → Stage W
-round course script now =
-    sealed_if now.player.quiet script now.player.sealed
+abbrev pub round : {W : Type 0} → Course W → Plays W → Stage W → Stage W
+round course plays now =
+    sealed_if now.player.quiet plays now.player.sealed
     (all_ticked course now.player.quiet
     (record { peer = now.player.peer; said = now.said }))
 

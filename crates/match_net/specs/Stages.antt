@@ -16,6 +16,7 @@ use Rattle.match_net.specs.declared.stop_reason.StopReason.{StopReason}
 use Rattle.match_net.specs.declared.stop_reason.StopReason.TheVariants as stop
 use Rattle.match_net.specs.declared.play_cause.PlayCause.{PlayCause}
 use Rattle.match_net.specs.declared.play_cause.PlayCause.TheVariants as cause
+use Rattle.match_net.specs.Plays.{Plays, scripted, bot_plays}
 use Rattle.match_net.specs.Playing.{Course, Player, Stage, round, is_over, after_entry}
 
 -- A welcome names a match that can be, and a client of it.
@@ -24,24 +25,36 @@ is_match client clients lag =
     nat_lt client clients && (nat_le clients MAX_CLIENTS && (nat_le 1 lag && nat_le lag MAX_LAG))
 
 -- What a player plays by: what makes the opening world of a seed and a number of clients, how
--- worlds go on, the hash of its rules and map, and its script.
+-- worlds go on, the hash of its rules and map, and what it plays.
 pub record Terms (W : Type 0) : Type 0 where
   pub made : ℕ → ℕ → W
   pub course : Course W
   pub rules : ℕ
-  pub script : List (List Order)
+  pub plays : Plays W
 
 -- The same, from its parts.
-abbrev pub terms_by :
-    {W : Type 0} → (ℕ → ℕ → W) → (W → List one_entry → W) → (W → ℕ) → ℕ → List (List Order) →
-    Terms W
-terms_by made after hash rules script =
+abbrev pub terms_from :
+    {W : Type 0} → (ℕ → ℕ → W) → (W → List one_entry → W) → (W → ℕ) → ℕ → Plays W → Terms W
+terms_from made after hash rules plays =
     record {
       made = made;
       course = record { after = after; hash = hash };
       rules = rules;
-      script = script;
+      plays = plays;
     }
+
+-- The same for a player of a script.
+abbrev pub terms_by :
+    {W : Type 0} → (ℕ → ℕ → W) → (W → List one_entry → W) → (W → ℕ) → ℕ → List (List Order) →
+    Terms W
+terms_by made after hash rules script = terms_from made after hash rules (scripted script)
+
+-- The same for a bot that plays so many frames by this rule, in worlds that have these clients.
+abbrev pub bot_terms :
+    {W : Type 0} → (ℕ → ℕ → W) → (W → List one_entry → W) → (W → ℕ) → (W → ℕ) →
+    (W → ℕ → List Order) → (rules frames : ℕ) → Terms W
+bot_terms made after hash clients_of ordered rules frames =
+    terms_from made after hash rules (bot_plays clients_of ordered frames)
 
 -- A player that was welcomed, before it has done anything.
 abbrev pub welcomed : {W : Type 0} → (ℕ → ℕ → W) → ℕ → ℕ → ℕ → ℕ → Player W
@@ -61,7 +74,7 @@ abbrev pub after_first :
     {W : Type 0} → Terms W → Down → Result (Stage W) StopReason
 after_first terms (down.Welcome client clients lag seed) =
     if is_match client clients lag
-    then Ok (round terms.course terms.script (record {
+    then Ok (round terms.course terms.plays (record {
       player = welcomed terms.made client clients lag seed;
       said = greeting_bytes terms.rules;
     }))
@@ -78,7 +91,7 @@ after_down player (down.Entry client frame entry) = after_entry player client fr
 abbrev pub rounded :
     {W : Type 0} → Terms W → List ℕ → Result (Player W) PlayCause → Result (Stage W) StopReason
 rounded terms said (Ok player) =
-    Ok (round terms.course terms.script (record { player = player; said = said }))
+    Ok (round terms.course terms.plays (record { player = player; said = said }))
 rounded terms said (Err why) = Err (stop.Bad why)
 
 -- A later packet. A match that is over takes none.

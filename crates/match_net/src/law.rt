@@ -87,8 +87,8 @@ pub fn a_players_world_is_the_fold<S: Sim>()
 
 /// A law of players: the bytes that a player read determine its match, that is, the packets that it
 /// followed, how it stands after them, how the match ends, and the place of that. What a call hands
-/// back that was not `Lost` is the match of the bytes that it took. So two calls with one script
-/// that took the same bytes, and were not `Lost`, hand back the same end, client, ticked count and
+/// back that was not `Lost` is the match of the bytes that it took. So two calls that play the
+/// same and took the same bytes, and were not `Lost`, hand back the same end, client, ticked count and
 /// world. What any call followed, also one that was `Lost`, begins the match of the bytes that it
 /// took. The call does nothing.
 pub fn a_players_bytes_have_one_match<S: Sim>()
@@ -117,16 +117,17 @@ pub fn a_players_bytes_have_one_match<S: Sim>()
 /// A law of players: after a welcome and the entries that it followed, a player has written its
 /// greeting and then, in turn, reports and orders frame by frame, so that at each place the orders
 /// outnumber the reports by at most the lag of the welcome; its farewell, if it comes, is the last.
-/// Each report has the hash of the world after its frame. While the player has neither said
-/// farewell nor got its own departure, it has reported each frame that it ticked, and has sent the
-/// orders of its script for as many frames as its lag allows. From its own departure on, and once
-/// it has ticked every frame of its script, it writes nothing more. The call does nothing.
+/// Each report has the hash of the world after its frame. The orders of each frame are those that
+/// the player has for the world that has ticked the frames reported before. While the player has
+/// neither said farewell nor got its own departure, it has reported each frame that it ticked, and
+/// has sent its orders for as many frames as its lag allows. From its own departure on, and once it
+/// has ticked every frame that it plays, it writes nothing more. The call does nothing.
 pub fn a_player_writes_in_turn<S: Sim>()
     ensures in_turn { (terms : Terms S) (client clients lag seed : ℕ) (packets : List Down)
         (now : Stage S) →
         after_packets terms None (down.Welcome client clients lag seed ∷ packets)
         ≡ Ok (Some now) →
-        WritesInTurn terms (terms.made seed clients) clients lag now }
+        WritesInTurn terms (terms.made seed clients) client clients lag now }
     ensures departed { (terms : Terms S) (client clients lag seed frame : ℕ)
         (packets later : List Down) (mid now : Stage S) →
         after_packets terms None (down.Welcome client clients lag seed ∷ packets)
@@ -136,6 +137,6 @@ pub fn a_player_writes_in_turn<S: Sim>()
     ensures finished { (terms : Terms S) (client clients lag seed : ℕ)
         (packets later : List Down) (mid now : Stage S) →
         after_packets terms None (down.Welcome client clients lag seed ∷ packets)
-        ≡ Ok (Some mid) → length terms.script ≤ mid.player.peer.ticked →
+        ≡ Ok (Some mid) → terms.plays.frames ≤ mid.player.peer.ticked →
         after_packets terms (Some mid) later ≡ Ok (Some now) → now.said ≡ mid.said }
 {}

@@ -8,11 +8,14 @@
 //! the welcome and all columns, a refusal, or nothing (`specs/Sending.antt`,
 //! `specs/SenderSession.antt`). Each leaves no column but its client's. At the client
 //! [`play_match`] greets and plays a script by what comes down (`specs/Playing.antt`,
-//! `specs/Stages.antt`, `specs/PlayMatch.antt`). The crate stands on `order_packets` for the
-//! packets, on `game_io` for the links, on `frame_table` for the columns, and on `peer_core` for
-//! what has reached a client.
+//! `specs/Stages.antt`, `specs/PlayMatch.antt`), and [`play_match_from`] whatever an
+//! [`OrderSource`] orders, as a [`Bot`] does by the world that the player holds
+//! (`specs/Plays.antt`). The crate stands on `order_packets` for the packets, on `game_io` for the
+//! links, on `frame_table` for the columns, on `peer_core` for what has reached a client, and on
+//! `bots` for the rule of a bot.
 #![tactic(auto)]
 
+mod bot;
 mod downward;
 mod ending;
 mod first_packet;
@@ -22,6 +25,7 @@ mod invite;
 mod law;
 mod limits;
 mod next;
+mod order_source;
 mod piece;
 mod play_cause;
 mod play_end;
@@ -34,6 +38,7 @@ mod reader;
 mod reader_end;
 mod reading;
 mod rounds;
+mod script;
 mod sender;
 mod sender_end;
 mod sending;
@@ -41,6 +46,7 @@ mod stop_reason;
 mod taking;
 mod turns;
 
+pub use bot::Bot;
 pub use first_packet::{greet, greet_counted};
 pub use greeting::Greeting;
 pub use invite::Invite;
@@ -50,15 +56,17 @@ pub use law::{
     an_ended_session_is_that_of_its_bytes,
 };
 pub use limits::{MAX_LINK_BYTES, MAX_PLAY_BYTES, NO_HELLO, OTHER_RULES, OTHER_VERSION, VERSION};
+pub use order_source::OrderSource;
 pub use play_cause::PlayCause;
 pub use play_end::PlayEnd;
 pub use played::Played;
-pub use playthrough::play_match;
+pub use playthrough::{play_match, play_match_from};
 pub use read_cause::ReadCause;
 pub use reader::{reader_session, reader_session_counted};
 pub use reader_end::ReaderEnd;
 pub use report_line::{
     Heard, ReportEnds, ReportReceiver, Reports, report_queue, reports_of_each_client_are_heard,
 };
+pub use script::Script;
 pub use sender::sender_session;
 pub use sender_end::SenderEnd;

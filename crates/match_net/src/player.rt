@@ -5,7 +5,7 @@ use peer_core::Peer;
 #[derive(Drop)]
 pub(crate) struct Player<S: Sim> {
     pub(crate) peer: Peer<S>,
-    /// How many frames of its script it has sealed.
+    /// How many of its frames it has sealed.
     pub(crate) sealed: usize,
     /// It writes no more: it has said farewell, or its own departure has come.
     pub(crate) quiet: bool,

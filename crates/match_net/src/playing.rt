@@ -8,11 +8,13 @@ ghost use Rattle.match_net.specs.PlayMatch.{Shows, HasSaid, PutMeans, ActMeans, 
 ghost use Rattle.match_net.specs.PlayMatch.{PlayBegins, PlaysAs, PlaysPartly, TurnMeans};
 ghost use Rattle.match_net.specs.PlayMatch.{MatchMeans, HandlingMeans};
 ghost use Rattle.match_net.specs.Playing.{player_at, stage_at, round, is_over};
-ghost use Rattle.match_net.specs.Stages.{after_down, is_match, terms_by, welcomed};
+ghost use Rattle.match_net.specs.Plays.{plays_by};
+ghost use Rattle.match_net.specs.Stages.{after_down, is_match, terms_from, welcomed};
 
 use crate::downward::next_packet;
 use crate::following::follow;
 use crate::next::Next;
+use crate::order_source::OrderSource;
 use crate::play_end::PlayEnd;
 use crate::played::Played;
 use crate::player::Player;
@@ -20,7 +22,7 @@ use crate::rounds::{is_over, round};
 use base::NoMemory;
 use frame_core::{Maker, Sim};
 use game_io::{Sink, Source};
-use game_orders::{MAX_CLIENTS, MAX_LAG, Orders};
+use game_orders::{MAX_CLIENTS, MAX_LAG};
 use order_packets::{Down, DownFeeder};
 use peer_core::Peer;
 use std::alloc::Global;
@@ -40,22 +42,23 @@ fn put_bytes<O: Sink>(link: &mut O, bytes: &[u8]) -> Option<PlayEnd>
 
 /// Does what a player does after a packet, writes it to the link, and answers how the match ends
 /// with that, if it does.
-fn act<S: Sim, O: Sink>(
+fn act<S: Sim, P: OrderSource<S>, O: Sink>(
     player: &mut Player<S>,
-    script: &[Orders],
+    plays: &P,
     bytes: &mut Vec<u8>,
     link: &mut O,
 ) -> Result<Option<PlayEnd>, NoMemory>
     ensures acts { IfOk result (λ answer. (first : SinkState) (said : List ℕ) →
         HasSaid first (O.state link.old) said →
-        ActMeans said (round (record { after = S.after; hash = S.hash_of }) script.now
+        ActMeans said (round (record { after = S.after; hash = S.hash_of })
+        (plays_by (P.frames_of plays.now) (P.orders_of plays.now))
         (stage_at player.old.peer player.old.sealed player.old.quiet said))
         (player_at player.new.peer player.new.sealed player.new.quiet) first (O.state link.new)
         answer) }
     ensures err { OnErr result (O.state link.new ≡ O.state link.old) }
 {
     bytes.clear();
-    round(player, script, bytes)?;
+    round(player, plays, bytes)?;
     if let Some(end) = put_bytes(link, bytes) {
         return Ok(Some(end));
     }
@@ -67,9 +70,9 @@ fn act<S: Sim, O: Sink>(
 
 /// Follows a packet that begins at this place, and answers how the match ends with that, if it
 /// does.
-fn act_on<S: Sim, O: Sink>(
+fn act_on<S: Sim, P: OrderSource<S>, O: Sink>(
     player: &mut Player<S>,
-    script: &[Orders],
+    plays: &P,
     at: u64,
     packet: &Down,
     bytes: &mut Vec<u8>,
@@ -77,7 +80,8 @@ fn act_on<S: Sim, O: Sink>(
 ) -> Result<Option<PlayEnd>, NoMemory>
     ensures handles { IfOk result (λ answer. (first : SinkState) (said : List ℕ) →
         HasSaid first (O.state link.old) said →
-        HandlingMeans (record { after = S.after; hash = S.hash_of }) script.now
+        HandlingMeans (record { after = S.after; hash = S.hash_of })
+        (plays_by (P.frames_of plays.now) (P.orders_of plays.now))
         (after_down (player_at player.old.peer player.old.sealed player.old.quiet) packet.now)
         (player_at player.old.peer player.old.sealed player.old.quiet) said at
         (player_at player.new.peer player.new.sealed player.new.quiet) first (O.state link.new)
@@ -86,14 +90,14 @@ fn act_on<S: Sim, O: Sink>(
 {
     match follow(player, packet)? {
         Some(cause) => Ok(Some(PlayEnd::BadLink { at, cause })),
-        None => act(player, script, bytes, link),
+        None => act(player, plays, bytes, link),
     }
 }
 
 /// Plays on with the next packet, and answers how the match ends with that, if it does.
-fn turn<S: Sim, I: Source, O: Sink>(
+fn turn<S: Sim, P: OrderSource<S>, I: Source, O: Sink>(
     player: &mut Player<S>,
-    script: &[Orders],
+    plays: &P,
     feeder: &mut DownFeeder,
     input: &mut I,
     bytes: &mut Vec<u8>,
@@ -106,15 +110,17 @@ fn turn<S: Sim, I: Source, O: Sink>(
         (feeder.new.at + length feeder.new.rest ≤ MAX_PLAY_BYTES)) }
     ensures on { IfOk result (λ answer. IfNone answer (feeder.old.at < feeder.new.at)) }
     ensures means { (made : ℕ → ℕ → S) (rules : ℕ) (first : SourceState) (before : SinkState) →
-        PlaySoFar (terms_by made S.after S.hash_of rules script.now) first
+        PlaySoFar (terms_from made S.after S.hash_of rules
+        (plays_by (P.frames_of plays.now) (P.orders_of plays.now))) first
         (I.state input.old) before (O.state output.old)
         (player_at player.old.peer player.old.sealed player.old.quiet) feeder.old →
-        TurnMeans (terms_by made S.after S.hash_of rules script.now) first
+        TurnMeans (terms_from made S.after S.hash_of rules
+        (plays_by (P.frames_of plays.now) (P.orders_of plays.now))) first
         (I.state input.new) before (O.state output.new)
         (player_at player.new.peer player.new.sealed player.new.quiet) feeder.new result }
 {
     match next_packet(feeder, input) {
-        Ok(Next::Packet { at, packet }) => act_on(player, script, at, &packet, bytes, output),
+        Ok(Next::Packet { at, packet }) => act_on(player, plays, at, &packet, bytes, output),
         Ok(Next::Bad { at, cause }) => Ok(Some(PlayEnd::BadLink { at, cause })),
         Ok(Next::Lost) => Ok(Some(PlayEnd::Lost)),
         Err(error) => Err(error),
@@ -122,9 +128,9 @@ fn turn<S: Sim, I: Source, O: Sink>(
 }
 
 /// Plays on to the end of the match, packet by packet.
-fn play_rest<S: Sim, I: Source, O: Sink>(
+fn play_rest<S: Sim, P: OrderSource<S>, I: Source, O: Sink>(
     player: &mut Player<S>,
-    script: &[Orders],
+    plays: &P,
     feeder: &mut DownFeeder,
     input: &mut I,
     bytes: &mut Vec<u8>,
@@ -133,15 +139,17 @@ fn play_rest<S: Sim, I: Source, O: Sink>(
     requires fault { feeder.old.fault ≡ None }
     requires few { feeder.old.at + length feeder.old.rest ≤ MAX_PLAY_BYTES }
     ensures means { (made : ℕ → ℕ → S) (rules : ℕ) (first : SourceState) (before : SinkState) →
-        PlaySoFar (terms_by made S.after S.hash_of rules script.now) first
+        PlaySoFar (terms_from made S.after S.hash_of rules
+        (plays_by (P.frames_of plays.now) (P.orders_of plays.now))) first
         (I.state input.old) before (O.state output.old)
         (player_at player.old.peer player.old.sealed player.old.quiet) feeder.old →
-        MatchMeans (terms_by made S.after S.hash_of rules script.now) first
+        MatchMeans (terms_from made S.after S.hash_of rules
+        (plays_by (P.frames_of plays.now) (P.orders_of plays.now))) first
         (I.state input.new) before (O.state output.new)
         (player_at player.new.peer player.new.sealed player.new.quiet) result }
 {
     'turns: loop {
-        match turn(player, script, feeder, input, bytes, output) {
+        match turn(player, plays, feeder, input, bytes, output) {
             Ok(None) => {}
             Ok(Some(end)) => return Ok(end),
             Err(error) => return Err(error),
@@ -150,9 +158,9 @@ fn play_rest<S: Sim, I: Source, O: Sink>(
 }
 
 /// Plays on to the end of the match, after the player was welcomed.
-fn play_on<S: Sim, I: Source, O: Sink>(
+fn play_on<S: Sim, P: OrderSource<S>, I: Source, O: Sink>(
     player: &mut Player<S>,
-    script: &[Orders],
+    plays: &P,
     feeder: &mut DownFeeder,
     input: &mut I,
     bytes: &mut Vec<u8>,
@@ -161,24 +169,26 @@ fn play_on<S: Sim, I: Source, O: Sink>(
     requires fault { feeder.old.fault ≡ None }
     requires few { feeder.old.at + length feeder.old.rest ≤ MAX_PLAY_BYTES }
     ensures means { (made : ℕ → ℕ → S) (rules : ℕ) (first : SourceState) (before : SinkState) →
-        PlayBegins (terms_by made S.after S.hash_of rules script.now) first
+        PlayBegins (terms_from made S.after S.hash_of rules
+        (plays_by (P.frames_of plays.now) (P.orders_of plays.now))) first
         (I.state input.old) before (O.state output.old)
         (player_at player.old.peer player.old.sealed player.old.quiet) feeder.old →
-        MatchMeans (terms_by made S.after S.hash_of rules script.now) first
+        MatchMeans (terms_from made S.after S.hash_of rules
+        (plays_by (P.frames_of plays.now) (P.orders_of plays.now))) first
         (I.state input.new) before (O.state output.new)
         (player_at player.new.peer player.new.sealed player.new.quiet) result }
 {
-    match act(player, script, bytes, output) {
-        Ok(None) => play_rest(player, script, feeder, input, bytes, output),
+    match act(player, plays, bytes, output) {
+        Ok(None) => play_rest(player, plays, feeder, input, bytes, output),
         Ok(Some(end)) => Ok(end),
         Err(error) => Err(error),
     }
 }
 
 /// Plays a match to its end with a player that was welcomed.
-pub(crate) fn play_welcomed<S: Sim, I: Source, O: Sink>(
+pub(crate) fn play_welcomed<S: Sim, P: OrderSource<S>, I: Source, O: Sink>(
     player: Player<S>,
-    script: &[Orders],
+    plays: &P,
     feeder: &mut DownFeeder,
     input: &mut I,
     bytes: &mut Vec<u8>,
@@ -187,21 +197,25 @@ pub(crate) fn play_welcomed<S: Sim, I: Source, O: Sink>(
     requires fault { feeder.old.fault ≡ None }
     requires few { feeder.old.at + length feeder.old.rest ≤ MAX_PLAY_BYTES }
     ensures ok { (made : ℕ → ℕ → S) (rules : ℕ) (first : SourceState) (before : SinkState) →
-        PlayBegins (terms_by made S.after S.hash_of rules script.now) first
+        PlayBegins (terms_from made S.after S.hash_of rules
+        (plays_by (P.frames_of plays.now) (P.orders_of plays.now))) first
         (I.state input.old) before (O.state output.old)
         (player_at player.peer player.sealed player.quiet) feeder.old →
-        IfOk result (λ played. PlaysAs (terms_by made S.after S.hash_of rules script.now)
-        first (I.state input.new) before (O.state output.new) played.end played.client
+        IfOk result (λ played. PlaysAs (terms_from made S.after S.hash_of rules
+        (plays_by (P.frames_of plays.now) (P.orders_of plays.now))) first
+        (I.state input.new) before (O.state output.new) played.end played.client
         played.frames played.sim) }
     ensures err { (made : ℕ → ℕ → S) (rules : ℕ) (first : SourceState) (before : SinkState) →
-        PlayBegins (terms_by made S.after S.hash_of rules script.now) first
+        PlayBegins (terms_from made S.after S.hash_of rules
+        (plays_by (P.frames_of plays.now) (P.orders_of plays.now))) first
         (I.state input.old) before (O.state output.old)
         (player_at player.peer player.sealed player.quiet) feeder.old →
-        OnErr result (PlaysPartly (terms_by made S.after S.hash_of rules script.now) first
+        OnErr result (PlaysPartly (terms_from made S.after S.hash_of rules
+        (plays_by (P.frames_of plays.now) (P.orders_of plays.now))) first
         (I.state input.new) before (O.state output.new)) }
 {
     let mut player = player;
-    match play_on(&mut player, script, feeder, input, bytes, output) {
+    match play_on(&mut player, plays, feeder, input, bytes, output) {
         Ok(end) => Ok(played(player, end)),
         Err(error) => Err(error),
     }

@@ -11,8 +11,8 @@ ghost use Rattle.match_run.specs.Feeding.{MayFeedAll, HasFedAll, HasEndedAll};
 ghost use Rattle.match_run.specs.Local.{IsAll, script_column};
 ghost use Rattle.match_run.specs.Passes.{IsLocalPass, KnowsAllSeen};
 
-use crate::bots::Bots;
 use base::NoMemory;
+use bots::Bots;
 use drill_words::Scripts;
 use frame_core::Sim;
 use frame_table::{FrameTable, Pass};

@@ -11,10 +11,10 @@
 //! `Scripts`, and on `game_io` for the gate by which a test holds threads.
 #![tactic(auto)]
 
-mod bots;
 mod client_pass;
 mod feeding;
 mod frames;
+mod idle_bots;
 mod law;
 mod local_run;
 mod passing;
@@ -23,8 +23,9 @@ mod running;
 mod taken;
 mod ticking;
 
-pub use bots::{Bots, IdleBots};
+pub use bots::Bots;
 pub use frames::{frames_of, longest};
+pub use idle_bots::IdleBots;
 pub use law::closed_columns_are_those;
 pub use local_run::LocalRun;
 pub use running::{run_local, run_with_bots};

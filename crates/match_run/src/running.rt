@@ -10,14 +10,15 @@ ghost use Rattle.match_run.specs.Local.{world_of};
 ghost use Rattle.match_run.specs.Passes.{IsLocalPass, KnowsAllSeen, IsClientPass, IsStepped};
 ghost use Rattle.match_run.specs.Passes.{shares_of};
 
-use crate::bots::{Bots, IdleBots};
 use crate::client_pass::ClientPass;
 use crate::feeding::look_again;
+use crate::idle_bots::IdleBots;
 use crate::local_run::LocalRun;
 use crate::passing::{join_passes, join_unused, planned_table, split_passes};
 use crate::playing::play_all;
 use crate::ticking::tick_all;
 use base::NoMemory;
+use bots::Bots;
 use drill_words::Scripts;
 use frame_core::Sim;
 use frame_table::{FrameTable, Pass};

@@ -14,11 +14,11 @@ ghost use Rattle.match_run.specs.Local.{IsAll, script_column, script_columns, fr
 ghost use Rattle.match_run.specs.Passes.{IsLocalPass, KnowsAllSeen, IsStepped};
 ghost use Rattle.match_run.specs.Taken.{IsTaken, AreTaken, HasFrame};
 
-use crate::bots::Bots;
 use crate::feeding::{leave_all, put_plays};
 use crate::frames::frames_of;
 use crate::taken::Taken;
 use base::NoMemory;
+use bots::Bots;
 use drill_words::Scripts;
 use frame_core::{Ready, Sim};
 use frame_table::{FrameTable, Pass};

@@ -1,6 +1,6 @@
 use Rattle.std.proofs.Common.{refl}
 use Rattle.match_net.proofs.OpeningLemmas.{greeting_fails, greets, on_any, out_at_once}
-use Rattle.match_net.proofs.playthrough.play_match.Goals as goal
+use Rattle.match_net.proofs.playthrough.play_match_from.Goals as goal
 
 pub returns-in_err-feeder-clause-err : goal.returns-in_err-feeder-clause-err
 returns-in_err-feeder-clause-err g c = on_any _ (out_at_once _ _ _)

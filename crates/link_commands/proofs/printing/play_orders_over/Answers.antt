@@ -1,7 +1,7 @@
 use Rattle.std.proofs.Common.{inl, inr}
 use Rattle.link_commands.specs.LinkLemmas.{made_prints}
 use Rattle.link_commands.specs.PlayText.{link_fault, played_reply}
-use Rattle.link_commands.proofs.printing.play_over.Goals as goal
+use Rattle.link_commands.proofs.printing.play_orders_over.Goals as goal
 
 -- The match was played to its end.
 pub returns-in-Ok-clause-plays : goal.returns-in-Ok-clause-plays
