@@ -11,9 +11,9 @@ class Entry:
 
     def __init__(self, line):
         self.line, self.name, self.text = line, line.split()[0], ''
-        # Each option with the name of its value, and whether it is required.
-        self.options = [(name, value, not before) for before, name, value in re.findall(r'(\[?)(--[a-z]+) ([A-Z,]+)', line)]
-        rest = re.sub(r'\[?--[a-z]+ [A-Z,]+\]?', '', line).split()[1:]
+        # Each option with the name of its value, if it has one, and whether it is required.
+        self.options = [(name, value, not before) for before, name, value in re.findall(r'(\[?)(--[a-z]+)(?: ([A-Z,]+))?', line)]
+        rest = re.sub(r'\[?--[a-z]+(?: [A-Z,]+)?\]?', '', line).split()[1:]
         # What stands alone: nothing, or files, of which one is required where they have no brackets.
         self.files = ' '.join(rest)
 
@@ -35,6 +35,15 @@ def sections(file=f'{HERE}/help.txt'):
             elif line:
                 at.append(Entry(line.strip()))
     return '\n'.join(intro).strip(), found
+
+
+def completed(commands):
+    """Each command once, with its options in all its forms."""
+    found = {}
+    for it in commands:
+        options = found.setdefault(it.name, (it, {}))[1]
+        options.update({option: value for option, value, _ in it.options})
+    return found.values()
 
 
 def roff(text):
@@ -91,14 +100,15 @@ def script_page(name, does, document, version, date):
 
 def bash_completion():
     _, found = sections()
-    commands = found['Commands']
-    named = lambda it: ' '.join(option for option, value, _ in it.options if value == 'FILE')
-    cases = '\n'.join(f'        {it.name}) options="{" ".join(option for option, _, _ in it.options)}"'
-                      f' named="{named(it)}" files={"yes" if it.files else ""} ;;' for it in commands)
+    commands = completed(found['Commands'])
+    those = lambda options, which: ' '.join(option for option, value in options.items() if which(value))
+    cases = '\n'.join(f'        {it.name}) options="{" ".join(options)}" named="{those(options, lambda value: value == "FILE")}"'
+                      f' plain="{those(options, lambda value: not value)}" files={"yes" if it.files else ""} ;;'
+                      for it, options in commands)
     return textwrap.dedent('''\
         # Completes the command line of lockstep.
         _lockstep() {
-            local word=${COMP_WORDS[COMP_CWORD]} before=${COMP_WORDS[COMP_CWORD-1]} options= named= files=
+            local word=${COMP_WORDS[COMP_CWORD]} before=${COMP_WORDS[COMP_CWORD-1]} options= named= plain= files=
             if [ "$before" = = ]; then before=${COMP_WORDS[COMP_CWORD-2]}; fi
             if [ "$word" = = ]; then
                 before=${COMP_WORDS[COMP_CWORD-1]}
@@ -115,8 +125,11 @@ def bash_completion():
             case " $named " in
                 *" $before "*) mapfile -t COMPREPLY < <(compgen -f -- "$word"); return ;;
             esac
-            case " $options " in
-                *" $before "*) return ;;
+            case " $plain " in
+                *" $before "*) ;;
+                *) case " $options " in
+                    *" $before "*) return ;;
+                esac ;;
             esac
             case $word in
                 -*) mapfile -t COMPREPLY < <(compgen -W "$options" -- "$word") ;;
@@ -124,19 +137,21 @@ def bash_completion():
             esac
         }
         complete -o filenames -F _lockstep lockstep
-        ''').replace('@COMMANDS@', ' '.join(it.name for it in commands)).replace('@CASES@', cases)
+        ''').replace('@COMMANDS@', ' '.join(it.name for it, _ in commands)).replace('@CASES@', cases)
 
 
 def zsh_completion():
     _, found = sections()
     quoted = lambda text: text.replace("'", "'\\''").replace(':', '\\:').replace('[', '\\[').replace(']', '\\]')
     lines = ['#compdef lockstep', '', '_lockstep() {', '    local -a commands', '    commands=(']
-    lines += [f"        '{it.name}:{quoted(it.summary())}'" for it in found['Commands']]
+    commands = completed(found['Commands'])
+    lines += [f"        '{it.name}:{quoted(it.summary())}'" for it, _ in commands]
     lines += ["        '--help:Prints how it is used'", "        '--version:Prints the version'", '    )',
               '    if (( CURRENT == 2 )); then', '        _describe command commands', '        return', '    fi',
               '    local command=$words[2]', '    (( CURRENT-- ))', '    shift words', '    case $command in']
-    for it in found['Commands']:
-        specs = [f"'{option}=:{quoted(value)}:{'_files' if value == 'FILE' else ' '}'" for option, value, _ in it.options]
+    for it, options in commands:
+        specs = [f"'{option}=:{quoted(value)}:{'_files' if value == 'FILE' else ' '}'" if value else f"'{option}'"
+                 for option, value in options.items()]
         specs += ["'*:FILE:_files'"] * bool(it.files)
         lines += [f'        {it.name}) _arguments {" ".join(specs)} ;;']
     return '\n'.join([*lines, '    esac', '}', '', '_lockstep "$@"', ''])

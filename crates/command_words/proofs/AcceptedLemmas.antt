@@ -1,11 +1,12 @@
 -- Accepted words name a request, but for the number of positional arguments and for cells that are
 -- none.
-use Rattle.std.proofs.Common.{◌≡◌, ◌<◌, ◌⊎◌, ◌∙◌, ◌||◌, ◌&&◌, true≢false, ap, sym, subst, arith, inl, inr, ℕ, Bool, true, false, not, cond, List, [], ◌∷◌, Option, Some, None, is_some, codes, refl}
+use Rattle.std.proofs.Common.{◌≡◌, ◌<◌, ◌≤◌, ◌⊎◌, ◌∙◌, ◌||◌, ◌&&◌, true≢false, ap, sym, subst, arith, inl, inr, ℕ, Bool, true, false, not, cond, List, [], ◌∷◌, Option, Some, None, is_some, codes, refl}
 use Rattle.std.specs.Prelude.{◌^◌, find, option_map, option_and_then, unwrap_or, pos}
 use Rattle.std.proofs.lemmas.Bool.{le-leb}
+use Rattle.std.proofs.lemmas.Option.{none-some}
 use Rattle.std.specs.List.{list_any}
 use Rattle.std.specs.Option.{option_map_or}
-use Rattle.clap.specs.Walk.{Row, Rule, Text, settled, finished, nothing_held, walk, walk_from, rows_after, first_of, answers_to}
+use Rattle.clap.specs.Walk.{Row, Rule, Text, settled, finished, nothing_held, walk, walk_from, rows_after, first_of, one_of, answers_to}
 use Rattle.clap.specs.Simple.{Shape, new_shape, filled, with_index, built, entered, rows_at, names_of, label_of, argument_words, subcommand_of}
 use Rattle.clap.specs.Takes.{is_given}
 use Rattle.clap.specs.Lexer.{without_minus}
@@ -17,10 +18,11 @@ use Rattle.clap.specs.declared.error.kind.ErrorKind.TheVariants.{MissingRequired
 use Rattle.clap.proofs.SimpleLemmas.{is_nil}
 use Rattle.clap.proofs.WalkLemmas.{both}
 use Rattle.world_units.specs.declared.cell.CPos.{CPos}
-use Rattle.command_words.specs.RequestPlain.{Check, Compare, Continue, Datagrams, Drill, Local, Make, Migrate, Play, Replay, RequestPlain, Route, Save, Serve, View, Worlds, Yaml}
-use Rattle.command_words.specs.Commands.{option_named, required_option, number_option, required_number, bare_app, lockstep_app}
-use Rattle.command_words.specs.Reading.{is_accepted, command_request, names_in, cell_in, number_of, number_in, up_to, count_in, count_or, from_one, step_or, at_most, bots_in, match_in, local_in, play_in, serve_in, migrate_in, route_in, save_in, continue_in, view_in, range_in, worlds_in, compare_in, found_request, request_of, NamesRefused, CellRefused}
-use Rattle.game_orders.specs.declared.limits.TheConstants.{MAX_CLIENTS, MAX_LAG}
+use Rattle.command_words.specs.RequestPlain.{Check, Compare, Continue, Datagrams, Drill, Local, Make, Migrate, Replay, RequestPlain, Route, Save, Serve, View, Worlds, Yaml}
+use Rattle.command_words.specs.Player.{PlayerPlain, Script, Bot}
+use Rattle.command_words.specs.Commands.{option_named, required_option, flag_named, number_option, required_number, bare_app, lockstep_app}
+use Rattle.command_words.specs.Reading.{is_accepted, command_request, names_in, cell_in, number_of, number_in, up_to, count_in, count_or, from_one, step_or, at_most, bots_in, match_in, local_in, play_in, serve_in, migrate_in, route_in, save_in, continue_in, view_in, range_in, worlds_in, compare_in, has_flag, player_of, player_in, played_by, found_request, request_of, NamesRefused, CellRefused, PlayerRefused}
+use Rattle.game_orders.specs.declared.limits.TheConstants.{MAX_CLIENTS, MAX_FRAMES, MAX_LAG}
 use Rattle.command_words.specs.declared.TheConstants.{MAX_BOTS}
 use Rattle.command_words.specs.declared.serve_query.TheConstants.{DEFAULT_LAG}
 use Rattle.command_words.specs.declared.world_range.TheConstants.{DEFAULT_EVERY}
@@ -69,7 +71,10 @@ serve_shape =
     ∷ map_rule ∷ names_rule ∷ [])
 
 abbrev play_shape : Shape
-play_shape = shape_with (codes "play") (wanted_rule (codes "script") ∷ map_rule ∷ wanted_rule (codes "at") ∷ names_rule ∷ [])
+play_shape =
+    shape_with (codes "play")
+    (wanted_rule (codes "at") ∷ with_index 1 (filled (option_named (codes "script"))) ∷ with_index 1 (filled (flag_named (codes "bot")))
+    ∷ with_index 1 (filled (number_option (codes "frames") 0 MAX_FRAMES)) ∷ map_rule ∷ names_rule ∷ [])
 
 abbrev replay_shape : Shape
 replay_shape = shape_with (codes "replay") (wanted_rule (codes "file") ∷ map_rule ∷ names_rule ∷ [])
@@ -160,9 +165,9 @@ rows_found command rules words all shortless quiet =
     (first_none defaults checks (second_none settles (or_else defaults checks) later)))
     (none_missing (list_any (λ (a : Rule). a.required && not (is_given a.id rows)) rules) (second_none defaults checks (second_none settles (or_else defaults checks) later)))
 
--- A command has a request, or refuses the number of its names or a cell.
+-- A command has a request, or refuses the number of its names, a cell or a player.
 abbrev HasRequest : Option (Text × List Row) → Type 0
-HasRequest found = (is_some (found_request found) ≡ true) ⊎ (NamesRefused found ⊎ CellRefused found)
+HasRequest found = (is_some (found_request found) ≡ true) ⊎ (NamesRefused found ⊎ (CellRefused found ⊎ PlayerRefused found))
 
 -- The same of a command with these arguments, whatever was found of them.
 abbrev GivesRequest : Text → List Rule → Type 0
@@ -236,12 +241,12 @@ check_request rows found = elim (names_request rows (Check (first_of (codes "map
 -- A route is named, or the number of its rule files is not allowed, or a cell is none.
 route_is : (rows : List Row) (map_file kind : Option Text) (from to : Option CPos) (names : Option (List Text))
     → first_of (codes "map") rows ≡ map_file → first_of (codes "kind") rows ≡ kind → cell_in (codes "from") rows ≡ from → cell_in (codes "to") rows ≡ to → names_in 1 rows ≡ names
-    → is_some map_file ≡ true → is_some kind ≡ true → (is_some (option_map Route (route_in rows)) ≡ true) ⊎ (NamesRefused (Some (codes "route", rows)) ⊎ CellRefused (Some (codes "route", rows)))
-unfolding route_in
+    → is_some map_file ≡ true → is_some kind ≡ true → HasRequest (Some (codes "route", rows))
+unfolding command_request route_in
 route_is rows None kind from to names a b c d e there there' = cc
 route_is rows (Some map_file) None from to names a b c d e there there' = cc
-route_is rows (Some map_file) (Some kind) None to names a b c d e there there' = inr (inr (refl, inl c))
-route_is rows (Some map_file) (Some kind) (Some from) None names a b c d e there there' = inr (inr (refl, inr d))
+route_is rows (Some map_file) (Some kind) None to names a b c d e there there' = inr (inr (inl (refl, inl c)))
+route_is rows (Some map_file) (Some kind) (Some from) None names a b c d e there there' = inr (inr (inl (refl, inr d)))
 route_is rows (Some map_file) (Some kind) (Some from) (Some to) None a b c d e there there' = inr (inl e)
 route_is rows (Some map_file) (Some kind) (Some from) (Some to) (Some names) a b c d e there there' = inl (rw (a, b, c, d, e) refl)
 
@@ -273,6 +278,14 @@ make_request rows found =
     (row_number make_shape.rules (codes "number") rows 0 4294967295 has (omega arith)
     (both (is_signed_in (pos 0) (pos 4294967295) has.first) _ has.passes).0 refl)))
 
+-- No number is read where nothing was found.
+no_number : (rows : List Row) → one_of (codes "frames") rows ≡ None → number_in (codes "frames") rows ≡ None
+unfolding number_in
+no_number rows none = rw none refl
+
+some_is : {T : Type 0} {a b : T} → Some a ≡ Some b → a ≡ b
+some_is e = cc
+
 -- A number within a bound is one.
 bounded : (most : ℕ) (number : Option ℕ) → Written 0 most number → is_some (at_most most (unwrap_or number 0)) ≡ true
 bounded most number written = rw (written.is, le-leb written.value most written.below) refl
@@ -292,13 +305,53 @@ local_request rows found = elim (match_is local_shape.rules (codes "script") row
   | inr none ↦ inr (inl none)
 ]
 
-play_request : GivesRequest (codes "play") play_shape.rules
+-- A number of frames that is written is within its bound.
+frames_bound : (rows : List Row) → Found play_shape.rules (codes "frames") rows → (frames : ℕ) → number_in (codes "frames") rows ≡ Some frames
+    → at_most MAX_FRAMES frames ≡ Some frames
+frames_bound rows (nothing none) frames is = absurd (none-some frames (sym (no_number rows none) ∙ is))
+frames_bound rows (something has) frames is =
+    within MAX_FRAMES frames
+    (row_number play_shape.rules (codes "frames") rows 0 MAX_FRAMES has (omega arith)
+    (both (is_signed_in (pos 0) (pos MAX_FRAMES) has.first) _ has.passes).0 refl) is
+  where
+    within : (most frames : ℕ) → Written 0 most (number_in (codes "frames") rows) → number_in (codes "frames") rows ≡ Some frames → at_most most frames ≡ Some frames
+    within most frames written is =
+        let same : written.value ≡ frames = some_is (sym written.is ∙ is) in
+        let below : frames ≤ most = subst (λ (n : ℕ). n ≤ most) same written.below in
+        rw (le-leb frames most below) refl
+
+-- A bot plays as many frames as are written.
+bot_frames : (script : Option Text) (bot : Bool) (written : Option ℕ) (frames : ℕ) → player_of script bot written ≡ Some (Bot frames) → written ≡ Some frames
+bot_frames None true (Some written) frames is = cc
+bot_frames None true None frames is = cc
+bot_frames None false written frames is = cc
+bot_frames (Some file) true written frames is = cc
+bot_frames (Some file) false None frames is = cc
+bot_frames (Some file) false (Some written) frames is = cc
+
+player_there : (rows : List Row) → Found play_shape.rules (codes "frames") rows → (at : Text) (rules : List Text) (player : PlayerPlain) → player_in rows ≡ Some player
+    → is_some (played_by at (first_of (codes "map") rows) rules player) ≡ true
+unfolding player_in
+player_there rows found at rules (Script file) is = refl
+player_there rows found at rules (Bot frames) is =
+    rw (frames_bound rows found frames
+    (bot_frames (first_of (codes "script") rows) (has_flag (codes "bot") rows) (number_in (codes "frames") rows) frames is)) refl
+
+-- A match over a link is played, or there is no one player, or the number of its rule files is not allowed.
+play_is : (rows : List Row) (at : Option Text) (player : Option PlayerPlain) (names : Option (List Text))
+    → first_of (codes "at") rows ≡ at → player_in rows ≡ player → names_in 0 rows ≡ names → is_some at ≡ true
+    → ((at : Text) (rules : List Text) (player : PlayerPlain) → player_in rows ≡ Some player → is_some (played_by at (first_of (codes "map") rows) rules player) ≡ true)
+    → HasRequest (Some (codes "play", rows))
 unfolding command_request play_in
-play_request rows found = elim (match_is play_shape.rules (codes "script") rows found.0) [
-  | inl named ↦ inl (then_is _ (first_of (codes "at") rows) (given_first play_shape.rules (codes "at") rows found.1.1.0)
-      (λ at. made_is (λ query. Play query at) (match_in (codes "script") rows) named))
-  | inr none ↦ inr (inl none)
-]
+play_is rows None player names a b c there each = cc
+play_is rows (Some at) None names a b c there each = inr (inr (inr (refl, b)))
+play_is rows (Some at) (Some player) None a b c there each = inr (inl c)
+play_is rows (Some at) (Some player) (Some names) a b c there each = inl (rw (a, b, c) (each at names player b))
+
+play_request : GivesRequest (codes "play") play_shape.rules
+play_request rows found =
+    play_is rows (first_of (codes "at") rows) (player_in rows) (names_in 0 rows) refl refl refl (given_first play_shape.rules (codes "at") rows found.0)
+    (player_there rows found.1.1.1.0)
 
 save_request : GivesRequest (codes "save") save_shape.rules
 unfolding command_request save_in
@@ -440,7 +493,7 @@ all_ask =
     (asks_by (codes "make") make_shape.rules ((refl, refl), tt) (λ x. refl) make_request,
     (asks_by (codes "local") local_shape.rules ((refl, refl), ((refl, refl), ((refl, refl), ((refl, refl), tt)))) (λ x. refl) local_request,
     (asks_by (codes "serve") serve_shape.rules ((refl, refl), ((refl, refl), ((refl, refl), ((refl, refl), ((refl, refl), ((refl, refl), tt)))))) (λ x. refl) serve_request,
-    (asks_by (codes "play") play_shape.rules ((refl, refl), ((refl, refl), ((refl, refl), ((refl, refl), tt)))) (λ x. refl) play_request,
+    (asks_by (codes "play") play_shape.rules ((refl, refl), ((refl, refl), ((refl, refl), ((refl, refl), ((refl, refl), ((refl, refl), tt)))))) (λ x. refl) play_request,
     (asks_by (codes "replay") replay_shape.rules ((refl, refl), ((refl, refl), ((refl, refl), tt))) (λ x. refl) replay_request,
     (asks_by (codes "migrate") migrate_shape.rules ((refl, refl), ((refl, refl), ((refl, refl), ((refl, refl), tt)))) (λ x. refl) migrate_request,
     (asks_by (codes "save") save_shape.rules ((refl, refl), ((refl, refl), ((refl, refl), ((refl, refl), ((refl, refl), tt))))) (λ x. refl) save_request,
@@ -504,9 +557,11 @@ unfolding is_accepted
 no_fault words accepted = is_nil (fault_of lockstep_app words) accepted
 
 by_request : (words : List Text) → is_accepted words ≡ true → HasRequest (subcommand_of lockstep_app words)
-    → (is_some (request_of words) ≡ true) ⊎ (NamesRefused (subcommand_of lockstep_app words) ⊎ CellRefused (subcommand_of lockstep_app words))
+    → (is_some (request_of words) ≡ true)
+    ⊎ (NamesRefused (subcommand_of lockstep_app words) ⊎ (CellRefused (subcommand_of lockstep_app words) ⊎ PlayerRefused (subcommand_of lockstep_app words)))
 unfolding request_of
 by_request words accepted found = rw accepted found
 
-pub accepted_request : (words : List Text) → is_accepted words ≡ true → (is_some (request_of words) ≡ true) ⊎ (NamesRefused (subcommand_of lockstep_app words) ⊎ CellRefused (subcommand_of lockstep_app words))
+pub accepted_request : (words : List Text) → is_accepted words ≡ true → (is_some (request_of words) ≡ true)
+    ⊎ (NamesRefused (subcommand_of lockstep_app words) ⊎ (CellRefused (subcommand_of lockstep_app words) ⊎ PlayerRefused (subcommand_of lockstep_app words)))
 accepted_request words accepted = by_request words accepted (quiet_request words (no_fault words accepted))

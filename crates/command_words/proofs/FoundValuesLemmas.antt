@@ -1,5 +1,5 @@
 -- Where words are accepted, an argument that has to be there has a value, which passed its parser.
-use Rattle.std.proofs.Common.{◌≡◌, ◌<◌, ◌∙◌, ◌&&◌, ◌||◌, ap, sym, subst, ℕ, Bool, true, false, not, cond, List, [], ◌∷◌, ◌++◌, length, Option, Some, None, is_some, refl, arith, zero, suc}
+use Rattle.std.proofs.Common.{◌≡◌, ◌<◌, ◌∙◌, ◌&&◌, ◌||◌, ap, sym, subst, true≢false, ℕ, Bool, true, false, not, cond, List, [], ◌∷◌, ◌++◌, length, Option, Some, None, is_some, refl, arith, zero, suc}
 use Rattle.std.proofs.lemmas.Bool.{ne_eqb}
 use Rattle.std.proofs.lemmas.Slice.Eq.{bytes_eq-Decides}
 use Rattle.std.specs.Prelude.{nat_lt, find, fold, drop, encode_utf8, slice_get}
@@ -123,9 +123,9 @@ all_passed a (v ∷ vs) quiet =
     let passes : value_passes a v ≡ true = passed (value_passes a v) (refused_kind (parser_of_value a.parser)) (first_none first (values_fault a vs) quiet) in
     rw passes (all_passed a vs (second_none first (values_fault a vs) quiet))
 
--- Each use of the argument has a value, and it is the argument of its id.
+-- Each use of the argument has a value, or one that stands for none, and it is the argument of its id.
 abbrev pub Wants : List Rule → Rule → Type 0
-Wants c a = (nat_lt 0 (unwrap_or_range a.range).start_inclusive ≡ true) × (arg_by_id c a.id ≡ Some a)
+Wants c a = ((nat_lt 0 (unwrap_or_range a.range).start_inclusive || not (is_empty a.missing)) ≡ true) × (arg_by_id c a.id ≡ Some a)
 
 abbrev pub AllWant : (c rules : List Rule) → Type 0
 AllWant c [] = Unit {0}
@@ -142,12 +142,6 @@ find_wants c p (a ∷ rest) all = go (p a) (find_wants c p rest all.1)
     go : (b : Bool) → IfWants c (find p rest) → IfWants c (cond b (Some a) (find p rest))
     go true later = all.0
     go false later = later
-
-some_values : (again : Bool) (c : List Rule) (a : Rule) (values : List Text) (rows : List Row) → Wants c a → use_fault again a values rows ≡ [] → 0 < length values
-some_values again c a [] rows want quiet =
-    let none : range_kinds (unwrap_or_range a.range).start_inclusive (unwrap_or_range a.range).end_inclusive 0 ≡ [] = first_none _ _ quiet in
-    absurd (some_kind _ _ (rw want.0 at none))
-some_values again c a (v ∷ vs) rows want quiet = omega arith
 
 read_values : (c : List Rule) (a : Rule) (v : Text) (vs : List Text) → Wants c a → values_fault a (v ∷ vs) ≡ [] → AreRead c a.id (reading_by a) (v ∷ vs)
 read_values c a v vs want quiet = record {
@@ -172,8 +166,26 @@ as_full Count again c a v vs rows want quiet full =
     with_full c a.id (reading_by a) CommandLine (v ∷ vs) (without a.id rows) (read_values c a v vs want quiet) (without_full c a.id rows full)
 as_full _ again c a v vs rows want quiet full = full
 
+-- An argument of which no value stands for none wants one.
+wants_some : (wants : Bool) (missing : List Text) → missing ≡ [] → (wants || not (is_empty missing)) ≡ true → wants ≡ true
+wants_some true missing is some = refl
+wants_some false [] is some = absurd (true≢false (sym some))
+wants_some false (m ∷ ms) is some = cc
+
+-- A use without a value, of which these stand for none.
+missing_full : (again : Bool) (c : List Rule) (a : Rule) (missing : List Text) (rows : List Row) → a.missing ≡ missing → Wants c a → use_fault again a [] rows ≡ []
+    → Full c rows → Full c (used_as (action_of a) a.id (reading_by a) missing rows)
+missing_full again c a [] rows is want quiet full =
+    let none : range_kinds (unwrap_or_range a.range).start_inclusive (unwrap_or_range a.range).end_inclusive 0 ≡ [] = first_none _ _ quiet in
+    let wants : nat_lt 0 (unwrap_or_range a.range).start_inclusive ≡ true = wants_some (nat_lt 0 (unwrap_or_range a.range).start_inclusive) a.missing is want.0 in
+    absurd (some_kind _ _ (rw wants at none))
+missing_full again c a (m ∷ ms) rows is want quiet full =
+    as_full (action_of a) again c a m ms rows want
+    (subst (λ (missing : List Text). action_fault (action_of a) again a missing rows ≡ []) is
+    (second_none (range_kinds (unwrap_or_range a.range).start_inclusive (most_values a) 0) (action_fault (action_of a) again a a.missing rows) quiet)) full
+
 used_full : (again : Bool) (c : List Rule) (a : Rule) (values : List Text) (rows : List Row) → Wants c a → use_fault again a values rows ≡ [] → Full c rows → Full c (used a values rows)
-used_full again c a [] rows want quiet full = absurd (omega (arith, some_values again c a [] rows want quiet))
+used_full again c a [] rows want quiet full = missing_full again c a a.missing rows refl want quiet full
 used_full again c a (v ∷ vs) rows want quiet full =
     as_full (action_of a) again c a v vs rows want
     (second_none (range_kinds (unwrap_or_range a.range).start_inclusive (most_values a) (length (v ∷ vs))) (action_fault (action_of a) again a (v ∷ vs) rows) quiet) full

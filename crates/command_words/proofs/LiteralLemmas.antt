@@ -3,7 +3,7 @@ use Rattle.std.proofs.Common.{◌≡◌, ◌==◌, Bool, true, false, [], ◌∷
 use Rattle.clap.specs.Walk.{Text}
 use Rattle.clap.proofs.OnLiterals.{clap_on_literals}
 use Rattle.clap.proofs.SimpleLemmas.{is_false}
-use Rattle.command_words.specs.RequestPlain.{Drill, Replay, Migrate, Save, Continue, View, Worlds, Compare, Datagrams, Route, Make, Local, Serve, Play, match_alone}
+use Rattle.command_words.specs.RequestPlain.{Drill, Replay, Migrate, Save, Continue, View, Worlds, Compare, Datagrams, PlayBot, Route, Make, Local, Serve, Play, match_alone}
 use Rattle.base.specs.Numbers.{number_of}
 use Rattle.rule_values.specs.Cells.{cell_of, coordinate_of}
 use Rattle.rule_values.specs.Parts.{parts_at}
@@ -76,6 +76,21 @@ pub play_after_equals : (program at script : Text)
     → request_of (program ∷ codes "play" ∷ (codes "--at=" ++ at) ∷ (codes "--script=" ++ script) ∷ []) ≡ Some (Play (match_alone script) at)
 unfolding request_on_literals all_commands clap_on_literals
 play_after_equals program at script = refl
+
+pub play_by_a_bot : (program at : Text)
+    → request_of (program ∷ codes "play" ∷ codes "--bot" ∷ codes "--frames=262144" ∷ (codes "--at=" ++ at) ∷ [])
+    ≡ Some (PlayBot (record { at = at; frames = 262144; map_file = None; rules = [] }))
+unfolding request_on_literals all_commands clap_on_literals
+play_by_a_bot program at = refl
+
+pub play_by_both : (program at script : Text)
+    → request_of (program ∷ codes "play" ∷ codes "--bot" ∷ codes "--frames=1" ∷ (codes "--script=" ++ script) ∷ (codes "--at=" ++ at) ∷ []) ≡ None
+unfolding request_on_literals all_commands clap_on_literals
+play_by_both program at script = refl
+
+pub play_without_frames : (program at : Text) → request_of (program ∷ codes "play" ∷ codes "--bot" ∷ (codes "--at=" ++ at) ∷ []) ≡ None
+unfolding request_on_literals all_commands clap_on_literals
+play_without_frames program at = refl
 
 pub serve_without_options : (program at : Text)
     → request_of (program ∷ codes "serve" ∷ (codes "--at=" ++ at) ∷ codes "--clients=16" ∷ [])

@@ -2,7 +2,7 @@
 use Rattle.std.specs.Prelude.{List, ℕ, codes}
 use Rattle.command_words.specs.RequestPlain.{RequestPlain, Drill, Yaml, Check, Route, Make}
 use Rattle.command_words.specs.RequestPlain.{Local, Serve, Play, Replay, Migrate}
-use Rattle.command_words.specs.RequestPlain.{Save, Continue, View, Worlds, Compare, Datagrams}
+use Rattle.command_words.specs.RequestPlain.{Save, Continue, View, Worlds, Compare, Datagrams, PlayBot}
 
 -- The command of a request.
 abbrev pub command_of : RequestPlain → List ℕ
@@ -14,6 +14,7 @@ command_of (Make number) = codes "make"
 command_of (Local query bots) = codes "local"
 command_of (Serve query) = codes "serve"
 command_of (Play query at) = codes "play"
+command_of (PlayBot query) = codes "play"
 command_of (Replay query) = codes "replay"
 command_of (Migrate query to) = codes "migrate"
 command_of (Save query frames to) = codes "save"

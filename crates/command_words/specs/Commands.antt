@@ -3,14 +3,18 @@
 use Rattle.std.specs.Prelude.{ℕ, Some, pos, true, codes}
 use Rattle.clap.specs.Walk.{Rule, Text}
 use Rattle.clap.specs.Simple.{App, new_app, new_rule, on_top, with_rule, with_subcommand}
-use Rattle.clap.specs.declared.builder.action.ArgAction.TheVariants.{Append}
+use Rattle.clap.specs.declared.builder.action.ArgAction.TheVariants.{Append, SetTrue}
 use Rattle.clap.specs.declared.builder.value_parser.ValueParser.TheVariants.{Signed}
-use Rattle.game_orders.specs.declared.limits.TheConstants.{MAX_CLIENTS, MAX_LAG}
+use Rattle.game_orders.specs.declared.limits.TheConstants.{MAX_CLIENTS, MAX_FRAMES, MAX_LAG}
 use Rattle.command_words.specs.declared.TheConstants.{MAX_BOTS}
 
 -- `--NAME VALUE`, which may be left out.
 abbrev pub option_named : Text → Rule
 option_named name = record (new_rule name) { long = Some name }
+
+-- `--NAME` alone, which may be left out.
+abbrev pub flag_named : Text → Rule
+flag_named name = record (option_named name) { action = Some SetTrue }
 
 -- `--NAME VALUE`, which is required.
 abbrev pub required_option : Text → Rule
@@ -106,12 +110,25 @@ timed_app =
 unfoldable pub serve_app : App
 serve_app = with_rule (with_rule timed_app (option_named (codes "map"))) file_names
 
--- `play --at ADDRESS --script FILE --map FILE RULES`, where the map may be left out.
-unfoldable pub play_app : App
-play_app =
+-- `play --at ADDRESS --script FILE`, so far.
+unfoldable pub dialed_app : App
+dialed_app =
     with_rule
-    (with_rule (played_app (codes "play") (codes "script")) (required_option (codes "at")))
-    file_names
+    (with_rule (new_app (codes "play")) (required_option (codes "at")))
+    (option_named (codes "script"))
+
+-- The same with `--bot --frames N`.
+unfoldable pub manned_app : App
+manned_app =
+    with_rule
+    (with_rule dialed_app (flag_named (codes "bot")))
+    (number_option (codes "frames") 0 MAX_FRAMES)
+
+-- `play --at ADDRESS --script FILE --bot --frames N --map FILE RULES`, where all but the address may
+-- be left out. That `--script` stands alone, or `--bot` and `--frames` without it, is tested beside
+-- `clap`.
+unfoldable pub play_app : App
+play_app = with_rule (with_rule manned_app (option_named (codes "map"))) file_names
 
 -- `replay --file FILE --map FILE RULES`, where the map may be left out.
 unfoldable pub replay_app : App

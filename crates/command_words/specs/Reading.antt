@@ -1,15 +1,15 @@
 -- The request that the words of a command line name.
 use Rattle.std.specs.Prelude.{◌≡◌, ◌⊎◌, ℕ, ◌&&◌, ◌==◌, Bool, true, not, nat_le}
-use Rattle.std.specs.Prelude.{if◌then◌else◌, List, [], ◌∷◌, length, Option, None, Some, codes}
+use Rattle.std.specs.Prelude.{if◌then◌else◌, List, [], ◌∷◌, length, Option, None, Some, codes, false}
 use Rattle.std.specs.Prelude.{option_map, option_and_then, unwrap_or}
-use Rattle.std.specs.Option.{IsSomeAnd}
+use Rattle.std.specs.Option.{IsSomeAnd, option_map_or}
 use Rattle.std.specs.Str.{bytes_eq}
 use Rattle.std.specs.Str.Parse.{digits_value, without_leading_plus}
 use Rattle.clap.specs.Walk.{Row, Text, all_of, first_of, one_of, is_empty}
 use Rattle.clap.specs.Simple.{subcommand_of}
 use Rattle.clap.specs.ValueTests.{is_unsigned_in}
 use Rattle.clap.specs.Faults.{fault_of}
-use Rattle.game_orders.specs.declared.limits.TheConstants.{MAX_CLIENTS, MAX_LAG}
+use Rattle.game_orders.specs.declared.limits.TheConstants.{MAX_CLIENTS, MAX_FRAMES, MAX_LAG}
 use Rattle.command_words.specs.declared.TheConstants.{MAX_BOTS, MAX_FILES}
 use Rattle.command_words.specs.declared.serve_query.TheConstants.{DEFAULT_LAG, DEFAULT_SEED}
 use Rattle.command_words.specs.declared.world_range.TheConstants.{DEFAULT_EVERY, DEFAULT_FROM}
@@ -17,9 +17,10 @@ use Rattle.rule_values.specs.Cells.{cell_of}
 use Rattle.world_units.specs.declared.cell.CPos.{CPos}
 use Rattle.command_words.specs.RequestPlain.{RequestPlain, Drill, Yaml, Check, Route, Make}
 use Rattle.command_words.specs.RequestPlain.{Local, Serve, Play, Replay, Migrate}
-use Rattle.command_words.specs.RequestPlain.{Save, Continue, View, Worlds, Compare, Datagrams}
+use Rattle.command_words.specs.RequestPlain.{Save, Continue, View, Worlds, Compare, Datagrams, PlayBot}
 use Rattle.command_words.specs.RequestPlain.{MatchPlain, RoutePlain, ServePlain, RangePlain}
 use Rattle.command_words.specs.Commands.{lockstep_app}
+use Rattle.command_words.specs.Player.{PlayerPlain, Script, Bot}
 
 -- `clap` accepts the words as a command line of `lockstep`.
 unfoldable pub is_accepted : List Text → Bool
@@ -158,10 +159,46 @@ compare_in found =
     option_map (λ query. Compare query second) (match_in (codes "file") found))
     (first_of (codes "with") found)
 
--- The request to play a script over a link: which, and where the server is.
+-- The option without a value is given.
+unfoldable pub has_flag : Text → List Row → Bool
+has_flag name found =
+    option_map_or (λ value. bytes_eq value (codes "true")) (first_of name found) false
+
+-- `--script` stands alone, or `--bot` and `--frames` stand without it.
+abbrev pub player_of :
+    (script : Option Text) → (bot : Bool) → (frames : Option ℕ) → Option PlayerPlain
+player_of (Some file) false None = Some (Script file)
+player_of None true (Some frames) = Some (Bot frames)
+player_of script bot frames = None
+
+unfoldable pub player_in : List Row → Option PlayerPlain
+player_in found =
+    player_of (first_of (codes "script") found) (has_flag (codes "bot") found)
+    (number_in (codes "frames") found)
+
+-- The request of a player at a server: over which map and rules.
+abbrev pub played_by :
+    (at : Text) → (map_file : Option Text) → (rules : List Text) → PlayerPlain →
+    Option RequestPlain
+played_by at map_file rules (Script file) =
+    Some (Play (record { file = file; map_file = map_file; rules = rules }) at)
+played_by at map_file rules (Bot frames) =
+    option_map (λ frames. PlayBot (record {
+      at = at;
+      frames = frames;
+      map_file = map_file;
+      rules = rules;
+    }))
+    (at_most MAX_FRAMES frames)
+
+-- The request to play over a link: who plays, and where the server is.
 unfoldable pub play_in : List Row → Option RequestPlain
 play_in found =
-    option_and_then (λ at. option_map (λ query. Play query at) (match_in (codes "script") found))
+    option_and_then (λ at.
+    option_and_then (λ player.
+    option_and_then (λ rules. played_by at (first_of (codes "map") found) rules player)
+    (names_in 0 found))
+    (player_in found))
     (first_of (codes "at") found)
 
 -- The match that is to be served.
@@ -236,7 +273,7 @@ found_request = option_and_then (λ command. command_request command.0 command.1
 
 -- The request that the words name; the first of them is the program's name. Words name none where
 -- `clap`'s definition of the command line does not accept them, where the number of positional
--- arguments is not allowed, and where a cell of `route` is none.
+-- arguments is not allowed, where a cell of `route` is none, and where `play` has no player, or two.
 unfoldable pub request_of : List Text → Option RequestPlain
 request_of words =
     if is_accepted words then found_request (subcommand_of lockstep_app words) else None
@@ -272,6 +309,12 @@ CellRefused None = ⊥
 CellRefused (Some command) =
     (command.0 ≡ codes "route")
     × ((cell_in (codes "from") command.1 ≡ None) ⊎ (cell_in (codes "to") command.1 ≡ None))
+
+-- The command is `play`, and neither does `--script` stand alone, nor `--bot` and `--frames` without
+-- it.
+abbrev pub PlayerRefused : Option (Text × List Row) → Type 0
+PlayerRefused None = ⊥
+PlayerRefused (Some command) = (command.0 ≡ codes "play") × (player_in command.1 ≡ None)
 
 -- A word that is a value as it stands: it does not begin with `-` (45), or it is `-` alone.
 abbrev pub is_plain : Text → Bool

@@ -2,8 +2,9 @@
 use Rattle.std.specs.Prelude.{◌≡◌, ℕ, ◌≤◌, List, [], length, Option, None, Some, option_map}
 use Rattle.std.specs.Borrow.{Bor}
 use Rattle.world_units.specs.declared.cell.CPos.{CPos}
-use Rattle.game_orders.specs.declared.limits.TheConstants.{MAX_CLIENTS}
+use Rattle.game_orders.specs.declared.limits.TheConstants.{MAX_CLIENTS, MAX_FRAMES}
 use Rattle.command_words.specs.declared.TheConstants.{MAX_BOTS, MAX_FILES}
+use Rattle.command_words.specs.declared.bot_query.BotQuery.{BotQuery}
 use Rattle.command_words.specs.declared.match_query.MatchQuery.{MatchQuery}
 use Rattle.command_words.specs.declared.route_query.RouteQuery.{RouteQuery}
 use Rattle.command_words.specs.declared.serve_query.ServeQuery.{ServeQuery}
@@ -46,6 +47,13 @@ pub record RangePlain : Type 0 where
   pub to : Option ℕ
   pub every : ℕ
 
+-- A match over a link that a bot plays: at which server, how many frames, over which map and rules.
+pub record BotPlain : Type 0 where
+  pub at : List ℕ
+  pub frames : ℕ
+  pub map_file : Option (List ℕ)
+  pub rules : List (List ℕ)
+
 pub data RequestPlain : Type 0 where
   Drill : MatchPlain → («record» : Option (List ℕ)) → RequestPlain
   Yaml : (files : List (List ℕ)) → RequestPlain
@@ -55,6 +63,7 @@ pub data RequestPlain : Type 0 where
   Local : MatchPlain → (bots : ℕ) → RequestPlain
   Serve : ServePlain → RequestPlain
   Play : MatchPlain → (at : List ℕ) → RequestPlain
+  PlayBot : BotPlain → RequestPlain
   Replay : MatchPlain → RequestPlain
   Migrate : MatchPlain → (to : List ℕ) → RequestPlain
   Save : MatchPlain → (frames : ℕ) → (to : List ℕ) → RequestPlain
@@ -96,6 +105,15 @@ plain_serve query =
       rules = query.rules;
     }
 
+abbrev pub plain_bot : BotQuery → BotPlain
+plain_bot query =
+    record {
+      at = query.at.now;
+      frames = query.frames;
+      map_file = plain_name query.map_file;
+      rules = query.rules;
+    }
+
 abbrev pub plain_range : WorldRange → RangePlain
 plain_range range = record { from = range.from; to = range.to; every = range.every }
 
@@ -109,6 +127,7 @@ plain_of (request.Make number) = Make number
 plain_of (request.Local query bots) = Local (plain_match query) bots
 plain_of (request.Serve query) = Serve (plain_serve query)
 plain_of (request.Play query at) = Play (plain_match query) at.now
+plain_of (request.PlayBot query) = PlayBot (plain_bot query)
 plain_of (request.Replay query) = Replay (plain_match query)
 plain_of (request.Migrate query to) = Migrate (plain_match query) to.now
 plain_of (request.Save query frames to) = Save (plain_match query) frames to.now
@@ -136,6 +155,8 @@ IsWithinBounds (request.Make number) = Unit {0}
 IsWithinBounds (request.Local query bots) = HasFewFiles query × (bots ≤ MAX_BOTS)
 IsWithinBounds (request.Serve query) = (length query.rules ≤ MAX_FILES) × IsCount query.clients
 IsWithinBounds (request.Play query at) = HasFewFiles query
+IsWithinBounds (request.PlayBot query) =
+    (length query.rules ≤ MAX_FILES) × (query.frames ≤ MAX_FRAMES)
 IsWithinBounds (request.Replay query) = HasFewFiles query
 IsWithinBounds (request.Migrate query to) = HasFewFiles query
 IsWithinBounds (request.Save query frames to) = HasFewFiles query

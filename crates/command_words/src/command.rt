@@ -3,6 +3,7 @@ ghost use Rattle.command_words.specs.Commands.{bare_app, played_app, drill_app, 
 ghost use Rattle.command_words.specs.Commands.{check_app, routed_app, ends_app, route_app};
 ghost use Rattle.command_words.specs.Commands.{make_app, local_app, replay_app, migrate_app};
 ghost use Rattle.command_words.specs.Commands.{hosted_app, timed_app, serve_app, play_app};
+ghost use Rattle.command_words.specs.Commands.{dialed_app, manned_app, flag_named};
 ghost use Rattle.command_words.specs.Commands.{first_app, asking_app, playing_app, linked_app};
 ghost use Rattle.command_words.specs.Commands.{framed_app, save_app, continue_app, view_app};
 ghost use Rattle.command_words.specs.Commands.{ranged_app, worlds_app, compare_app, datagrams_app};
@@ -17,7 +18,7 @@ use base::NoMemory;
 use crate::MAX_BOTS;
 use clap::builder::ValueParser;
 use clap::{Arg, ArgAction, Command};
-use game_orders::{MAX_CLIENTS, MAX_LAG};
+use game_orders::{MAX_CLIENTS, MAX_FRAMES, MAX_LAG};
 use std::alloc::Global;
 
 /// The command of the program itself, with its subcommands.
@@ -220,9 +221,29 @@ fn hosted_command<'a>(alloc: Global) -> Result<Command<'a>, NoMemory>
 fn play_command<'a>(alloc: Global) -> Result<Command<'a>, NoMemory>
     ensures { IfOk result (Follows play_app) }
 {
-    played_command(alloc, "play", "script")?
-        .arg(required_option(alloc, "at"))?
+    manned_command(alloc)?
+        .arg(option_named(alloc, "map"))?
         .arg(file_names(alloc))
+}
+
+/// `play` with all that says where and who plays.
+#[tactic(auto, unfolding(crate::specs::Commands::manned_app))]
+fn manned_command<'a>(alloc: Global) -> Result<Command<'a>, NoMemory>
+    ensures { IfOk result (Follows manned_app) }
+{
+    dialed_command(alloc)?
+        .arg(flag_named(alloc, "bot"))?
+        .arg(number_option(alloc, "frames", 0, MAX_FRAMES))
+}
+
+/// `play` with its first options: where, and by which script.
+#[tactic(auto, unfolding(crate::specs::Commands::dialed_app))]
+fn dialed_command<'a>(alloc: Global) -> Result<Command<'a>, NoMemory>
+    ensures { IfOk result (Follows dialed_app) }
+{
+    Command::new(alloc, "play")
+        .arg(required_option(alloc, "at"))?
+        .arg(option_named(alloc, "script"))
 }
 
 #[tactic(auto, unfolding(crate::specs::Commands::replay_app))]
@@ -324,6 +345,14 @@ fn option_named<'a>(alloc: Global, name: &'a str) -> Arg<'a>
     ensures local { result.global ≡ false }
 {
     Arg::new(alloc, name).long(name)
+}
+
+/// `--NAME` alone, which may be left out.
+fn flag_named<'a>(alloc: Global, name: &'a str) -> Arg<'a>
+    ensures rule { rule_of result ≡ flag_named name.entry.now }
+    ensures local { result.global ≡ false }
+{
+    option_named(alloc, name).action(ArgAction::SetTrue)
 }
 
 /// `--NAME VALUE`, which is required.

@@ -6,10 +6,10 @@ ghost use Rattle.command_words.specs.CommandNames.{command_of};
 ghost use Rattle.command_words.specs.Commands.{lockstep_app};
 ghost use Rattle.command_words.specs.RequestPlain.{RequestPlain, Drill, Yaml, Check, Replay};
 ghost use Rattle.command_words.specs.RequestPlain.{Migrate, Route, Make, Local, Serve, Play};
-ghost use Rattle.command_words.specs.RequestPlain.{Save, Continue, View, Worlds, Compare, Datagrams};
+ghost use Rattle.command_words.specs.RequestPlain.{Save, Continue, View, Worlds, Compare, Datagrams, PlayBot};
 ghost use Rattle.command_words.specs.RequestPlain.{match_alone};
 ghost use Rattle.command_words.specs.Reading.{request_of, is_accepted, is_plain, allowed};
-ghost use Rattle.command_words.specs.Reading.{NamesRefused, CellRefused};
+ghost use Rattle.command_words.specs.Reading.{NamesRefused, CellRefused, PlayerRefused};
 
 /// A law of the definition: no words, and the program's name alone, are refused.
 #[tactic(auto, using(crate::proofs::LiteralLemmas::no_words, crate::proofs::LiteralLemmas::alone))]
@@ -156,6 +156,27 @@ pub fn play_after_equals()
         ≡ Some (Play (match_alone script) at) }
 {}
 
+/// A law of the definition: `play --bot --frames=N --at=ADDRESS` names the server's address, whatever
+/// it is, and N, the greatest number here. A bot and a script together are refused, and so is a bot
+/// without a number of frames.
+#[tactic(auto, using(
+    crate::proofs::LiteralLemmas::play_by_a_bot,
+    crate::proofs::LiteralLemmas::play_by_both,
+    crate::proofs::LiteralLemmas::play_without_frames,
+))]
+pub fn play_by_a_bot()
+    ensures bot { (program at : List ℕ) →
+        request_of (program ∷ codes "play" ∷ codes "--bot" ∷ codes "--frames=262144"
+        ∷ (codes "--at=" ++ at) ∷ [])
+        ≡ Some (PlayBot (record { at = at; frames = 262144; map_file = None; rules = [] })) }
+    ensures both { (program at script : List ℕ) →
+        request_of (program ∷ codes "play" ∷ codes "--bot" ∷ codes "--frames=1"
+        ∷ (codes "--script=" ++ script) ∷ (codes "--at=" ++ at) ∷ [])
+        ≡ None }
+    ensures without { (program at : List ℕ) →
+        request_of (program ∷ codes "play" ∷ codes "--bot" ∷ (codes "--at=" ++ at) ∷ []) ≡ None }
+{}
+
 /// A law of the definition: `serve --at=ADDRESS --clients=16` names the address, whatever it is.
 /// The lag of the match is 2 and its seed 1, and it is over no map and no rules.
 #[tactic(auto, using(crate::proofs::LiteralLemmas::serve_without_options))]
@@ -249,11 +270,13 @@ pub fn check_names()
 {}
 
 /// A law of the definition: words that `clap` accepts name a request, unless a command that takes
-/// positional arguments has too many of them, or too few, or a cell of `route` is none.
+/// positional arguments has too many of them, or too few, or a cell of `route` is none, or `play` has
+/// no player, or two.
 #[tactic(auto, using(crate::proofs::AcceptedLemmas::accepted_request))]
 pub fn accepted_words_name_a_request()
     ensures { (words : List (List ℕ)) → is_accepted words ≡ true →
         (is_some (request_of words) ≡ true)
         ⊎ (NamesRefused (subcommand_of lockstep_app words)
-        ⊎ CellRefused (subcommand_of lockstep_app words)) }
+        ⊎ (CellRefused (subcommand_of lockstep_app words)
+        ⊎ PlayerRefused (subcommand_of lockstep_app words))) }
 {}

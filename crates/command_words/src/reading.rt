@@ -6,7 +6,7 @@ ghost use Rattle.clap.specs.Matches.{found_of};
 ghost use Rattle.clap.specs.Simple.{subcommand_of, subcommand_rows_of};
 ghost use Rattle.command_words.specs.Commands.{lockstep_app};
 ghost use Rattle.command_words.specs.RequestPlain.{plain_of, plain_match, plain_route, plain_serve};
-ghost use Rattle.command_words.specs.RequestPlain.{plain_range, HasFewFiles, IsCount};
+ghost use Rattle.command_words.specs.RequestPlain.{plain_name, plain_range, HasFewFiles, IsCount};
 ghost use Rattle.command_words.specs.RequestPlain.{IsRead, IsWithinBounds};
 ghost use Rattle.command_words.specs.Reading.{is_accepted, is_allowed, command_request};
 ghost use Rattle.command_words.specs.Reading.{found_request, request_of, names_in, number_in};
@@ -14,16 +14,19 @@ ghost use Rattle.command_words.specs.Reading.{cell_in, match_in, route_in, migra
 ghost use Rattle.command_words.specs.Reading.{count_in, count_or, up_to, serve_in, play_in};
 ghost use Rattle.command_words.specs.Reading.{step_or, from_one, range_in, worlds_in};
 ghost use Rattle.command_words.specs.Reading.{save_in, continue_in, view_in, compare_in};
-ghost use Rattle.command_words.specs.Reading.{at_most, bots_in, local_in};
+ghost use Rattle.command_words.specs.Reading.{at_most, bots_in, local_in, has_flag, played_by};
+ghost use Rattle.command_words.specs.Reading.{player_in};
+ghost use Rattle.command_words.specs.Player.{plain_player};
 
 use crate::command::lockstep_command;
+use crate::player::Player;
 use crate::{
-    DEFAULT_EVERY, DEFAULT_FROM, DEFAULT_LAG, DEFAULT_SEED, FileNames, MAX_BOTS, MAX_FILES,
-    MatchQuery, Request, RouteQuery, ServeQuery, WordsFault, WorldRange,
+    BotQuery, DEFAULT_EVERY, DEFAULT_FROM, DEFAULT_LAG, DEFAULT_SEED, FileNames, MAX_BOTS,
+    MAX_FILES, MatchQuery, Request, RouteQuery, ServeQuery, WordsFault, WorldRange,
 };
 use clap::ArgMatches;
 use clap::error::ErrorKind;
-use game_orders::{MAX_CLIENTS, MAX_LAG};
+use game_orders::{MAX_CLIENTS, MAX_FRAMES, MAX_LAG};
 use rule_values::read_cell;
 use std::alloc::Global;
 use world_units::CPos;
@@ -169,7 +172,8 @@ fn bots_in(found: &ArgMatches<'_>) -> Option<u8>
     ensures value { result ≡ bots_in (rows_of (found_of found.now)) }
     ensures most { IfSome result (λ bots. bots ≤ MAX_BOTS) }
 {
-    at_most(MAX_BOTS, number_in(found, "bots").unwrap_or(0))
+    let bots = at_most(u32::from(MAX_BOTS), number_in(found, "bots").unwrap_or(0))?;
+    Some(bots as u8)
 }
 
 /// The request to migrate a replay.
@@ -184,7 +188,7 @@ fn migrate_in<'a>(alloc: Global, found: &ArgMatches<'a>) -> Result<Request<'a>, 
     Ok(Request::Migrate { query, to })
 }
 
-/// The request to play a script over a link.
+/// The request to play over a link.
 #[tactic(auto, unfolding(crate::specs::Reading::play_in))]
 fn play_in<'a>(alloc: Global, found: &ArgMatches<'a>) -> Result<Request<'a>, WordsFault>
     ensures request { IfOk result (IsRead (play_in (rows_of (found_of found.now)))) }
@@ -192,8 +196,68 @@ fn play_in<'a>(alloc: Global, found: &ArgMatches<'a>) -> Result<Request<'a>, Wor
         play_in (rows_of (found_of found.now)) ≡ None }
 {
     let at = value_in(found, "at").ok_or(WordsFault::Refused)?;
-    let query = match_in(alloc, found, "script")?;
-    Ok(Request::Play { query, at })
+    let player = player_in(found).ok_or(WordsFault::Refused)?;
+    let map_file = value_in(found, "map");
+    let rules = names_in(alloc, found, 0)?;
+    played_by(at, map_file, rules, player).ok_or(WordsFault::Refused)
+}
+
+/// The request of a player at a server, over this map and these rules.
+fn played_by<'a>(
+    at: &'a str,
+    map_file: Option<&'a str>,
+    rules: FileNames<'a>,
+    player: Player<'a>,
+) -> Option<Request<'a>>
+    requires { length rules ≤ MAX_FILES }
+    ensures request { option_map plain_of result
+        ≡ played_by at.entry.now (plain_name map_file.entry) rules.entry (plain_player player.entry) }
+    ensures bounds { IfSome result IsWithinBounds }
+{
+    match player {
+        Player::Script(file) => {
+            let query = MatchQuery {
+                file,
+                map_file,
+                rules,
+            };
+            Some(Request::Play { query, at })
+        }
+        Player::Bot { frames } => {
+            let frames = at_most(MAX_FRAMES, frames)?;
+            Some(Request::PlayBot(BotQuery {
+                at,
+                frames,
+                map_file,
+                rules,
+            }))
+        }
+    }
+}
+
+/// Who plays over a link: `--script` stands alone, or `--bot` and `--frames` without it.
+#[tactic(auto, unfolding(crate::specs::Reading::player_in))]
+fn player_in<'a>(found: &ArgMatches<'a>) -> Option<Player<'a>>
+    ensures { option_map plain_player result ≡ player_in (rows_of (found_of found.now)) }
+{
+    let script = value_in(found, "script");
+    let frames = number_in(found, "frames");
+    match (script, has_flag(found, "bot"), frames) {
+        (Some(file), false, None) => Some(Player::Script(file)),
+        (None, true, Some(frames)) => Some(Player::Bot { frames }),
+        _ => None,
+    }
+}
+
+/// Whether the option without a value is given.
+#[tactic(auto, unfolding(crate::specs::Reading::has_flag))]
+fn has_flag(found: &ArgMatches<'_>, option: &str) -> bool
+    ensures { result ≡ has_flag option.now (rows_of (found_of found.now)) }
+{
+    match value_in(found, option) {
+        Some(value) => value == "true",
+        None => false,
+    }
 }
 
 /// The request to write a save of a replay.
@@ -393,15 +457,11 @@ fn up_to(most: u8, number: u32) -> Option<u8>
 }
 
 /// The number, if it is one up to `most`.
-fn at_most(most: u8, number: u32) -> Option<u8>
+fn at_most(most: u32, number: u32) -> Option<u32>
     ensures value { result ≡ at_most most number }
-    ensures most { IfSome result (λ count. count ≤ most) }
+    ensures most { IfSome result (λ number. number ≤ most) }
 {
-    if number <= u32::from(most) {
-        Some(number as u8)
-    } else {
-        None
-    }
+    if number <= most { Some(number) } else { None }
 }
 
 /// The positional arguments, where there are at least so many and no more than are allowed.

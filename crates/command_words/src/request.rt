@@ -1,3 +1,4 @@
+use crate::bot_query::BotQuery;
 use crate::file_names::FileNames;
 use crate::match_query::MatchQuery;
 use crate::route_query::RouteQuery;
@@ -62,6 +63,10 @@ pub enum Request<'a> {
         /// The address of the server.
         at: &'a str,
     },
+
+    /// `play --at ADDRESS --bot --frames N --map FILE RULES`: let a bot play over a link to a server,
+    /// over the map and the rules.
+    PlayBot(BotQuery<'a>),
 
     /// `replay --file FILE --map FILE RULES`: run the replay that the file holds, over the map and
     /// the rules.
