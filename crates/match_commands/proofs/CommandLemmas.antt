@@ -4,7 +4,7 @@ use Rattle.std.proofs.lemmas.Option.{slice_get-map}
 use Rattle.std.specs.Prelude.{option_map, slice_get}
 use Rattle.command_words.specs.CommandNames.{command_of}
 use Rattle.command_words.specs.Reading.{request_of}
-use Rattle.command_words.specs.RequestPlain.{RequestPlain, Drill, Yaml, Check, Route, Make, Local, Serve, Play, Replay, Migrate, Save, Continue, View, Worlds, Compare, Datagrams}
+use Rattle.command_words.specs.RequestPlain.{RequestPlain, Drill, Yaml, Check, Route, Make, Local, Serve, Play, Replay, Migrate, Save, Continue, View, Worlds, Compare, Datagrams, PlayBot}
 use Rattle.command_words.proofs.SecondWordLemmas.{command_comes_second}
 use Rattle.match_commands.specs.TopCalls.{waiting, names_waiting}
 
@@ -17,6 +17,7 @@ command_waits (Make number) = refl
 command_waits (Local query bots) = refl
 command_waits (Serve query) = refl
 command_waits (Play query at) = refl
+command_waits (PlayBot query) = refl
 command_waits (Replay query) = refl
 command_waits (Migrate query to) = refl
 command_waits (Save query frames to) = refl

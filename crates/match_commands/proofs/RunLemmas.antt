@@ -1,7 +1,7 @@
 -- A whole run: from the request that the words name, or that they name none.
 use Rattle.std.specs.Prelude.{◌==◌, option_and_then, unwrap_or, if◌then◌else◌, nat_lt, length}
 use Rattle.std.proofs.Common.{◌≡◌, ◌⊎◌, ℕ, Bool, true, false, List, [], Option, None, Some, Ok, Err, IsOk, IfSome, IfNone, ◌≢◌, refl, sym, subst, inl, inr, arith}
-use Rattle.command_words.specs.RequestPlain.{RequestPlain, MatchPlain, Drill, Yaml, Check, Route, Make, Local, Serve, Play, Replay, Migrate, Save, Continue, View, Worlds, Compare, Datagrams}
+use Rattle.command_words.specs.RequestPlain.{RequestPlain, MatchPlain, Drill, Yaml, Check, Route, Make, Local, Serve, Play, Replay, Migrate, Save, Continue, View, Worlds, Compare, Datagrams, PlayBot}
 use Rattle.game_io.specs.Files.{Files}
 use Rattle.command_answers.specs.declared.statuses.TheConstants.{DONE, REFUSED_FILE, FAULT_READ, FAULT_WRITE, OUT_OF_MEMORY, MARK_DIFFERS}
 use Rattle.base.specs.Steps.{◌>>=◌}
@@ -117,6 +117,7 @@ given_done (Make number) contents ok = text_done (make_step number) ok
 given_done (Local query bots) contents ok = text_done (local_match_step query bots contents) ok
 given_done (Serve query) contents ok = refl
 given_done (Play query at) contents ok = refl
+given_done (PlayBot query) contents ok = refl
 given_done (Replay query) contents ok =
     replayed_done (numbered_setup_step query.rules query.map_file contents) _ IsReplayDone
     (λ made. replayed_done (read_step query.file (read_of made.1 (unwrap_or contents.replay []))) _ IsReplayDone
@@ -221,6 +222,7 @@ request_sound (Route query) status causes old new runs = tt
 request_sound (Local query bots) status causes old new runs = tt
 request_sound (Serve query) status causes old new runs = tt
 request_sound (Play query at) status causes old new runs = tt
+request_sound (PlayBot query) status causes old new runs = tt
 request_sound (Replay query) status causes old new runs = tt
 request_sound (Migrate query to) status causes old new runs = tt
 request_sound (Save query frames to) status causes old new runs = tt

@@ -1,19 +1,18 @@
 -- What is known of a run of `play`, over plain values.
 use Rattle.std.specs.Prelude.{option_and_then}
-use Rattle.std.proofs.Common.{◌≡◌, ◌≤◌, ◌⊎◌, ℕ, List, Option, None, Some, Result, Ok, Err, IsOk, IfSome, IfNone, refl, sym, subst, inl, inr, arith}
-use Rattle.std.specs.Global.{Vec}
+use Rattle.std.proofs.Common.{◌≡◌, ◌≤◌, ◌⊎◌, ℕ, List, Option, None, Some, Result, Ok, Err, IsOk, IfSome, IfNone, refl, sym, ap, subst, inl, inr, arith}
+use Rattle.base.specs.Steps.{◌>>=◌}
 use Rattle.game_model.specs.Setup.{Setup}
-use Rattle.game_orders.specs.declared.order.Order.{Order}
 use Rattle.tick_core.specs.Game.{game_hash, game_summary}
 use Rattle.game_io.specs.DiskState.{DiskState}
 use Rattle.game_io.specs.Files.{Files}
 use Rattle.game_io.specs.NetState.{NetState}
 use Rattle.game_io.specs.SinkState.{SinkState}
 use Rattle.game_io.specs.SourceState.{SourceState}
-use Rattle.command_words.specs.RequestPlain.{RequestPlain, ServePlain, Drill, Yaml, Check, Route, Make, Local, Serve, Play, Replay, Migrate, Save, Continue, View, Worlds, Compare, Datagrams}
+use Rattle.command_words.specs.RequestPlain.{RequestPlain, ServePlain, Drill, Yaml, Check, Route, Make, Local, Serve, Play, Replay, Migrate, Save, Continue, View, Worlds, Compare, Datagrams, PlayBot}
 use Rattle.command_answers.specs.declared.statuses.TheConstants.{OUT_OF_MEMORY}
 use Rattle.command_answers.specs.declared.stop.Stop.{Stop}
-use Rattle.command_answers.specs.declared.stop.Stop.TheVariants.{NoMemory}
+use Rattle.command_answers.specs.declared.stop.Stop.TheVariants.{NoMemory, ReadFault, Refused}
 use Rattle.command_answers.specs.Causes.{Causes}
 use Rattle.command_answers.specs.CausesLemmas.{HasCauses, at_memory}
 use Rattle.command_answers.specs.Environment.{environment}
@@ -24,7 +23,7 @@ use Rattle.link_commands.specs.Links.{WithLinks, with_links, Begins, EndsBefore,
 use Rattle.link_commands.specs.LinkLemmas.{IsCaused, linked_stopped, stop_begins, stop_caused}
 use Rattle.link_commands.specs.Plays.{LinkFailed, IsPlayDone}
 use Rattle.link_commands.specs.PlayLemmas.{plays_caused}
-use Rattle.match_commands.specs.Plays.{PlayMeans, play_means, play_step, terms_of, PlaysFrom, PlaysOver}
+use Rattle.match_commands.specs.Plays.{PlayMeans, bot_means, bot_step, play_step, terms_of, PlaysFrom, PlaysOver}
 use Rattle.serve_command.specs.Serves.{NetFailed, IsServeDone}
 use Rattle.serve_command.specs.ServeLemmas.{serves_caused}
 use Rattle.match_commands.specs.Run.{Runs}
@@ -35,24 +34,30 @@ use Rattle.match_commands.proofs.RequestLemmas.{request_stopped}
 use Rattle.match_commands.proofs.RunLemmas.{request_runs}
 
 -- From what the code plays by, or why it ended before it had that.
-abbrev pub Made : Type 0
-Made = Result (Setup × ℕ × Vec (List Order)) Stop
-
 pub play_begins :
-    (made : Made) (step : Step PlayMeans) (status : ℕ) (old new : WithLinks) →
-    new.console ≡ old.console → ReturnsStep made play_means step → PlaysFrom made status old.net new.net old.sink new.sink →
+    {M : Type 0} (means : M → PlayMeans) (made : Result M Stop) (step : Step PlayMeans) (status : ℕ) (old new : WithLinks) →
+    new.console ≡ old.console → ReturnsStep made means step → PlaysFrom means made status old.net new.net old.sink new.sink →
     Begins step (PlaysOver status old new) status old new ⊎ EndsBefore status old new
-play_begins (Ok made) step status old new same returns plays =
+play_begins means (Ok made) step status old new same returns plays =
     inl (subst (λ step. Begins step (PlaysOver status old new) status old new) (sym returns) (plays, same))
-play_begins (Err stop) step status old new same returns plays =
+play_begins means (Err stop) step status old new same returns plays =
     stop_begins stop step (PlaysOver status old new) status old new returns plays.0 (plays.1, same)
 
 pub play_caused :
-    (made : Made) (step : Step PlayMeans) (status : ℕ) (old new : WithLinks) →
-    ReturnsStep made play_means step → PlaysFrom made status old.net new.net old.sink new.sink →
+    {M : Type 0} (means : M → PlayMeans) (made : Result M Stop) (step : Step PlayMeans) (status : ℕ) (old new : WithLinks) →
+    ReturnsStep made means step → PlaysFrom means made status old.net new.net old.sink new.sink →
     IsCaused IsPlayDone (IsOk step) status (causes_by (LinkFailed old.net new.net) old new)
-play_caused (Ok made) step status old new returns plays = plays_caused game_hash game_summary (terms_of (play_means made)) (IsOk step) status old new plays
-play_caused (Err stop) step status old new returns plays = stop_caused stop step IsPlayDone status old new _ returns plays.0
+play_caused means (Ok made) step status old new returns plays = plays_caused game_hash game_summary (terms_of (means made)) (IsOk step) status old new plays
+play_caused means (Err stop) step status old new returns plays = stop_caused stop step IsPlayDone status old new _ returns plays.0
+
+-- What a bot plays by follows from what it stands on.
+pub bot_returns :
+    (frames : ℕ) (made : Result (Setup × ℕ) Stop) (step : Step (Setup × ℕ)) → ReturnsStep made (λ made. made) step →
+    ReturnsStep made (bot_means frames) (step >>= λ made. Ok (bot_means frames made))
+bot_returns frames (Ok made) step returns = ap (λ (step : Step (Setup × ℕ)). step >>= λ made. Ok (bot_means frames made)) returns
+bot_returns frames (Err (Refused name place cause)) step returns = ap (λ (step : Step (Setup × ℕ)). step >>= λ made. Ok (bot_means frames made)) returns
+bot_returns frames (Err ReadFault) step returns = returns
+bot_returns frames (Err NoMemory) step returns = returns
 
 pub serve_begins :
     (query : ServePlain) (made : Result (Setup × ℕ) Stop) (step : Step (Setup × ℕ)) (status : ℕ) (old new : WithLinks) →
@@ -136,6 +141,11 @@ request_waits (Local query bots) d s net console = (
       (unread_told d.files _ (λ files. tt)) (unread_untold d.files _ tt) (refl, refl)),
   (refl, refl),
 )
+request_waits (PlayBot query) d s net console =
+    let all = rules_and_map query.rules query.map_file in
+    let old = with_links d s net console in
+    linked_stopped all all (bot_step query) (PlaysOver OUT_OF_MEMORY old old) IsPlayDone NoMemory OUT_OF_MEMORY (LinkFailed net net) old old
+    refl refl (omega arith) (omega arith) (unread_told d.files _ (λ files. tt)) (unread_untold d.files _ tt) (refl, refl) (refl, refl)
 request_waits (Play query at) d s net console =
     let all = with_script query.file (rules_and_map query.rules query.map_file) in
     let old = with_links d s net console in

@@ -4,7 +4,7 @@ use Rattle.base.specs.Steps.{◌>>=◌}
 use Rattle.game_io.specs.Files.{Files}
 use Rattle.command_words.specs.RequestPlain.{RequestPlain, Drill, Yaml, Check, Route, Make}
 use Rattle.command_words.specs.RequestPlain.{Local, Serve, Play, Replay, Migrate, Save}
-use Rattle.command_words.specs.RequestPlain.{Continue, View, Worlds, Compare, Datagrams}
+use Rattle.command_words.specs.RequestPlain.{Continue, View, Worlds, Compare, Datagrams, PlayBot}
 use Rattle.command_answers.specs.Reply.{Reply, done}
 use Rattle.command_answers.specs.Step.{Step, replied}
 use Rattle.command_answers.specs.WantedFiles.{WantedFiles, no_files, rule_file}
@@ -35,6 +35,7 @@ wanted (Make number) = no_files
 wanted (Local query bots) = with_script query.file (rules_and_map query.rules query.map_file)
 wanted (Serve query) = rules_and_map query.rules query.map_file
 wanted (Play query at) = with_script query.file (rules_and_map query.rules query.map_file)
+wanted (PlayBot query) = rules_and_map query.rules query.map_file
 wanted (Replay query) = with_replay query.file (rules_and_map query.rules query.map_file)
 wanted (Migrate query to) = with_replay query.file (rules_and_map query.rules query.map_file)
 wanted (Save query frames to) =
@@ -57,6 +58,7 @@ written_by (Make number) = None
 written_by (Local query bots) = None
 written_by (Serve query) = None
 written_by (Play query at) = None
+written_by (PlayBot query) = None
 written_by (Replay query) = None
 written_by (Migrate query to) = Some to
 written_by (Save query frames to) = Some to
@@ -82,6 +84,7 @@ answer_of (Make number) contents = text_reply (make_step number)
 answer_of (Local query bots) contents = text_reply (local_match_step query bots contents)
 answer_of (Serve query) contents = text_reply (Ok [])
 answer_of (Play query at) contents = text_reply (Ok [])
+answer_of (PlayBot query) contents = text_reply (Ok [])
 answer_of (Replay query) contents = replayed_step query contents
 answer_of (Migrate query to) contents = migrated_step query to contents
 answer_of (Save query frames to) contents = saved_step query frames to contents

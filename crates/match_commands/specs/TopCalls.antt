@@ -1,13 +1,14 @@
 -- Which of the two top calls runs a command. Each refuses the other's commands as words.
 use Rattle.std.specs.Prelude.{◌||◌, Bool, false, List, ℕ, Option, None, Some, option_and_then, codes}
 use Rattle.std.specs.Str.{bytes_eq}
-use Rattle.command_words.specs.RequestPlain.{RequestPlain, Local, Serve, Play}
+use Rattle.command_words.specs.RequestPlain.{RequestPlain, Local, Serve, Play, PlayBot}
 
 -- The request, where its command always returns.
 abbrev pub returning : RequestPlain → Option RequestPlain
 returning (Local query bots) = None
 returning (Serve query) = None
 returning (Play query at) = None
+returning (PlayBot query) = None
 returning request = Some request
 
 -- The request, where its command may wait for threads or links.
@@ -15,6 +16,7 @@ abbrev pub waiting : RequestPlain → Option RequestPlain
 waiting (Local query bots) = Some (Local query bots)
 waiting (Serve query) = Some (Serve query)
 waiting (Play query at) = Some (Play query at)
+waiting (PlayBot query) = Some (PlayBot query)
 waiting request = None
 
 -- The request that `run` runs, if the words name one, and the request that `run_waiting` runs.

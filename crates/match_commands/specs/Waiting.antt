@@ -1,9 +1,9 @@
 -- A run of a command that may wait for threads or links.
 use Rattle.std.specs.Prelude.{◌≡◌, ℕ, Option, Some, option_and_then}
-use Rattle.command_words.specs.RequestPlain.{RequestPlain, Serve, Play}
+use Rattle.command_words.specs.RequestPlain.{RequestPlain, Serve, Play, PlayBot}
 use Rattle.command_answers.specs.Causes.{causes_of}
 use Rattle.link_commands.specs.Links.{WithLinks, IsApart, environment_of}
-use Rattle.match_commands.specs.Plays.{RunsPlay}
+use Rattle.match_commands.specs.Plays.{RunsBot, RunsPlay}
 use Rattle.match_commands.specs.Serves.{RunsServe}
 use Rattle.match_commands.specs.Request.{written_by}
 use Rattle.match_commands.specs.Run.{Runs}
@@ -20,4 +20,5 @@ RunsAlone request status old new =
 abbrev pub RunsWaiting : Option RequestPlain → ℕ → (old new : WithLinks) → Type 0
 RunsWaiting (Some (Serve query)) status old new = RunsServe query status old new
 RunsWaiting (Some (Play query at)) status old new = RunsPlay query status old new
+RunsWaiting (Some (PlayBot query)) status old new = RunsBot query status old new
 RunsWaiting request status old new = RunsAlone request status old new

@@ -15,7 +15,7 @@ ghost use Rattle.match_commands.specs.TopCalls.{names_waiting, waiting, waiting_
 ghost use Rattle.match_commands.specs.Waiting.{RunsWaiting};
 
 use crate::hosting::run_serve;
-use crate::linking::run_play;
+use crate::linking::{run_bot, run_play};
 use command_answers::{
     GivenFiles, OUT_OF_MEMORY, PlayedFile, Stop, print_stop, print_text, read_played_files,
     refuse_words,
@@ -133,6 +133,7 @@ fn run_request<
             run_local_match(rt, alloc, query, *bots, disk, out, gate)
         }
         Request::Play { query, at } => run_play(alloc, query, at, disk, out, net),
+        Request::PlayBot(query) => run_bot(alloc, query, disk, out, net),
         Request::Serve(query) => run_serve(rt, alloc, query, disk, out, net, console),
         Request::Drill { .. }
         | Request::Yaml { .. }

@@ -5,7 +5,7 @@ use Rattle.command_answers.specs.WantedFiles.{rules_and_map, with_script}
 use Rattle.link_commands.specs.Links.{with_links}
 use Rattle.link_commands.specs.LinkLemmas.{linked_given, linked_stopped}
 use Rattle.link_commands.specs.Plays.{LinkFailed, IsPlayDone}
-use Rattle.match_commands.specs.Plays.{play_step, PlaysOver}
+use Rattle.match_commands.specs.Plays.{play_means, play_step, PlaysOver}
 use Rattle.match_commands.proofs.WaitingLemmas.{play_begins, play_caused}
 use Rattle.match_commands.proofs.linking.run_play.Goals as goal
 
@@ -21,8 +21,8 @@ returns-in-Ok g c console =
     (play_step query) (PlaysOver c.play_made.result old new) IsPlayDone contents c.play_made.result _ old new
     (ap (λ names. with_script query.file (rules_and_map names query.map_file)) (sym c.as_slice-names.ensures))
     c.in-Ok.ensures.files c.in-Ok.ensures.later c.play_made.ensures.later c.in-Ok.ensures.told c.in-Ok.ensures.untold
-    (play_begins c.prepare_play.result (play_step query contents) c.play_made.result old new refl c.prepare_play.ensures c.play_made.ensures.plays)
-    (play_caused c.prepare_play.result (play_step query contents) c.play_made.result old new c.prepare_play.ensures c.play_made.ensures.plays)
+    (play_begins play_means c.prepare_play.result (play_step query contents) c.play_made.result old new refl c.prepare_play.ensures c.play_made.ensures.plays)
+    (play_caused play_means c.prepare_play.result (play_step query contents) c.play_made.result old new c.prepare_play.ensures c.play_made.ensures.plays)
 
 -- One of them was not.
 pub returns-in-Err : goal.returns-in-Err

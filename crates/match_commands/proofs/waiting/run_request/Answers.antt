@@ -10,3 +10,6 @@ returns-in-Serve g c = rw (c.in-Serve.is) c.run_serve.ensures
 
 pub returns-in-Play : goal.returns-in-Play
 returns-in-Play g c = rw (c.in-Play.is) (c.run_play.ensures (g.C.Source.state c.args.console.now))
+
+pub returns-in-PlayBot : goal.returns-in-PlayBot
+returns-in-PlayBot g c = rw (c.in-PlayBot.is) (c.run_bot.ensures (g.C.Source.state c.args.console.now))
