@@ -312,12 +312,11 @@ ready_is s x follows =
 pub ready_begins :
     (s : Schedule) (x : ExchangeState) → Follows s x →
     (rest : List (List ℕ)) × (x.receiver.ready ++ rest ≡ s.offered)
-ready_begins s x follows =
-    (
-      drop x.receiver.next s.offered,
-      ap (λ (ready : List (List ℕ)). ready ++ drop x.receiver.next s.offered) follows.ready
+ready_begins s x follows = (
+  drop x.receiver.next s.offered,
+  ap (λ (ready : List (List ℕ)). ready ++ drop x.receiver.next s.offered) follows.ready
       ∙ take-append-drop x.receiver.next s.offered,
-    )
+)
 
 pub acknowledged_below :
     (s : Schedule) (x : ExchangeState) → Follows s x →

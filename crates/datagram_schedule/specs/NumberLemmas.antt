@@ -27,9 +27,10 @@ get_kept xs ys i x at = get_append xs ys i (slice_get_within xs i x at) ∙ at
 pub get_drop :
     {A : Type 0} (n i : ℕ) (xs : List A) → slice_get (drop n xs) i ≡ slice_get xs (n + i)
 get_drop n i [] = ap (λ xs. slice_get xs i) (drop_all n [] (omega arith))
-get_drop zero i (x ∷ xs) = ap (slice_get (x ∷ xs)) (omega arith)
+get_drop zero i (x ∷ xs) = let same : i ≡ 0 + i = omega arith in ap (slice_get (x ∷ xs)) same
 get_drop (suc n) i (x ∷ xs) =
-    get_drop n i xs ∙ ap (slice_get (x ∷ xs)) (omega arith)
+    let same : suc (n + i) ≡ suc n + i = omega arith in
+    get_drop n i xs ∙ ap (slice_get (x ∷ xs)) same
 
 -- What holds of each holds of the one with this number.
 pub get_holds :

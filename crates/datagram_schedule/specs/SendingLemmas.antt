@@ -1,7 +1,7 @@
 -- Offers, and what is put into the air: the exchange still follows the schedule.
 use Rattle.std.proofs.Common.{◌≡◌, ℕ, ◌+◌, ◌-◌, ◌<◌, ◌≤◌, Bool, true, false, cond, ◌&&◌, List, []}
 use Rattle.std.proofs.Common.{◌∷◌, ◌++◌, length, take, drop, Option, Some, None, refl, sym, ap}
-use Rattle.std.proofs.Common.{◌∙◌, ⊎_elim, inl, inr, arith, eqb, ltb, length-drop, append-nil, le_refl}
+use Rattle.std.proofs.Common.{◌∙◌, ◌⊎◌, ⊎_elim, inl, inr, arith, eqb, ltb, length-drop, append-nil, le_refl}
 use Rattle.std.specs.Prelude.{slice_get, slice_index_or, replicate}
 use Rattle.std.specs.List.{AllByRecursion}
 use Rattle.std.specs.Option.{option_map}
