@@ -68,11 +68,7 @@ fn run_lines(
 }
 
 /// The lines of the events, and those after them.
-fn with_closing(
-    alloc: Global,
-    exchange: &mut Exchange,
-    lines: String,
-) -> Result<Vec<u8>, NoMemory>
+fn with_closing(alloc: Global, exchange: &mut Exchange, lines: String) -> Result<Vec<u8>, NoMemory>
     ensures { IfOk result (λ text. text.items
         ≡ string_bytes lines ++ exchange_closing exchange.old) }
 {
