@@ -1,7 +1,7 @@
 -- A receiver: how many payloads came into order, which of the next ones came, and which that came
 -- into order are still to be popped.
 use Rattle.std.specs.Prelude.{◌≡◌, ◌<◌, ℕ, ◌+◌, ◌-◌, ◌==◌, nat_lt, nat_le, Bool, true, ◌||◌, if◌then◌else◌}
-use Rattle.std.specs.Prelude.{List, [], ◌∷◌, ◌++◌, length, drop, replicate}
+use Rattle.std.specs.Prelude.{List, [], ◌++◌, length, replicate}
 use Rattle.std.specs.Prelude.{Option, Some, None, is_some, slice_index_or, slice_set}
 use Rattle.datagram_link.specs.declared.limits.TheConstants.{WINDOW, MAX_PAYLOADS}
 use Rattle.datagram_link.specs.declared.arrived.Arrived.{Arrived}

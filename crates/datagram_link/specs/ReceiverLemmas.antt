@@ -1,14 +1,14 @@
 -- The invariant of a receiver: where payloads may stand, and that its next number stays in range.
-use Rattle.std.proofs.Common.{◌≡◌, ℕ, zero, suc, ◌+◌, ◌-◌, ◌<◌, ◌≤◌, true, false, List, [], ◌∷◌}
-use Rattle.std.proofs.Common.{length, Option, Some, None, refl, sym, ap, subst, ◌∙◌}
-use Rattle.std.proofs.Common.{⊎_elim, inl, inr, arith}
+use Rattle.std.proofs.Common.{◌≡◌, ℕ, ◌+◌, ◌-◌, ◌<◌, ◌≤◌, true, false, List, []}
+use Rattle.std.proofs.Common.{length, Option, Some, None, sym, ap, ◌∙◌}
+use Rattle.std.proofs.Common.{⊎_elim, arith, eqb, leb, ◌^◌}
 use Rattle.std.specs.Prelude.{is_some, replicate, slice_index_or, slice_set}
-use Rattle.std.proofs.lemmas.Bool.{cases_eq, false≢true}
+use Rattle.std.proofs.lemmas.Bool.{cases_eq, false≢true, or_parts, leb-false, eqb-false}
 use Rattle.std.proofs.lemmas.List.{get_or-set_other, length-replicate, length-set}
 use Rattle.datagram_link.specs.declared.limits.TheConstants.{WINDOW, MAX_PAYLOADS}
 use Rattle.datagram_link.specs.Window.{run_of, moved_on}
 use Rattle.datagram_link.specs.WindowLemmas.{run_get, moved_length, moved_get, get_empty}
-use Rattle.datagram_link.specs.Receiver.{IsReceiver}
+use Rattle.datagram_link.specs.Receiver.{IsReceiver, ReceiverState, is_too_far}
 
 -- Nothing has arrived.
 pub receiver_start :
@@ -21,19 +21,28 @@ receiver_start window is =
 
 -- A payload is put at a place.
 pub receiver_filled :
-    (next number : ℕ) (payload : List ℕ) (old new : List (Option (List ℕ))) → IsReceiver next old →
-    next ≤ number → number < MAX_PAYLOADS → new ≡ slice_set old (number - next) (Some payload) →
-    IsReceiver next new
-receiver_filled next number payload old new whole above below is =
+    (next at : ℕ) (payload : List ℕ) (old new : List (Option (List ℕ))) → IsReceiver next old →
+    next + at < MAX_PAYLOADS → new ≡ slice_set old at (Some payload) → IsReceiver next new
+receiver_filled next at payload old new whole below is =
     rw is (record {
-      places = length-set old (number - next) (Some payload) ∙ whole.places;
+      places = length-set old at (Some payload) ∙ whole.places;
       within = λ i some.
-          ⊎_elim (λ (same : i ≡ number - next). omega arith)
-          (λ (other : i ≡ number - next → ⊥).
+          ⊎_elim (λ (same : i ≡ at). omega arith)
+          (λ (other : i ≡ at → ⊥).
           whole.within i
-          (sym (ap is_some (get_or-set_other old (number - next) i (Some payload) None other)) ∙ some))
-          (cases_eq i (number - next));
+          (sym (ap is_some (get_or-set_other old at i (Some payload) None other)) ∙ some))
+          (cases_eq i at);
     })
+
+-- A number that is not too far.
+pub near_number :
+    (r : ReceiverState) (number : ℕ) → is_too_far r number ≡ false → number < 2 ^ 32 →
+    (number < r.next + WINDOW) × (number < MAX_PAYLOADS)
+near_number r number near small =
+    let both = or_parts (leb (r.next + WINDOW) number) (eqb number MAX_PAYLOADS) near in
+    let below : number < r.next + WINDOW = leb-false (r.next + WINDOW) number both.0 in
+    let other : number ≡ MAX_PAYLOADS → ⊥ = eqb-false number MAX_PAYLOADS both.1 in
+    (below, omega arith)
 
 -- The number after the run is in range.
 pub receiver_bound :

@@ -1,6 +1,6 @@
 -- A sender: which payloads are unacknowledged, and how many were acknowledged before them.
 use Rattle.std.specs.Prelude.{ℕ, ◌+◌, ◌-◌, ◌==◌, nat_lt, nat_le, if◌then◌else◌}
-use Rattle.std.specs.Prelude.{List, [], ◌∷◌, ◌++◌, length, drop, Option, Some, None, slice_get}
+use Rattle.std.specs.Prelude.{List, [], ◌∷◌, ◌++◌, length, drop, Option, slice_get}
 use Rattle.std.specs.Option.{option_map}
 use Rattle.datagram_link.specs.declared.limits.TheConstants.{WINDOW, MAX_PAYLOADS}
 use Rattle.datagram_link.specs.declared.offered.Offered.{Offered}

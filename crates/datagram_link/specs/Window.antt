@@ -1,6 +1,6 @@
 -- The places of a receiver's window: those of the next numbers, in order, each with its payload
 -- where that came.
-use Rattle.std.specs.Prelude.{ℕ, suc, List, [], ◌∷◌, ◌++◌, length, replicate}
+use Rattle.std.specs.Prelude.{List, [], ◌∷◌, ◌++◌, length, replicate}
 use Rattle.std.specs.Prelude.{Option, Some, None}
 
 -- What the places hold before the first that is empty.

@@ -1,11 +1,11 @@
 -- The places of a window by their numbers.
-use Rattle.std.proofs.Common.{◌≡◌, ℕ, zero, suc, ◌+◌, ◌-◌, ◌<◌, ◌≤◌, true, false, List, [], ◌∷◌, ◌++◌}
-use Rattle.std.proofs.Common.{length, take, drop, Option, Some, None, refl, sym, ap, subst, ◌∙◌}
-use Rattle.std.proofs.Common.{⊎_elim, inl, inr, arith, append_assoc, length-append, length-drop}
-use Rattle.std.specs.Prelude.{is_some, replicate, slice_index_or, slice_set}
-use Rattle.std.proofs.lemmas.Bool.{cases_lt, cases_eq, false≢true}
+use Rattle.std.proofs.Common.{◌≡◌, ℕ, zero, suc, ◌+◌, ◌-◌, ◌<◌, ◌≤◌, List, [], ◌∷◌, ◌++◌}
+use Rattle.std.proofs.Common.{length, drop, Option, Some, None, refl, sym, ap, ◌∙◌}
+use Rattle.std.proofs.Common.{⊎_elim, arith, append_assoc, append-nil, length-append, length-drop}
+use Rattle.std.specs.Prelude.{replicate, slice_index_or}
+use Rattle.std.proofs.lemmas.Bool.{cases_lt}
 use Rattle.std.proofs.lemmas.List.{get_or-drop, get_or_append_left, get_or-append_right, get_or_past}
-use Rattle.std.proofs.lemmas.List.{get_or-set_same, get_or-set_other, length-replicate, length-set}
+use Rattle.std.proofs.lemmas.List.{length-replicate}
 use Rattle.datagram_link.specs.Window.{run_of, after_run, moved_on}
 
 -- ---- one place more, which is empty
@@ -31,11 +31,12 @@ moved_push {A = A} payload places =
     let rest : List (Option A) = replicate (length (run_of places)) None in
     rw (run_push places, after_push places) (append_assoc (after_run places) (None ∷ []) rest)
 
--- A window that begins with an empty place stays.
+-- A window that begins with no payload stays.
 pub moved_none :
-    {A : Type 0} (places : List (Option A)) → run_of places ≡ [] → moved_on places ≡ after_run places ++ []
-moved_none {A = A} places none =
-    ap (λ (payloads : List A). after_run places ++ replicate (length payloads) None) none
+    {A : Type 0} (places : List (Option A)) → run_of places ≡ [] → moved_on places ≡ places
+moved_none [] none = refl
+moved_none (None ∷ places) none = append-nil (None ∷ places)
+moved_none (Some payload ∷ places) none = absurd cc
 
 -- ---- places by number
 
@@ -110,3 +111,14 @@ moved_get {A = A} places i =
     ∙ get_empty {A = A} count (i - length (drop count places))
     ∙ sym (get_or_past places (count + i) None (omega (arith, run_le places))))
     (cases_lt i (length (drop count places)))
+
+-- The first place has a payload, which is handed out, and an empty place comes last.
+pub first_taken :
+    {A : Type 0} (payload : A) (places mid new : List (Option A)) → places ≡ Some payload ∷ mid →
+    new ≡ mid ++ None ∷ [] →
+    (run_of places ≡ payload ∷ run_of new) × (moved_on new ≡ moved_on places)
+first_taken {A = A} payload places mid new first more = (
+  ap run_of first
+      ∙ ap (λ (payloads : List A). payload ∷ payloads) (sym (ap run_of more ∙ run_push mid)),
+  ap moved_on more ∙ moved_push payload mid ∙ sym (ap moved_on first),
+)

@@ -1,4 +1,4 @@
-ghost use Rattle.std.specs.Prelude.{◌≡◌, ◌≤◌, ◌∷◌, [], IfOk, Ok, Some, None};
+ghost use Rattle.std.specs.Prelude.{◌≡◌, ◌≤◌, ◌∷◌, [], IfOk, IfErr, Ok, Some, None};
 ghost use Rattle.datagram_link.specs.Grams.{data_bytes, data_grams, IsPayload};
 ghost use Rattle.datagram_link.specs.Sender.{nothing_offered};
 ghost use Rattle.datagram_link.specs.Receiver.{nothing_arrived};
@@ -112,14 +112,17 @@ impl End {
             return Err(TurnFault::NoMemory);
         };
         let gram = ack_gram(self.receiver.next());
-        send_gram(post, &gram)?;
-        Ok(Turn::Took)
+        match send_gram(post, &gram) {
+            Ok(()) => Ok(Turn::Took),
+            Err(_) => Err(TurnFault::Failed),
+        }
     }
 }
 
 /// Sends a datagram.
 fn send_gram<P: Post>(post: &mut P, gram: &[u8]) -> Result<(), TurnFault>
     ensures sent { SendsAll (gram.now ∷ []) (P.state post.old) (P.state post.new) result }
+    ensures failed { IfErr result (λ fault. fault ≡ TurnFault.Failed) }
     ensures later { (P.state post.old).faults ≤ (P.state post.new).faults }
 {
     match post.send(gram) {

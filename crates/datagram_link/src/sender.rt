@@ -138,7 +138,7 @@ fn pop_first(waiting: &mut VecDeque<Payload>, count: u32)
     requires { count ≤ length waiting.old.items }
     ensures { waiting.new.items ≡ drop count waiting.old.items }
 {
-    for _ in 0..count {
+    for _place in 0..count {
         waiting.pop_front();
     }
 }

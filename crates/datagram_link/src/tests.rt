@@ -30,7 +30,10 @@ static GRAMS: [(&[u8], &str); 24] = [
     (b"\x01\x07\x00\x00\x00\x02\x01", "Short"),
     (b"\x01\x07\x00\x00\x00\x02\x00a", "Short"),
     (b"\x01\x07\x01\x00\x00\x01\x00a", "data 263 [97]"),
-    (b"\x01\xff\xff\xff\xff\x02\x00ab", "data 4294967295 [97, 98]"),
+    (
+        b"\x01\xff\xff\xff\xff\x02\x00ab",
+        "data 4294967295 [97, 98]",
+    ),
     (b"\x01\x07\x00\x00\x00\x01\x00ab", "TrailingBytes"),
     (b"\x02", "Short"),
     (b"\x02\x01\x02\x00", "Short"),
@@ -105,7 +108,10 @@ fn popped(alloc: Global, receiver: &mut Receiver) -> Result<Vec<u8>, Fail> {
 /// The datagrams that come, and the turn that each makes.
 static TURNS: [(&[u8], Result<Turn, TurnFault>); 8] = [
     (b"\x01\x01\x00\x00\x00\x01\x00b", Ok(Turn::Took)),
-    (b"\x01\x00\x00\x00\x00\x00\x00", Ok(Turn::Refused(GramFault::BadLength))),
+    (
+        b"\x01\x00\x00\x00\x00\x00\x00",
+        Ok(Turn::Refused(GramFault::BadLength)),
+    ),
     (b"\x01\x00\x00\x00\x00\x01\x00a", Ok(Turn::Took)),
     (b"\x01\x00\x00\x00\x00\x01\x00a", Ok(Turn::Took)),
     (b"\x03", Ok(Turn::Took)),
@@ -126,10 +132,14 @@ fn an_end_takes_turns(rt: HostRuntime) -> Result<(), Fail> {
         assert_eq!(rt; end.turn(alloc, &mut post), *turn);
     }
     assert_eq!(rt; end.turn(alloc, &mut post), Ok(Turn::Quiet));
-    let want = b"\x02\x00\x00\x00\x00\x02\x02\x00\x00\x00\x02\x02\x00\x00\x00\x01\x01\x00\x00\x00\x02\x00yz";
+    let want =
+        b"\x02\x00\x00\x00\x00\x02\x02\x00\x00\x00\x02\x02\x00\x00\x00\x01\x01\x00\x00\x00\x02\x00yz";
     assert_eq!(rt; sent_bytes(alloc, &post)?.as_slice(), want.as_slice());
     assert_eq!(rt; (end.sender.offered(), end.sender.acknowledged()), (2, 1));
-    assert_eq!(rt; popped(alloc, &mut end.receiver)?.as_slice(), b"ab".as_slice());
+    assert_eq!(rt;
+        popped(alloc, &mut end.receiver)?.as_slice(),
+        b"ab".as_slice()
+    );
     assert_eq!(rt; end.receiver.next(), 2);
     Ok(())
 }
@@ -170,7 +180,10 @@ fn a_post_fails(rt: HostRuntime) -> Result<(), Fail> {
         for turn in turns.iter() {
             assert_eq!(rt; end.turn(alloc, &mut post), *turn);
         }
-        assert_eq!(rt; (post.sent().len(), post.faults(), end.receiver.next()), (*sent, 1, 1));
+        assert_eq!(rt;
+            (post.sent().len(), post.faults(), end.receiver.next()),
+            (*sent, 1, 1)
+        );
     }
     Ok(())
 }

@@ -18,7 +18,7 @@ pub(crate) fn empty_places(alloc: Global) -> Result<Places, NoMemory>
     ensures { IfOk result (λ places. places.items ≡ replicate WINDOW None) }
 {
     let mut places = VecDeque::with_capacity(alloc, WINDOW as usize)?;
-    for _ in 0..WINDOW {
+    for _place in 0..WINDOW {
         places.push_back(None)?;
     }
     Ok(places)

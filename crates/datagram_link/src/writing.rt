@@ -71,10 +71,10 @@ pub fn write_datagram(alloc: Global, d: &Datagram) -> Result<Vec<u8>, NoMemory>
 }
 
 /// The bytes of an Ack. They take no memory.
-#[tactic(auto, unfolding(crate::specs::Grams::ack_bytes))]
+#[tactic(auto, unfolding(crate::specs::Grams::ack_bytes, wire_bytes::specs::Field::field_bytes))]
 pub(crate) fn ack_gram(next: u32) -> [u8; 5]
     ensures { result ≡ ack_bytes next }
 {
-    let [a, b, c, d] = next.to_le_bytes();
-    [2, a, b, c, d]
+    let field = next.to_le_bytes();
+    [2, field[0], field[1], field[2], field[3]]
 }

@@ -1,20 +1,20 @@
 -- A payload that arrives: the numbers in order, the window and the queue after it.
-use Rattle.std.proofs.Common.{◌≡◌, ℕ, suc, ◌+◌, ◌-◌, ◌<◌, ◌≤◌, Bool, true, false, cond, List, [], ◌∷◌}
+use Rattle.std.proofs.Common.{◌≡◌, ℕ, ◌+◌, ◌-◌, ◌<◌, ◌≤◌, true, false, cond, List, [], ◌∷◌}
 use Rattle.std.proofs.Common.{◌++◌, length, take, drop, Option, Some, None, refl, sym, ap, ap₂}
-use Rattle.std.proofs.Common.{◌∙◌, ⊎_elim, inl, inr, arith, add_assoc, take-add, length-drop, subst}
-use Rattle.std.specs.Prelude.{is_some, slice_get, slice_index_or, slice_set}
-use Rattle.std.proofs.lemmas.Bool.{cases_lt, cases_eq, cases_Bool, false≢true, lt-ltb, le-ltb, lt-leb}
+use Rattle.std.proofs.Common.{◌∙◌, ⊎_elim, arith, add_assoc, take-add, length-drop}
+use Rattle.std.specs.Prelude.{slice_get, slice_index_or}
+use Rattle.std.proofs.lemmas.Bool.{cases_lt, cases_eq, false≢true, lt-ltb, le-ltb, lt-leb}
 use Rattle.std.proofs.lemmas.Bool.{ne_eqb, eq-eqb, false_from_ne_true}
 use Rattle.std.proofs.lemmas.List.{get_or-set_same, get_or-set_other, length-set, get_or_past, get_or-take}
 use Rattle.std.proofs.lemmas.List.{get_or-drop, same_lists, length-take-le, get_or_default}
-use Rattle.std.proofs.lemmas.Option.{slice_get_within, none-some, same_Some, get_or_from_slice_get}
+use Rattle.std.proofs.lemmas.Option.{slice_get_within, get_or_from_slice_get}
 use Rattle.datagram_link.specs.declared.limits.TheConstants.{WINDOW, MAX_PAYLOADS}
 use Rattle.datagram_link.specs.declared.arrived.Arrived.{Arrived}
-use Rattle.datagram_link.specs.declared.arrived.Arrived.TheVariants.{Delivered, Kept, Repeat, TooFar}
+use Rattle.datagram_link.specs.declared.arrived.Arrived.TheVariants.{Delivered, Kept, Repeat}
 use Rattle.datagram_link.specs.Window.{run_of, moved_on}
 use Rattle.datagram_link.specs.WindowLemmas.{run_get, run_end, run_le, moved_length, moved_get}
 use Rattle.datagram_link.specs.Receiver.{ReceiverState, has_arrived, is_too_far, filled}
-use Rattle.datagram_link.specs.Receiver.{arrival_answer, arrival_leaves, after_arrival}
+use Rattle.datagram_link.specs.Receiver.{arrival_answer, arrival_leaves}
 use Rattle.datagram_schedule.specs.Schedule.{has}
 use Rattle.datagram_schedule.specs.Follows.{InOrder, InWindow, place_of}
 use Rattle.datagram_schedule.specs.NumberLemmas.{has_first, has_later, has_still, order_within}

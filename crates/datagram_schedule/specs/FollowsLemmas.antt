@@ -1,30 +1,27 @@
 -- Every event, and so every schedule: the exchange follows.
 use Rattle.std.proofs.Common.{◌≡◌, ◌≢◌, ℕ, ◌+◌, ◌-◌, ◌<◌, ◌≤◌, Bool, true, false, cond, max, List, []}
 use Rattle.std.proofs.Common.{◌∷◌, ◌++◌, length, take, drop, Option, Some, None, refl, sym, ap}
-use Rattle.std.proofs.Common.{◌∙◌, ⊎_elim, inl, inr, arith, drop-drop, length-take-le, take-append-drop, le_refl, leb}
+use Rattle.std.proofs.Common.{◌∙◌, ⊎_elim, arith, drop-drop, length-take-le, take-append-drop, le_refl, leb}
 use Rattle.std.specs.Prelude.{◌==◌, slice_get}
 use Rattle.std.proofs.lemmas.Bool.{cases_lt, cases_eq, cases_Bool, le-ltb, le-leb, lt-leb, eq-eqb, ne_eqb}
-use Rattle.datagram_link.specs.declared.limits.TheConstants.{WINDOW, MAX_PAYLOADS}
-use Rattle.datagram_link.specs.declared.acked.Acked.{Acked}
 use Rattle.datagram_link.specs.declared.acked.Acked.TheVariants as acked
 use Rattle.datagram_link.specs.declared.arrived.Arrived.{Arrived}
 use Rattle.datagram_link.specs.declared.arrived.Arrived.TheVariants as answer
 use Rattle.datagram_link.specs.declared.datagram.Datagram.{Datagram}
 use Rattle.datagram_link.specs.declared.datagram.Datagram.TheVariants.{Data, Ack, Call, Here}
 use Rattle.datagram_link.specs.Window.{run_of}
-use Rattle.datagram_link.specs.Sender.{SenderState, acked_answer, acked_leaves, after_acked}
+use Rattle.datagram_link.specs.Sender.{acked_answer, after_acked}
 use Rattle.datagram_link.specs.Receiver.{ReceiverState, filled, arrival_answer, arrival_leaves}
 use Rattle.datagram_link.specs.Receiver.{after_arrival}
 use Rattle.datagram_schedule.specs.declared.event.Event.{Event}
 use Rattle.datagram_schedule.specs.declared.event.Event.TheVariants.{Offer, Send, Acknowledge, Arrive}
-use Rattle.datagram_schedule.specs.declared.outcome.Outcome.{Outcome}
 use Rattle.datagram_schedule.specs.declared.outcome.Outcome.TheVariants as outcome
 use Rattle.datagram_schedule.specs.Exchange.{ExchangeState, nothing_exchanged, exchanged}
-use Rattle.datagram_schedule.specs.Exchange.{exchange_outcome, after_exchange, arrival_outcome}
+use Rattle.datagram_schedule.specs.Exchange.{after_exchange, arrival_outcome}
 use Rattle.datagram_schedule.specs.Exchange.{acked_outcome, arrive_outcome, after_arriving}
 use Rattle.datagram_schedule.specs.Schedule.{Schedule, nothing_scheduled, has, in_order, delivered}
 use Rattle.datagram_schedule.specs.Schedule.{with_arrived, number_outcome, gram_outcome, after_gram}
-use Rattle.datagram_schedule.specs.Schedule.{outcome_of, after_event, scheduled}
+use Rattle.datagram_schedule.specs.Schedule.{after_event, scheduled}
 use Rattle.datagram_schedule.specs.Follows.{Follows, IsSound}
 use Rattle.datagram_schedule.specs.NumberLemmas.{get_holds, all_weaker, order_within, order_is}
 use Rattle.datagram_schedule.specs.SendingLemmas.{FollowsOn, follows_start, follows_offer}
@@ -312,12 +309,11 @@ ready_is s x follows =
 pub ready_begins :
     (s : Schedule) (x : ExchangeState) → Follows s x →
     (rest : List (List ℕ)) × (x.receiver.ready ++ rest ≡ s.offered)
-ready_begins s x follows =
-    (
-      drop x.receiver.next s.offered,
-      ap (λ (ready : List (List ℕ)). ready ++ drop x.receiver.next s.offered) follows.ready
+ready_begins s x follows = (
+  drop x.receiver.next s.offered,
+  ap (λ (ready : List (List ℕ)). ready ++ drop x.receiver.next s.offered) follows.ready
       ∙ take-append-drop x.receiver.next s.offered,
-    )
+)
 
 pub acknowledged_below :
     (s : Schedule) (x : ExchangeState) → Follows s x →

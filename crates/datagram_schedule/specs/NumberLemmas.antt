@@ -1,10 +1,10 @@
 -- Lists by their numbers, and the numbers that arrived.
-use Rattle.std.proofs.Common.{◌≡◌, ℕ, zero, suc, ◌+◌, ◌-◌, ◌<◌, ◌≤◌, Bool, true, false, cond, List, []}
-use Rattle.std.proofs.Common.{◌∷◌, ◌++◌, length, take, drop, Option, Some, None, refl, sym, ap, subst}
-use Rattle.std.proofs.Common.{◌∙◌, ⊎_elim, inl, inr, arith, ◌||◌}
-use Rattle.std.specs.Prelude.{◌==◌, slice_get, slice_index_or}
+use Rattle.std.proofs.Common.{◌≡◌, ℕ, zero, suc, ◌+◌, ◌<◌, ◌≤◌, true, false, cond, List, []}
+use Rattle.std.proofs.Common.{◌∷◌, ◌++◌, length, drop, Some, None, refl, sym, ap, subst}
+use Rattle.std.proofs.Common.{◌∙◌, ⊎_elim, arith, ◌||◌}
+use Rattle.std.specs.Prelude.{slice_get, slice_index_or}
 use Rattle.std.specs.List.{AllByRecursion}
-use Rattle.std.proofs.lemmas.Bool.{cases_lt, cases_eq, cases_Bool, false≢true, eq-eqb, ne_eqb}
+use Rattle.std.proofs.lemmas.Bool.{cases_lt, cases_eq, cases_Bool, eq-eqb, ne_eqb}
 use Rattle.std.proofs.lemmas.List.{drop_all}
 use Rattle.std.proofs.lemmas.Option.{slice_get_within, none-some, same_Some, slice_get-get_or}
 use Rattle.datagram_schedule.specs.Schedule.{has, missing_from}
@@ -27,9 +27,10 @@ get_kept xs ys i x at = get_append xs ys i (slice_get_within xs i x at) ∙ at
 pub get_drop :
     {A : Type 0} (n i : ℕ) (xs : List A) → slice_get (drop n xs) i ≡ slice_get xs (n + i)
 get_drop n i [] = ap (λ xs. slice_get xs i) (drop_all n [] (omega arith))
-get_drop zero i (x ∷ xs) = ap (slice_get (x ∷ xs)) (omega arith)
+get_drop zero i (x ∷ xs) = let same : i ≡ 0 + i = omega arith in ap (slice_get (x ∷ xs)) same
 get_drop (suc n) i (x ∷ xs) =
-    get_drop n i xs ∙ ap (slice_get (x ∷ xs)) (omega arith)
+    let same : suc (n + i) ≡ suc n + i = omega arith in
+    get_drop n i xs ∙ ap (slice_get (x ∷ xs)) same
 
 -- What holds of each holds of the one with this number.
 pub get_holds :

@@ -1,9 +1,8 @@
 -- Offers, and what is put into the air: the exchange still follows the schedule.
 use Rattle.std.proofs.Common.{◌≡◌, ℕ, ◌+◌, ◌-◌, ◌<◌, ◌≤◌, Bool, true, false, cond, ◌&&◌, List, []}
-use Rattle.std.proofs.Common.{◌∷◌, ◌++◌, length, take, drop, Option, Some, None, refl, sym, ap}
-use Rattle.std.proofs.Common.{◌∙◌, ⊎_elim, inl, inr, arith, eqb, ltb, length-drop, append-nil, le_refl}
-use Rattle.std.specs.Prelude.{slice_get, slice_index_or, replicate}
-use Rattle.std.specs.List.{AllByRecursion}
+use Rattle.std.proofs.Common.{◌∷◌, ◌++◌, length, Option, Some, None, refl, sym, ap}
+use Rattle.std.proofs.Common.{◌∙◌, ◌⊎◌, ⊎_elim, inl, inr, arith, eqb, ltb, length-drop, append-nil, le_refl}
+use Rattle.std.specs.Prelude.{slice_get, slice_index_or}
 use Rattle.std.specs.Option.{option_map}
 use Rattle.std.proofs.lemmas.Bool.{cases_lt, cases_eq, eq-eqb, ne_eqb, lt-ltb, le-ltb}
 use Rattle.std.proofs.lemmas.List.{drop-append-le, take-append-le, length_push, length-replicate}
@@ -13,17 +12,16 @@ use Rattle.datagram_link.specs.declared.offered.Offered.{Offered as OfferAnswer}
 use Rattle.datagram_link.specs.declared.offered.Offered.TheVariants as answer
 use Rattle.datagram_link.specs.declared.datagram.Datagram.{Datagram}
 use Rattle.datagram_link.specs.declared.datagram.Datagram.TheVariants.{Data, Ack, Call, Here}
-use Rattle.datagram_link.specs.Sender.{SenderState, offer_answer, offer_leaves, after_offer, due_of}
+use Rattle.datagram_link.specs.Sender.{SenderState, offer_answer, offer_leaves, due_of}
 use Rattle.datagram_link.specs.WindowLemmas.{get_empty}
 use Rattle.datagram_schedule.specs.declared.event.Event.{Event}
 use Rattle.datagram_schedule.specs.declared.event.Event.TheVariants.{Offer, Send, Acknowledge}
-use Rattle.datagram_schedule.specs.declared.outcome.Outcome.{Outcome}
 use Rattle.datagram_schedule.specs.declared.outcome.Outcome.TheVariants as outcome
 use Rattle.datagram_schedule.specs.Exchange.{ExchangeState, nothing_exchanged, offer_outcome}
 use Rattle.datagram_schedule.specs.Exchange.{exchange_outcome, after_exchange, send_outcome, sent_by}
 use Rattle.datagram_schedule.specs.Schedule.{Schedule, nothing_scheduled, has, has_room, is_due}
 use Rattle.datagram_schedule.specs.Schedule.{outcome_of, after_event, payload_of, in_order}
-use Rattle.datagram_schedule.specs.Follows.{Follows, IsSound, place_of}
+use Rattle.datagram_schedule.specs.Follows.{Follows, IsSound}
 use Rattle.datagram_schedule.specs.NumberLemmas.{get_kept, get_drop, all_weaker, all_push}
 use Rattle.datagram_schedule.specs.NumberLemmas.{order_within, order_is, place_offered}
 

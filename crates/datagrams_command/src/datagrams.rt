@@ -1,4 +1,6 @@
-ghost use Rattle.std.specs.Prelude.{◌≡◌, ◌++◌, ◌≤◌, length, string_bytes, IfOk, MatchResult, Ok};
+ghost use Rattle.std.specs.Prelude.{◌≡◌, ◌≢◌, ◌++◌, ◌≤◌, length, string_bytes, IfOk, MatchResult};
+ghost use Rattle.std.specs.Prelude.{Ok};
+ghost use Rattle.drill_words.specs.declared.limits.TheConstants.{MAX_EVENTS};
 ghost use Rattle.base.specs.Steps.{IsFault};
 ghost use Rattle.command_answers.specs.Answer.{reply_of};
 ghost use Rattle.command_answers.specs.Stop.{ReturnsStep};
@@ -6,7 +8,7 @@ ghost use Rattle.drill_words.specs.Drill.{ReturnsRead};
 ghost use Rattle.drill_words.specs.declared.limits.TheConstants.{MAX_DRILL_BYTES};
 ghost use Rattle.drill_words.specs.declared.drill_fault.DrillFault.TheVariants as fault;
 ghost use Rattle.datagrams_command.specs.Datagrams.{datagrams_step, script_text};
-ghost use Rattle.datagrams_command.specs.Run.{run_from, exchange_closing};
+ghost use Rattle.datagrams_command.specs.Run.{run_one, run_from, exchange_closing};
 
 use crate::script_line::read_event_on;
 use crate::text::{add_got_lines, add_outcome_line, last_lines};
@@ -17,6 +19,7 @@ use drill_words::{DrillFault, KeptLines, WordCursor};
 use std::alloc::Global;
 
 /// Runs the event of a line that follows so many others, and adds its line.
+#[tactic(auto, unfolding(crate::specs::Run::run_one))]
 fn run_line(
     alloc: Global,
     exchange: &mut Exchange,
@@ -24,7 +27,15 @@ fn run_line(
     before: u32,
     number: u32,
     cursor: WordCursor<'_>,
-) -> Result<(), DrillFault> {
+) -> Result<(), DrillFault>
+    ensures line { MatchResult result
+        (λ _. run_one before exchange.old (string_bytes text.old)
+        (record { number = number; words = cursor.entry })
+        ≡ Ok (exchange.new, string_bytes text.new))
+        (λ cause. IsFault fault.NoMemory cause (run_one before exchange.old (string_bytes text.old)
+        (record { number = number; words = cursor.entry }))) }
+    ensures room { IfOk result (λ _. before ≢ MAX_EVENTS) }
+{
     let event = read_event_on(before, number, cursor)?;
     let Ok(outcome) = exchange.take(alloc, &event) else {
         return Err(DrillFault::NoMemory);
@@ -41,7 +52,13 @@ fn run_lines(
     lines: &mut KeptLines<'_>,
     exchange: &mut Exchange,
     text: &mut String,
-) -> Result<(), DrillFault> {
+) -> Result<(), DrillFault>
+    ensures { MatchResult result
+        (λ _. run_from 0 exchange.old (string_bytes text.old) lines.old
+        ≡ Ok (exchange.new, string_bytes text.new))
+        (λ cause. IsFault fault.NoMemory cause
+        (run_from 0 exchange.old (string_bytes text.old) lines.old)) }
+{
     let mut before: u32 = 0;
     while let Some((number, cursor)) = lines.next() {
         run_line(alloc, exchange, text, before, number, cursor)?;
@@ -51,11 +68,7 @@ fn run_lines(
 }
 
 /// The lines of the events, and those after them.
-fn with_closing(
-    alloc: Global,
-    exchange: &mut Exchange,
-    lines: String,
-) -> Result<Vec<u8>, NoMemory>
+fn with_closing(alloc: Global, exchange: &mut Exchange, lines: String) -> Result<Vec<u8>, NoMemory>
     ensures { IfOk result (λ text. text.items
         ≡ string_bytes lines ++ exchange_closing exchange.old) }
 {

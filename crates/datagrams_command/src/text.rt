@@ -77,7 +77,10 @@ pub(crate) fn last_lines(
     ensures { IfOk result (λ text. string_bytes text ≡ last_lines offered delivered acked) }
 {
     let mut text = String::new(alloc);
-    writeln!(text, "offered {offered} delivered {delivered} acked {acked}")?;
+    writeln!(
+        text,
+        "offered {offered} delivered {delivered} acked {acked}"
+    )?;
     writeln!(text, "end")?;
     Ok(text)
 }
