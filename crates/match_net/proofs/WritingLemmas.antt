@@ -1,5 +1,5 @@
 -- What a player writes, in turn.
-use Rattle.std.proofs.Common.{◌≡◌, ℕ, zero, suc, ◌+◌, ◌<◌, ◌≤◌, List, [], ◌∷◌, ◌++◌, length}
+use Rattle.std.proofs.Common.{◌≡◌, ℕ, zero, suc, ◌+◌, ◌<◌, ◌≤◌, List, [], ◌∷◌, ◌++◌}
 use Rattle.std.proofs.Common.{refl, sym, ap, subst, ◌∙◌, arith, append_assoc}
 use Rattle.game_orders.specs.declared.order.Order.{Order}
 use Rattle.order_packets.specs.declared.up.Up.{Up}
@@ -42,10 +42,10 @@ leads_then frames play lag hash r s more upto last sealed (Orders frame orders �
     )
 leads_then frames play lag hash r s more upto last sealed (Sync frame sum ∷ packets) others one
     two = (
-  one.0,
-  one.1,
-  leads_then frames play lag hash (r + 1) s more upto last sealed packets others one.2 two,
-)
+      one.0,
+      one.1,
+      leads_then frames play lag hash (r + 1) s more upto last sealed packets others one.2 two,
+    )
 leads_then frames play lag hash r s more upto last sealed (Bye ∷ packets) others one two = absurd
     one
 
@@ -168,8 +168,10 @@ unfolding sealed_bytes
 seals frames play lag hash r n zero within near =
     record { packets = []; bytes = refl; leads = (refl, omega arith) }
 seals frames play lag hash r n (suc more) within near =
-    let rest = seals frames play lag hash r (n + 1) more (omega (arith, within)) (omega (arith,
-    near)) in
+    let rest = seals frames play lag hash r (n + 1) more (omega (arith, within)) (omega (
+      arith,
+      near,
+    )) in
     let upto : (n + 1) + more ≡ n + suc more = omega arith in
     record {
       packets = Orders n (play r n) ∷ rest.packets;
