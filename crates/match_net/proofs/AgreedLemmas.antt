@@ -1,17 +1,16 @@
 -- A player's world is the agreed one, where what came down stands in columns.
-use Rattle.std.proofs.Common.{◌≡◌, ℕ, ◌<◌, Bool, true, false, List, [], ◌∷◌, length, Option, Some}
-use Rattle.std.proofs.Common.{None, Result, Ok, Err, refl, sym, ap, subst, ◌∙◌, arith}
+use Rattle.std.proofs.Common.{◌≡◌, ℕ, Bool, true, false, List, [], ◌∷◌, length, Some}
+use Rattle.std.proofs.Common.{None, Result, Ok, Err, refl, sym, subst}
 use Rattle.std.specs.Prelude.{if◌then◌else◌}
 use Rattle.base.specs.Steps.{◌>>=◌}
 use Rattle.game_orders.specs.declared.entry.Entry.{Entry as one_entry}
-use Rattle.frame_core.specs.declared.ready.Ready.TheVariants as ready
 use Rattle.frame_core.specs.Agreed.{IsAt}
 use Rattle.frame_core.specs.Column.{Column, entry_at, column_of}
 use Rattle.order_packets.specs.declared.down.Down.{Down}
 use Rattle.order_packets.specs.declared.down.Down.TheVariants as down
 use Rattle.peer_core.specs.Faithful.{IsFaithful}
 use Rattle.peer_core.specs.FaithfulLemmas.{fresh_faithful, deliver_faithful, tick_faithful}
-use Rattle.peer_core.specs.Peer.{PeerState, ticked_peer, delivered_peer}
+use Rattle.peer_core.specs.Peer.{PeerState, ticked_peer}
 use Rattle.match_net.specs.declared.stop_reason.StopReason.{StopReason}
 use Rattle.match_net.specs.declared.stop_reason.StopReason.TheVariants as stop
 use Rattle.match_net.specs.declared.play_cause.PlayCause.TheVariants as cause

@@ -18,3 +18,4 @@ pub mod FoldLemmas
 pub mod AgreedLemmas
 pub mod WritingLemmas
 pub mod WrittenLemmas
+pub mod BotLemmas

@@ -113,12 +113,13 @@ seals_before :
 seals_before true plays sealed said now = refl
 seals_before {W = W} false plays sealed said now =
     let bytes =
-    sealed_bytes (plays.orders now.peer.world now.peer.me) sealed (may_seal (plays.frames) now.peer.ticked now.peer.lag -
+    sealed_bytes (plays.orders now.peer.world now.peer.me) sealed (may_seal plays.frames
+    now.peer.ticked now.peer.lag -
     sealed) in
-    let bye = farewell_bytes (nat_le (plays.frames) now.peer.ticked) in
+    let bye = farewell_bytes (nat_le plays.frames now.peer.ticked) in
     ap (λ (b : List ℕ). stage_at now.peer
-    (max sealed (may_seal (plays.frames) now.peer.ticked now.peer.lag))
-    (nat_le (plays.frames) now.peer.ticked) b)
+    (max sealed (may_seal plays.frames now.peer.ticked now.peer.lag))
+    (nat_le plays.frames now.peer.ticked) b)
     (ap (λ (b : List ℕ). b ++ bye) (append_assoc said now.said bytes)
     ∙ append_assoc said (now.said ++ bytes) bye)
 

@@ -1,5 +1,5 @@
 -- What a player writes, in turn.
-use Rattle.std.proofs.Common.{◌≡◌, ℕ, zero, suc, ◌+◌, ◌<◌, ◌≤◌, List, [], ◌∷◌, ◌++◌, length}
+use Rattle.std.proofs.Common.{◌≡◌, ℕ, zero, suc, ◌+◌, ◌<◌, ◌≤◌, List, [], ◌∷◌, ◌++◌}
 use Rattle.std.proofs.Common.{refl, sym, ap, subst, ◌∙◌, arith, append_assoc}
 use Rattle.game_orders.specs.declared.order.Order.{Order}
 use Rattle.order_packets.specs.declared.up.Up.{Up}
@@ -21,14 +21,16 @@ Leads frames play lag hash r s (Bye ∷ packets) more upto = ⊥
 
 -- They lead on.
 pub leads_then :
-    (frames : ℕ) (play : ℕ → ℕ → List Order) (lag : ℕ) (hash : ℕ → ℕ) (r s more upto last sealed : ℕ)
+    (frames : ℕ) (play : ℕ → ℕ → List Order) (lag : ℕ) (hash : ℕ → ℕ) (r s more upto last sealed :
+    ℕ)
     (packets others : List Up) → Leads frames play lag hash r s packets more upto →
     Leads frames play lag hash more upto others last sealed →
     Leads frames play lag hash r s (packets ++ others) last sealed
 leads_then frames play lag hash r s more upto last sealed [] others one two =
     subst (λ (x : ℕ). Leads frames play lag hash x s others last sealed) one.0
     (subst (λ (y : ℕ). Leads frames play lag hash more y others last sealed) one.1 two)
-leads_then frames play lag hash r s more upto last sealed (Hello version rules ∷ packets) others one two =
+leads_then frames play lag hash r s more upto last sealed (Hello version rules ∷ packets) others
+    one two =
     absurd one
 leads_then frames play lag hash r s more upto last sealed (Orders frame orders ∷ packets) others one
     two = (
@@ -38,17 +40,20 @@ leads_then frames play lag hash r s more upto last sealed (Orders frame orders �
       one.3,
       leads_then frames play lag hash r (s + 1) more upto last sealed packets others one.4 two,
     )
-leads_then frames play lag hash r s more upto last sealed (Sync frame sum ∷ packets) others one two = (
-  one.0,
-  one.1,
-  leads_then frames play lag hash (r + 1) s more upto last sealed packets others one.2 two,
-)
-leads_then frames play lag hash r s more upto last sealed (Bye ∷ packets) others one two = absurd one
+leads_then frames play lag hash r s more upto last sealed (Sync frame sum ∷ packets) others one
+    two = (
+      one.0,
+      one.1,
+      leads_then frames play lag hash (r + 1) s more upto last sealed packets others one.2 two,
+    )
+leads_then frames play lag hash r s more upto last sealed (Bye ∷ packets) others one two = absurd
+    one
 
 pub leads_in_turn :
     (frames : ℕ) (play : ℕ → ℕ → List Order) (lag : ℕ) (hash : ℕ → ℕ) (r s more upto : ℕ)
     (packets others : List Up) → Leads frames play lag hash r s packets more upto →
-    IsInTurn frames play lag hash more upto others → IsInTurn frames play lag hash r s (packets ++ others)
+    IsInTurn frames play lag hash more upto others → IsInTurn frames play lag hash r s (packets ++
+    others)
 leads_in_turn frames play lag hash r s more upto [] others one two =
     subst (λ (x : ℕ). IsInTurn frames play lag hash x s others) one.0
     (subst (λ (y : ℕ). IsInTurn frames play lag hash more y others) one.1 two)
@@ -112,17 +117,20 @@ leads_same frames play others lag hash other r s more upto (Bye ∷ packets) pla
 
 -- The orders outnumber the reports by at most the lag.
 pub in_turn_ahead :
-    (frames : ℕ) (play : ℕ → ℕ → List Order) (lag : ℕ) (hash : ℕ → ℕ) (r s : ℕ) (front back : List Up) →
+    (frames : ℕ) (play : ℕ → ℕ → List Order) (lag : ℕ) (hash : ℕ → ℕ) (r s : ℕ) (front back : List
+    Up) →
     s ≤ r + lag → IsInTurn frames play lag hash r s (front ++ back) →
     s + count_orders front ≤ r + count_reports front + lag
 in_turn_ahead frames play lag hash r s [] back within is = omega (arith, within)
 in_turn_ahead frames play lag hash r s (Hello version rules ∷ front) back within is = absurd is
 in_turn_ahead frames play lag hash r s (Orders frame orders ∷ front) back within is =
     let before = is.3 in
-    let rest = in_turn_ahead frames play lag hash r (s + 1) front back (omega (arith, before)) is.4 in
+    let rest = in_turn_ahead frames play lag hash r (s + 1) front back (omega (arith, before))
+    is.4 in
     omega (arith, rest)
 in_turn_ahead frames play lag hash r s (Sync frame sum ∷ front) back within is =
-    let rest = in_turn_ahead frames play lag hash (r + 1) s front back (omega (arith, within)) is.2 in
+    let rest = in_turn_ahead frames play lag hash (r + 1) s front back (omega (arith, within))
+    is.2 in
     omega (arith, rest)
 in_turn_ahead frames play lag hash r s (Bye ∷ []) back within is = omega (arith, within)
 in_turn_ahead frames play lag hash r s (Bye ∷ other ∷ front) back within is =
@@ -146,7 +154,8 @@ said_then first said bytes packets others is more =
     ∙ ap (λ (b : List ℕ). first ++ b) (sym (bytes_then packets others))
 
 -- So many frames that are sealed, from this one on.
-pub record Seals (frames : ℕ) (play : ℕ → ℕ → List Order) (lag : ℕ) (hash : ℕ → ℕ) (r n more : ℕ) : Type 0
+pub record Seals (frames : ℕ) (play : ℕ → ℕ → List Order) (lag : ℕ) (hash : ℕ → ℕ) (r n more : ℕ)
+    : Type 0
   where
     pub packets : List Up
     pub bytes : sealed_bytes (play r) n more ≡ ups_bytes packets
@@ -159,7 +168,10 @@ unfolding sealed_bytes
 seals frames play lag hash r n zero within near =
     record { packets = []; bytes = refl; leads = (refl, omega arith) }
 seals frames play lag hash r n (suc more) within near =
-    let rest = seals frames play lag hash r (n + 1) more (omega (arith, within)) (omega (arith, near)) in
+    let rest = seals frames play lag hash r (n + 1) more (omega (arith, within)) (omega (
+      arith,
+      near,
+    )) in
     let upto : (n + 1) + more ≡ n + suc more = omega arith in
     record {
       packets = Orders n (play r n) ∷ rest.packets;

@@ -1,6 +1,6 @@
 -- What a player has written after each of its rounds.
 use Rattle.std.proofs.Common.{◌≡◌, ℕ, zero, suc, ◌+◌, ◌-◌, ◌<◌, ◌≤◌, ◌==◌, ◌&&◌, ◌||◌, nat_lt}
-use Rattle.std.proofs.Common.{Bool, true, false, not, List, [], ◌∷◌, ◌++◌, length, Some, None}
+use Rattle.std.proofs.Common.{Bool, true, false, not, List, [], ◌∷◌, ◌++◌, Some, None}
 use Rattle.std.proofs.Common.{Result, Ok, Err, refl, sym, ap, ap₂, subst, ◌∙◌, arith, inl, inr}
 use Rattle.std.proofs.Common.{append-nil}
 use Rattle.std.specs.Prelude.{if◌then◌else◌, nat_le, min, max, ◌⊎◌}
@@ -300,16 +300,19 @@ writing_round {W = W} terms start client clients lag now quiet writing =
             (upto - sealed)) (farewell_bytes says)
             (tells.written ++ plays.packets) (farewell says)
             (said_then (greeting_bytes terms.rules) all.said
-            (sealed_bytes (terms.plays.orders all.peer.world all.peer.me) sealed (upto - sealed)) tells.written plays.packets
+            (sealed_bytes (terms.plays.orders all.peer.world all.peer.me) sealed (upto - sealed))
+            tells.written plays.packets
             tells.said (ap (λ (p : ℕ → List Order). sealed_bytes p sealed (upto - sealed))
             same_orders ∙ plays.bytes)) (farewell_is says);
         leads = subst (λ (xs : List Arrived). Leads terms.plays.frames
             (orders_by terms start client clients xs) lag
             (hash_after terms start clients xs) 0 0 (tells.written ++ plays.packets)
             all.peer.ticked upto) (sym tells.stays.arrived)
-            (leads_then terms.plays.frames play lag hash 0 0 all.peer.ticked sealed all.peer.ticked upto
+            (leads_then terms.plays.frames play lag hash 0 0 all.peer.ticked sealed
+            all.peer.ticked upto
             tells.written plays.packets tells.leads
-            (subst (λ (n : ℕ). Leads terms.plays.frames play lag hash all.peer.ticked sealed plays.packets
+            (subst (λ (n : ℕ). Leads terms.plays.frames play lag hash all.peer.ticked sealed
+            plays.packets
             all.peer.ticked n) here plays.leads));
         below = omega arith;
         ends = farewell_ends (terms.plays.frames) all.peer.ticked says refl;
@@ -361,8 +364,10 @@ writing_round {W = W} terms start client clients lag now quiet writing =
               greeting_bytes terms.rules ++ ups_bytes (writing.written ++ ps)) open_so.0
               ∙ ap (λ (ps : List Up). greeting_bytes terms.rules ++ ups_bytes ps)
               (append-nil writing.written);
-          leads = subst (λ (n : ℕ). Leads terms.plays.frames play lag hash 0 0 writing.written n sealed)
-              open_so.1 (subst (λ (n : ℕ). Leads terms.plays.frames play lag hash 0 0 writing.written
+          leads = subst (λ (n : ℕ). Leads terms.plays.frames play lag hash 0 0 writing.written n
+              sealed)
+              open_so.1 (subst (λ (n : ℕ). Leads terms.plays.frames play lag hash 0 0
+              writing.written
               writing.reported n) open_so.2 writing.leads);
         })
 
@@ -679,7 +684,8 @@ written_in_turn {W = W} terms start client clients lag now rounded =
           omega (arith, all);
       whole = λ no.
           let open_so = so.going no in
-          let counts = leads_counts terms.plays.frames play lag hash 0 0 so.reported so.sealed so.written
+          let counts = leads_counts terms.plays.frames play lag hash 0 0 so.reported so.sealed
+          so.written
           so.leads in
           let same : so.written ++ so.last ≡ so.written =
           ap (λ (ps : List Up). so.written ++ ps) open_so.0 ∙ append-nil so.written in
@@ -711,7 +717,8 @@ written_in_turn {W = W} terms start client clients lag now rounded =
 
     turn : IsInTurn terms.plays.frames play lag hash 0 0 (so.written ++ so.last)
     turn =
-        leads_in_turn terms.plays.frames play lag hash 0 0 so.reported so.sealed so.written so.last so.leads
+        leads_in_turn terms.plays.frames play lag hash 0 0 so.reported so.sealed so.written
+        so.last so.leads
         (ended so.last so.ends)
 
 pub writes_in_turn :

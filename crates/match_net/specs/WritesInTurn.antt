@@ -1,5 +1,5 @@
 -- What a player writes, packet by packet.
-use Rattle.std.specs.Prelude.{◌≡◌, ℕ, ◌+◌, ◌<◌, ◌≤◌, min, false, List, [], ◌∷◌, ◌++◌, length}
+use Rattle.std.specs.Prelude.{◌≡◌, ℕ, ◌+◌, ◌<◌, ◌≤◌, min, false, List, [], ◌∷◌, ◌++◌}
 use Rattle.game_orders.specs.declared.order.Order.{Order}
 use Rattle.frame_core.specs.Fold.{folded}
 use Rattle.order_packets.specs.declared.up.Up.{Up}

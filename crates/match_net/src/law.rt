@@ -1,4 +1,4 @@
-ghost use Rattle.std.specs.Prelude.{◌≡◌, ◌≢◌, ◌≤◌, ◌++◌, ◌∷◌, ℕ, List, None, Ok, Option, Some};
+ghost use Rattle.std.specs.Prelude.{◌≡◌, ◌≢◌, ◌≤◌, ◌<◌, ◌++◌, ◌∷◌, ℕ, List, None, Ok, Option, Some};
 ghost use Rattle.std.specs.Prelude.{length, take};
 ghost use Rattle.game_io.specs.SinkState.{SinkState};
 ghost use Rattle.game_io.specs.SourceState.{SourceState};
@@ -6,7 +6,9 @@ ghost use Rattle.frame_table.specs.declared.view.View.{View};
 ghost use Rattle.report_line.specs.declared.heard.Heard.{Heard};
 ghost use Rattle.match_net.specs.declared.read_cause.ReadCause.{ReadCause};
 ghost use Rattle.match_net.specs.Sessions.{ReadsLink, IsWholeSession};
+ghost use Rattle.game_orders.specs.declared.entry.Entry.{Entry};
 ghost use Rattle.game_orders.specs.declared.entry.Entry.TheVariants.{Leave};
+ghost use Rattle.peer_core.specs.declared.arrived.Arrived.{Arrived};
 ghost use Rattle.game_orders.specs.declared.order.Order.{Order};
 ghost use Rattle.match_net.specs.declared.limits.TheConstants.{MAX_LINK_BYTES};
 ghost use Rattle.match_net.specs.declared.ending.Ending.{Ending};
@@ -15,11 +17,11 @@ ghost use Rattle.match_net.specs.Session.{Session, IsSession, Makes, limited};
 ghost use Rattle.order_packets.specs.declared.down.Down.{Down};
 ghost use Rattle.order_packets.specs.declared.down.Down.TheVariants as down;
 ghost use Rattle.match_net.specs.Playing.{Stage};
-ghost use Rattle.match_net.specs.Stages.{Terms, after_packets};
+ghost use Rattle.match_net.specs.Stages.{Terms, after_packets, bot_terms};
 ghost use Rattle.match_net.specs.CameDown.{IsFold, AreAgreed};
 ghost use Rattle.match_net.specs.PlayMatch.{PlaysAs};
 ghost use Rattle.match_net.specs.WholeMatch.{WholeMatch, IsWholeMatch, IsPlayed};
-ghost use Rattle.match_net.specs.WritesInTurn.{WritesInTurn};
+ghost use Rattle.match_net.specs.WritesInTurn.{WritesInTurn, orders_by, world_after};
 ghost use Rattle.frame_core.specs.Agreed.{IsAt};
 ghost use Rattle.frame_core.specs.Column.{Column};
 
@@ -139,4 +141,20 @@ pub fn a_player_writes_in_turn<S: Sim>()
         after_packets terms None (down.Welcome client clients lag seed ∷ packets)
         ≡ Ok (Some mid) → terms.plays.frames ≤ mid.player.peer.ticked →
         after_packets terms (Some mid) later ≡ Ok (Some now) → now.said ≡ mid.said }
+{}
+
+/// A law of bots: where each step by a frame with an entry of each client keeps a world's clients,
+/// and the opening world has those of the welcome, what a bot orders in each world that it holds is
+/// what its rule orders. The call does nothing.
+pub fn a_bot_orders_by_its_rule<S: Sim>()
+    ensures { (made : ℕ → ℕ → S) (after : S → List Entry → S) (hash clients_of : S → ℕ)
+        (ordered : S → ℕ → List Order) (rules frames : ℕ) (start : S)
+        (client clients ticked n : ℕ) (arrived : List Arrived) →
+        ((w : S) (f : List Entry) → length f ≡ clients_of w →
+        clients_of (after w f) ≡ clients_of w) →
+        clients_of start ≡ clients → client < clients →
+        orders_by (bot_terms made after hash clients_of ordered rules frames) start client clients
+        arrived ticked n
+        ≡ ordered (world_after (bot_terms made after hash clients_of ordered rules frames) start
+        clients arrived ticked) client }
 {}

@@ -51,9 +51,9 @@ pub use first_packet::{greet, greet_counted};
 pub use greeting::Greeting;
 pub use invite::Invite;
 pub use law::{
-    a_links_bytes_have_one_session, a_player_writes_in_turn, a_players_bytes_have_one_match,
-    a_players_world_is_the_fold, a_session_begins_that_of_its_bytes,
-    an_ended_session_is_that_of_its_bytes,
+    a_bot_orders_by_its_rule, a_links_bytes_have_one_session, a_player_writes_in_turn,
+    a_players_bytes_have_one_match, a_players_world_is_the_fold,
+    a_session_begins_that_of_its_bytes, an_ended_session_is_that_of_its_bytes,
 };
 pub use limits::{MAX_LINK_BYTES, MAX_PLAY_BYTES, NO_HELLO, OTHER_RULES, OTHER_VERSION, VERSION};
 pub use order_source::OrderSource;
