@@ -103,7 +103,7 @@ fn step(rt: &impl Abort, game: &mut Game, frame: &Frame) {
 }
 
 /// The opening game of a case, and what its first clients play.
-fn opening(rt: &impl Abort, alloc: Global, case: &MatchCase) -> Result<(Game, Scripts), Fail> {
+pub(crate) fn opening(rt: &impl Abort, alloc: Global, case: &MatchCase) -> Result<(Game, Scripts), Fail> {
     let (rules, _) = type_rules(alloc, &forest_of(alloc, case.rules)?)?;
     let map = read_map(alloc, &forest_of(alloc, case.map)?, &rules)?;
     assert!(rt; case.script.len() <= MAX_DRILL_BYTES as usize);
