@@ -3,7 +3,7 @@ use Rattle.std.proofs.Common.{◌≡◌, ℕ, zero, suc, ◌+◌, ◌-◌, ◌^�
 use Rattle.std.proofs.lemmas.List.FromFn.{length-map-range_with_len, map-range_with_len_more, get_or-map-range_with_len}
 use Rattle.std.proofs.lemmas.Option.{slice_get_past}
 use Rattle.std.proofs.lemmas.Bool.Decides.{eqb_tells}
-use Rattle.std.specs.Prelude.{slice_get, Some, None}
+use Rattle.std.specs.Prelude.{slice_get, Some, None, Result, Ok, Err, IfOk, OnOk}
 use Rattle.std.specs.List.{range_with_len}
 use Rattle.game_orders.specs.declared.order.Order.{Order}
 use Rattle.game_orders.specs.declared.entry.Entry.{Entry}
@@ -142,3 +142,12 @@ module _ {W : Type 0} (m : BotMatch W) where
 -- Without bots.
 pub no_bots : {W : Type 0} (m : BotMatch W) → m.bots ≡ 0 → match_columns m ≡ script_columns m.scripts
 no_bots m none = ap (λ (k : ℕ). script_columns m.scripts ++ map (bot_column m) (range_with_len (length m.scripts) k)) none ∙ append-nil (script_columns m.scripts)
+
+-- What holds of a value that a call gives.
+pub if_ok : {T E : Type 0} (r : Result T E) (P Q : T → Type 0) → ((x : T) → P x → Q x) → IfOk r P → IfOk r Q
+if_ok (Ok x) P Q more so = more x so
+if_ok (Err e) P Q more so = tt
+
+pub on_ok : {T E : Type 0} (r : Result T E) (P Q : Type 0) → (P → Q) → OnOk r P → OnOk r Q
+on_ok (Ok x) P Q more so = more so
+on_ok (Err e) P Q more so = tt

@@ -103,16 +103,17 @@ look_whole column old new K ended share found is =
 -- A look at the words.
 later_free : (old new : Part) → old.planned ≡ Free → IsLaterPart old new → (new.planned ≡ old.planned) × (new.feeds ≡ old.feeds) × (new.made ≡ old.made) × (new.known ≡ old.known)
 later_free old new free later = ⊎_elim
-    (λ same. (ap (λ (r : Part). r.planned) same, (ap (λ (r : Part). r.feeds) same, (ap (λ (r : Part). r.made) same, ap (λ (r : Part). r.known) same))))
+    (λ same. (
+      ap (λ (r : Part). r.planned) same,
+      ap (λ (r : Part). r.feeds) same,
+      ap (λ (r : Part). r.made) same,
+      ap (λ (r : Part). r.known) same,
+    ))
     (λ once. (
       ap (λ (r : Part). r.planned) once.0,
-      (
-        ap (λ (r : Part). r.feeds) once.0,
-        (
-          ap (λ (r : Part). r.made) once.0,
-          ap (λ (r : Part). r.known) once.0 ∙ ap (λ (q : Planned). known_after q new.reach old.known) free,
-        ),
-      ),
+      ap (λ (r : Part). r.feeds) once.0,
+      ap (λ (r : Part). r.made) once.0,
+      ap (λ (r : Part). r.known) once.0 ∙ ap (λ (q : Planned). known_after q new.reach old.known) free,
     ))
     later.exact
 
@@ -193,9 +194,9 @@ fed_none scripts table orders pass n ordered local knows none = record {
   rest = λ c past. refl;
 }
 
-pub fed_more : (scripts : Scripts) (table : FrameTable) (orders : ℕ → List Order) (start p q : Pass) (n i c : ℕ) (ordered after : List Entry) (put : List Order) (answer : Put) → FedSoFar scripts table orders start p n i ordered → IsPassOf table q → c ≡ length scripts + i → c < length (plan_of table) → n < MAX_FRAMES → put ≡ orders c →
-    PutsSo c (view_of p) (view_of q) n (Play put) answer → after ≡ ordered ++ Play put ∷ [] → FedSoFar scripts table orders start q n (i + 1) after
-fed_more scripts table orders start p q n i c ordered after put answer far is here below room ordered_is (K, acted, answered) pushed = record {
+pub fed_more : (scripts : Scripts) (table : FrameTable) (orders : ℕ → List Order) (start p q : Pass) (n i c : ℕ) (ordered after : List Entry) (put lent : List Order) (answer : Put) → FedSoFar scripts table orders start p n i ordered → IsPassOf table q → c ≡ length scripts + i → c < length (plan_of table) → n < MAX_FRAMES → put ≡ orders c → lent ≡ put →
+    PutsSo c (view_of p) (view_of q) n (Play lent) answer → after ≡ ordered ++ Play put ∷ [] → FedSoFar scripts table orders start q n (i + 1) after
+fed_more scripts table orders start p q n i c ordered after put lent answer far is here below room ordered_is same_orders (K, acted, answered) pushed = record {
   local = beside_local scripts table p q far.local is c (omega arith) acted.others;
   knows = beside_knows scripts table p q far.local is c (omega arith) acted.others far.knows;
   share = acted.others.0 ∙ far.share;
@@ -207,7 +208,7 @@ fed_more scripts table orders start p q n i c ordered after put answer far is he
       let so = far.bots plays long fed in
       let mine : HasFed (plays c) (standing p c) = subst (HasFed (plays c)) (sym (far.rest c (omega arith))) (fed c (omega arith) below) in
       bots_more (length scripts) i c (λ d part. HasFed (plays d ++ orders d ∷ []) part) start p q so here acted.others
-      (subst (λ (o : List Order). HasFed (plays c ++ o ∷ []) (standing q c)) ordered_is (put_fed (plays c) (standing p c) (standing q c) K n put mine (long c) room acted.found acted.part));
+      (subst (λ (o : List Order). HasFed (plays c ++ o ∷ []) (standing q c)) (same_orders ∙ ordered_is) (put_fed (plays c) (standing p c) (standing q c) K n lent mine (long c) room acted.found acted.part));
   rest = λ d past. acted.others.2 d (λ same. absurd (omega arith)) ∙ far.rest d (omega arith);
 }
 

@@ -128,7 +128,7 @@ put_there K n orders below = by (slice_get K.plays n) refl
 not_past : (a b : ℕ) → b ≤ a → nat_lt a b ≡ false
 not_past a b past = grind (arith, nat_tests, past)
 
-pub open_column : List (List Order) → Column
+unfoldable pub open_column : List (List Order) → Column
 open_column plays = record { plays = plays; left = false }
 
 pub put_last : (done : List (List Order)) (n : ℕ) (orders : List Order) → n ≡ length done → n < MAX_FRAMES → put_column (open_column done) n (Play orders) ≡ open_column (done ++ orders ∷ [])

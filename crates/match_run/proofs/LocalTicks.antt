@@ -14,7 +14,7 @@ use Rattle.frame_table.specs.declared.pass.Pass.{Pass}
 use Rattle.frame_table.specs.declared.table.FrameTable.{FrameTable}
 use Rattle.frame_table.specs.Word.{whole_of}
 use Rattle.frame_table.specs.Calls.{plan_of, view_of, standing, HasSeen, IsPassOf, IsLater, MeansReadySeen}
-use Rattle.match_run.specs.Bots.{BotMatch, bot_entries, bot_plays}
+use Rattle.match_run.specs.Bots.{BotMatch, bot_column, bot_entries, bot_plays}
 use Rattle.match_run.specs.Feeding.{MayFeedAll, HasFed, HasFedAll, HasEndedAll}
 use Rattle.match_run.specs.Local.{script_column, script_columns, frames_of, IsAll}
 use Rattle.match_run.specs.Passes.{IsLocalPass, KnowsAllSeen, IsStepped}
@@ -80,24 +80,23 @@ module _ {W : Type 0} (m : BotMatch W) (clients_of steps : W → ℕ) (table : F
         held = taken_later m.scripts after n held;
       }
 
+  pub ended_all : (p q r : Pass) (world : W) (taken : List Taken) (n : ℕ) → TickedSoFar m clients_of steps table start p world taken n → n ≡ frames_of m.scripts →
+      ((plays : ℕ → List (List Order)) → HasFedAll (length m.scripts) table plays p → HasEndedAll (length m.scripts) table (λ c. record { plays = plays c; left = true }) q) →
+      ((columns : ℕ → Column) → HasEndedAll (length m.scripts) table columns q → HasEndedAll (length m.scripts) table columns r) → HasEndedAll (length m.scripts) table (bot_column m) r
+  ended_all p q r world taken n far same left waited =
+      waited (bot_column m) (subst (λ k. HasEndedAll (length m.scripts) table (λ c. record { plays = bot_plays m k c; left = true }) q) same (left (bot_plays m n) far.fed))
+
 -- A frame is waited for.
 pub record WaitedSoFar (scripts : Scripts) (table : FrameTable) (start pass : Pass) : Type 0 where
   pub local : IsLocalPass scripts table pass
   pub knows : KnowsAllSeen scripts pass
   pub share : (view_of pass).share ≡ (view_of start).share
-  pub fed : (plays : ℕ → List (List Order)) → HasFedAll (length scripts) table plays start → HasFedAll (length scripts) table plays pass
-  pub ended : (columns : ℕ → Column) → HasEndedAll (length scripts) table columns start → HasEndedAll (length scripts) table columns pass
-
-pub waited_none : (scripts : Scripts) (table : FrameTable) (pass : Pass) → IsLocalPass scripts table pass → KnowsAllSeen scripts pass → WaitedSoFar scripts table pass pass
-waited_none scripts table pass local knows = record { local = local; knows = knows; share = refl; fed = λ plays fed. fed; ended = λ columns ended. ended }
 
 pub waited_later : (scripts : Scripts) (table : FrameTable) (start p q : Pass) → WaitedSoFar scripts table start p → IsPassOf table q → IsLater (view_of p) (view_of q) → WaitedSoFar scripts table start q
 waited_later scripts table start p q far is later = record {
   local = later_local scripts table p q far.local is later;
   knows = later_knows scripts table p q far.local is later far.knows;
   share = later.share ∙ far.share;
-  fed = λ plays fed. later_fed_all (length scripts) table plays p q later (far.fed plays fed);
-  ended = λ columns ended. later_ended_all (length scripts) table columns p q later (far.ended columns ended);
 }
 
 -- All clients have something for the frame.

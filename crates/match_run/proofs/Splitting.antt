@@ -1,5 +1,5 @@
 -- Passes with which nothing was done yet: the first, those that are split off it, and those that are joined back.
-use Rattle.std.proofs.Common.{◌≡◌, ℕ, zero, suc, ◌+◌, ◌-◌, ◌*◌, ◌/◌, ◌^◌, ◌<◌, ◌≤◌, ◌⊎◌, ◌||◌, max, Bool, true, false, true≢false, List, [], ◌∷◌, ◌++◌, length, take, map, replicate, get_or, refl, sym, ap, ap₂, ◌∙◌, subst, inl, inr, ⊎_elim, arith, length-append, append_assoc}
+use Rattle.std.proofs.Common.{◌≡◌, ℕ, zero, suc, ◌+◌, ◌-◌, ◌*◌, ◌/◌, ◌^◌, ◌<◌, ◌≤◌, ◌⊎◌, ◌||◌, if◌then◌else◌, max, Bool, true, false, true≢false, List, [], ◌∷◌, ◌++◌, length, take, map, replicate, get_or, refl, sym, ap, ap₂, ◌∙◌, subst, inl, inr, ⊎_elim, arith, length-append, append_assoc}
 use Rattle.std.specs.Prelude.{All, Some}
 use Rattle.std.proofs.lemmas.List.Elements.{All-nil, All-cons}
 use Rattle.game_orders.specs.declared.order.Order.{Order}
@@ -63,7 +63,7 @@ free_at (s ∷ scripts) bots (suc c) past = free_at scripts bots c (omega arith)
 -- One more of a plan.
 pub free_more : (n : ℕ) → replicate n Free ++ Free ∷ [] ≡ replicate (n + 1) Free
 free_more zero = refl
-free_more (suc n) = ap (λ (l : List Planned). Free ∷ l) (free_more n)
+free_more (suc n) = ap (λ (l : List Planned). Free ∷ l) (free_more n) ∙ ap (λ k. replicate k Free) (let same : suc (n + 1) ≡ suc n + 1 = omega arith in same)
 
 pub plan_more : (scripts : Scripts) (n : ℕ) (each after : List Planned) → each ≡ match_plan scripts n → after ≡ each ++ Free ∷ [] → after ≡ match_plan scripts (n + 1)
 plan_more scripts n each after is pushed =
@@ -76,7 +76,7 @@ plan_more scripts n each after is pushed =
 first_rights : (scripts : Scripts) (bots : ℕ) → rights_of (map first_mark (match_plan scripts bots)) ≡ bots
 first_rights [] zero = refl
 first_rights [] (suc bots) = let rest = first_rights [] bots in omega arith
-first_rights (s ∷ scripts) bots = first_rights scripts bots
+first_rights (s ∷ scripts) bots = let rest = first_rights scripts bots in omega arith
 
 module _ (scripts : Scripts) (bots : ℕ) (table : FrameTable) (pass : Pass) (plan : List Planned) (plan_is : plan ≡ match_plan scripts bots) (is : IsPassOf table pass) (of_plan : plan_of table ≡ plan) (first : view_of pass ≡ first_view plan) where
   part_first : (c : ℕ) → c < length (plan_of table) → standing pass c ≡ part_in (2 ^ 62) (first_mark (planned_of (plan_of table) c))
@@ -174,11 +174,15 @@ one_feeds false share other old m is = inl is
 
 pub kept_rights : (ms : List Mark) → rights_of (kept_marks ms) ≡ rights_of ms - 1
 kept_rights [] = refl
-kept_rights (m ∷ ms) = by m.feeds refl
+kept_rights (m ∷ ms) = by m.feeds refl (kept_rights ms)
   where
-    by : (b : Bool) → m.feeds ≡ b → rights_of (kept_marks (m ∷ ms)) ≡ rights_of (m ∷ ms) - 1
-    by true is = rw is (omega arith)
-    by false is = let rest = kept_rights ms in rw is (rw is (omega arith))
+    by : (b : Bool) → m.feeds ≡ b → rights_of (kept_marks ms) ≡ rights_of ms - 1 → rights_of (kept_marks (m ∷ ms)) ≡ rights_of (m ∷ ms) - 1
+    by true is rest =
+        ap (λ (b : Bool). rights_of (if b then kept_mark true m ∷ ms else m ∷ kept_marks ms)) is
+        ∙ (let one : one_if m.feeds ≡ 1 = ap one_if is in omega arith)
+    by false is rest =
+        ap (λ (b : Bool). rights_of (if b then kept_mark true m ∷ ms else m ∷ kept_marks ms)) is
+        ∙ (let none : one_if m.feeds ≡ 0 = ap one_if is in omega arith)
 
 module _ (table : FrameTable) (p q other : Pass) (unused : IsUnused table p) (is : IsPassOf table q) (theirs : IsPassOf table other) (kept : view_of q ≡ kept_view (view_of p)) (given : view_of other ≡ given_view (view_of p)) where
   kept_part : (c : ℕ) → standing q c ≡ part_in ((view_of p).share - (view_of p).share / 2) (kept_mark (handed (view_of p).marks c).0 (get_or (view_of p).marks c no_mark))
@@ -220,6 +224,9 @@ unused_pop : (table : FrameTable) (xs : List ClientPass) (x : ClientPass) → Ar
 unused_pop table [] x are = (tt, are.0)
 unused_pop table (y ∷ xs) x are = let rest = unused_pop table xs x are.1 in ((are.0, rest.0), rest.1)
 
+pub unused_last : (table : FrameTable) (passes rest : List ClientPass) (own : ClientPass) → AreUnused table passes → passes ≡ rest ++ own ∷ [] → IsPassOf table own.pass
+unused_last table passes rest own are is = (unused_pop table rest own (subst (AreUnused table) is are)).1.of_table
+
 from_push : (first : ℕ) (xs : List ClientPass) (x : ClientPass) → AreFrom first xs → x.client ≡ first + length xs → AreFrom first (xs ++ x ∷ [])
 from_push first [] x are is = ((omega arith), tt)
 from_push first (y ∷ xs) x are is = (are.0, from_push (first + 1) xs x are.1 (omega arith))
@@ -243,7 +250,7 @@ power_pos zero = omega arith
 power_pos (suc k) = let d = doubled k in let rest = power_pos k in omega arith
 
 pub power_more : (k j : ℕ) → 2 ^ k ≤ 2 ^ (j + k)
-power_more k zero = omega arith
+power_more k zero = subst (λ e. 2 ^ k ≤ 2 ^ e) (let same : k ≡ 0 + k = omega arith in same) (omega arith)
 power_more k (suc j) = let d = doubled (j + k) in let rest = power_more k j in let one : suc j + k ≡ suc (j + k) = omega arith in subst (λ e. 2 ^ k ≤ 2 ^ e) (sym one) (omega arith)
 
 -- The passes of the clients below i, from the first on, were split off.

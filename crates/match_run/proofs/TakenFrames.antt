@@ -69,4 +69,4 @@ entries_more before entries frame after i at below is there pushed =
     next [] k below = absurd (omega arith)
     next (x ∷ []) zero below = refl
     next (x ∷ y ∷ xs) zero below = refl
-    next (x ∷ xs) (suc k) below = ap (λ (l : List Entry). x ∷ l) (next xs k (omega arith))
+    next (x ∷ xs) (suc k) below = ap (λ (l : List Entry). x ∷ l) (next xs k (omega arith)) ∙ ap (λ n. take n (x ∷ xs)) (let same : suc (k + 1) ≡ suc k + 1 = omega arith in same)
