@@ -9,6 +9,8 @@ mod matches;
 #[cfg(test)]
 mod more_bots;
 #[cfg(test)]
+mod on_threads;
+#[cfg(test)]
 mod one_bot;
 #[cfg(test)]
 mod over_links;

@@ -107,9 +107,9 @@ published_so plays part next K L planned follows is =
       (λ i. record { plays = (sym (take_front L.plays follows.0.0) ∙ ap (take (length_of L)) (sym follows.0.1)) i; left = L.left }),
     )
 
-pub published_all : (plays : List (List Order)) (part next : Part) (K L : Column) → L ≡ script_column plays → next ≡ published part K L → IsAll next (script_column plays)
-published_all plays part next K L whole is =
-    subst (λ (q : Part). IsAll q (script_column plays)) (sym is) (record { reach = ap whole_of whole; known = whole })
+pub published_all : (column : Column) (part next : Part) (K L : Column) → L ≡ column → next ≡ published part K L → IsAll next column
+published_all column part next K L whole is =
+    subst (λ (q : Part). IsAll q column) (sym is) (record { reach = ap whole_of whole; known = whole })
 
 -- A put of the script's play.
 kept_same : (b : Bool) (K : Column) (kept e : Entry) → after_answer (if b then Repeat else Conflict kept) K e ≡ K
@@ -128,10 +128,10 @@ put_there K n orders below = by (slice_get K.plays n) refl
 not_past : (a b : ℕ) → b ≤ a → nat_lt a b ≡ false
 not_past a b past = grind (arith, nat_tests, past)
 
-open_column : List (List Order) → Column
+unfoldable pub open_column : List (List Order) → Column
 open_column plays = record { plays = plays; left = false }
 
-put_last : (done : List (List Order)) (n : ℕ) (orders : List Order) → n ≡ length done → n < MAX_FRAMES → put_column (open_column done) n (Play orders) ≡ open_column (done ++ orders ∷ [])
+pub put_last : (done : List (List Order)) (n : ℕ) (orders : List Order) → n ≡ length done → n < MAX_FRAMES → put_column (open_column done) n (Play orders) ≡ open_column (done ++ orders ∷ [])
 unfolding open_column
 put_last done n orders here room =
     ap (λ at. after_answer (put_by (entry_from at false) (record { plays = done; left = false }) n (Play orders)) (record { plays = done; left = false }) (Play orders)) (none_past done n (omega arith))

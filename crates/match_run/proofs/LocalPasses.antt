@@ -1,5 +1,5 @@
 -- The passes of a local match: the calls of the table keep what is known of them.
-use Rattle.std.proofs.Common.{◌≡◌, ℕ, zero, suc, ◌+◌, ◌-◌, ◌*◌, ◌/◌, ◌^◌, ◌<◌, ◌≤◌, ◌⊎◌, ◌||◌, max, Bool, true, false, true≢false, List, [], ◌∷◌, ◌++◌, length, take, get_or, refl, sym, ap, ◌∙◌, subst, inl, inr, ⊎_elim, arith}
+use Rattle.std.proofs.Common.{◌≡◌, ◌≢◌, ℕ, zero, suc, ◌+◌, ◌-◌, ◌*◌, ◌/◌, ◌^◌, ◌<◌, ◌≤◌, ◌⊎◌, ◌||◌, max, Bool, true, false, true≢false, List, [], ◌∷◌, ◌++◌, length, take, get_or, refl, sym, ap, ◌∙◌, subst, inl, inr, ⊎_elim, arith}
 use native.Mathlib.Decide.{ℕ_discrete}
 use mathlib.Core.Logic.{dite}
 use Rattle.game_orders.specs.declared.order.Order.{Order}
@@ -17,12 +17,13 @@ use Rattle.frame_table.specs.Part.{Part, part_of, part_in, no_mark}
 use Rattle.frame_table.specs.Word.{whole_of}
 use Rattle.frame_table.specs.Rule.{Follows}
 use Rattle.frame_table.specs.Steps.{IsWithinPlan, IsFound, known_after}
-use Rattle.frame_table.specs.Passes.{kept_mark, given_mark, kept_view, given_view, joined_mark, joined_view, further, first_mark, first_view}
-use Rattle.frame_table.specs.PassesLemmas.{handed, joined_at, first_at}
+use Rattle.frame_table.specs.Passes.{joined_mark, joined_view, further}
 use Rattle.frame_table.specs.Calls.{plan_of, view_of, standing, IsPassOf, Acted, Unchanged, IsLater, IsLaterPart, MayPut, MayPutPlay, MayLeaveBy, PutsSo, LeavesSo}
 use Rattle.match_run.specs.declared.client_pass.ClientPass.{ClientPass}
-use Rattle.match_run.specs.Local.{script_column, script_plan, IsAll}
-use Rattle.match_run.specs.Passes.{FollowsScript, IsLocalPass, KnowsSeen, KnowsAllSeen, IsClientPass, shares_of}
+use Rattle.match_run.specs.Local.{script_column, IsAll}
+use Rattle.match_run.specs.Feeding.{HasEnded, HasEndedAll}
+use Rattle.match_run.proofs.Splitting.{Scripts, shares_push, part_joined, joined_share}
+use Rattle.match_run.specs.Passes.{script_plan, FollowsScript, IsLocalPass, KnowsSeen, KnowsAllSeen, IsClientPass, shares_of}
 use Rattle.std.specs.Prelude.{slice_get, All, Some}
 use Rattle.std.proofs.lemmas.List.Elements.{All-nil, All-push, All-pop}
 use Rattle.game_orders.specs.declared.entry.Entry.TheVariants.{Play}
@@ -32,48 +33,8 @@ use Rattle.frame_core.specs.declared.put.Put.{Put}
 use Rattle.frame_core.specs.declared.leaving.Leaving.{Leaving}
 use Rattle.match_run.proofs.Columns.{published_so, published_all, put_script, departed, whole_follows}
 
-abbrev pub Scripts : Type 0
-Scripts = List (List (List Order))
-
 abbrev StandsSo : List (List Order) → Part → Type 0
 StandsSo plays part = FollowsScript plays part × KnowsSeen plays part
-
--- The first pass.
-plan_at : (scripts : Scripts) (c : ℕ) → c < length scripts → get_or (script_plan scripts) c Free ≡ Plays (plays_of scripts c)
-plan_at [] c below = absurd (omega arith)
-plan_at (s ∷ scripts) zero below = refl
-plan_at (s ∷ scripts) (suc c) below = plan_at scripts c (omega arith)
-
-plan_length : (scripts : Scripts) → length (script_plan scripts) ≡ length scripts
-plan_length [] = refl
-plan_length (s ∷ scripts) = ap suc (plan_length scripts)
-
-first_stands : (plays : List (List Order)) → StandsSo plays (part_in (2 ^ 62) (first_mark (Plays plays)))
-first_stands plays = (record { planned = refl; within = (omega arith, λ left. absurd (true≢false (sym left))) }, refl)
-
-module _ (scripts : Scripts) (table : FrameTable) (pass : Pass) (plan : List Planned) (plan_is : plan ≡ script_plan scripts) (is : IsPassOf table pass) (of_plan : plan_of table ≡ plan) (first : view_of pass ≡ first_view plan) where
-  stands : (c : ℕ) → c < length scripts → StandsSo (plays_of scripts c) (standing pass c)
-  stands c below =
-      let part : standing pass c ≡ part_in (2 ^ 62) (first_mark (Plays (plays_of scripts c))) =
-      ap (part_of c) first
-      ∙ ap (λ (l : List Planned). part_of c (first_view l)) plan_is
-      ∙ ap (part_in (2 ^ 62)) (first_at (script_plan scripts) c (let l = plan_length scripts in omega arith))
-      ∙ ap (λ (q : Planned). part_in (2 ^ 62) (first_mark q)) (plan_at scripts c below) in
-      subst (StandsSo (plays_of scripts c)) (sym part) (first_stands (plays_of scripts c))
-
-  pub first_local : IsLocalPass scripts table pass
-  first_local =
-      record {
-        of_table = is;
-        clients = ap length of_plan ∙ ap length plan_is ∙ plan_length scripts;
-        columns = λ c below. (stands c below).0;
-      }
-
-  pub first_knows : KnowsAllSeen scripts pass
-  first_knows c below = (stands c below).1
-
-  pub first_share : (view_of pass).share ≡ 2 ^ 62
-  first_share = ap (λ (v : View). v.share) first
 
 -- A call of the table that took a column's lock.
 module _ (scripts : Scripts) (table : FrameTable) (p q : Pass) (local : IsLocalPass scripts table p) (is : IsPassOf table q) (c : ℕ) (here : c < length scripts) (K L : Column) (acted : Acted c (view_of p) (view_of q) K L) (follows : Follows (Plays (plays_of scripts c)) L) where
@@ -137,46 +98,6 @@ module _ (scripts : Scripts) (table : FrameTable) (p q : Pass) (local : IsLocalP
   pub later_knows : KnowsAllSeen scripts p → KnowsAllSeen scripts q
   later_knows knows d below = (later_so (plays_of scripts d) (standing p d) (standing q d) (local.columns d below) (later.parts d)).1 (knows d below)
 
--- A split.
-same_part : (plays : List (List Order)) (old new : Part) → new.planned ≡ old.planned → new.reach ≡ old.reach → new.known ≡ old.known → FollowsScript plays old → FollowsScript plays new × (KnowsSeen plays old → KnowsSeen plays new)
-same_part plays old new planned reach known so = (
-  record { planned = planned ∙ so.planned; within = subst (IsWithinPlan (Plays plays)) (sym reach) so.within },
-  λ knows. known ∙ knows ∙ ap (λ (s : Seen). record { plays = take s.plays plays; left = s.left }) (sym reach),
-)
-
-kept_so : (plays : List (List Order)) (b : Bool) (share old_share : ℕ) (m : Mark) → FollowsScript plays (part_in old_share m) → FollowsScript plays (part_in share (kept_mark b m)) × (KnowsSeen plays (part_in old_share m) → KnowsSeen plays (part_in share (kept_mark b m)))
-kept_so plays true share old_share m so = same_part plays (part_in old_share m) (part_in share (kept_mark true m)) refl refl refl so
-kept_so plays false share old_share m so = same_part plays (part_in old_share m) (part_in share (kept_mark false m)) refl refl refl so
-
-module _ (scripts : Scripts) (table : FrameTable) (p q : Pass) (local : IsLocalPass scripts table p) (is : IsPassOf table q) where
-  module _ (kept : view_of q ≡ kept_view (view_of p)) where
-    kept_here : (c : ℕ) → c < length scripts → FollowsScript (plays_of scripts c) (standing q c) × (KnowsSeen (plays_of scripts c) (standing p c) → KnowsSeen (plays_of scripts c) (standing q c))
-    kept_here c below =
-        let h = handed (view_of p).marks c in
-        let v = view_of p in
-        let part : standing q c ≡ part_in (v.share - v.share / 2) (kept_mark h.0 (get_or v.marks c no_mark)) = ap (part_of c) kept ∙ ap (part_in (v.share - v.share / 2)) h.1.0 in
-        subst (λ (r : Part). FollowsScript (plays_of scripts c) r × (KnowsSeen (plays_of scripts c) (standing p c) → KnowsSeen (plays_of scripts c) r)) (sym part)
-        (kept_so (plays_of scripts c) h.0 (v.share - v.share / 2) v.share (get_or v.marks c no_mark) (local.columns c below))
-
-    pub kept_local : IsLocalPass scripts table q
-    kept_local = record { of_table = is; clients = local.clients; columns = λ c below. (kept_here c below).0 }
-
-    pub kept_knows : KnowsAllSeen scripts p → KnowsAllSeen scripts q
-    kept_knows knows c below = (kept_here c below).1 (knows c below)
-
-  module _ (given : view_of q ≡ given_view (view_of p)) where
-    pub given_local : IsLocalPass scripts table q
-    given_local = record {
-      of_table = is;
-      clients = local.clients;
-      columns = λ c below.
-          let h = handed (view_of p).marks c in
-          let v = view_of p in
-          let m = get_or v.marks c no_mark in
-          let part : standing q c ≡ part_in (v.share / 2) (given_mark h.0 m) = ap (part_of c) given ∙ ap (part_in (v.share / 2)) h.1.1 in
-          subst (FollowsScript (plays_of scripts c)) (sym part) (same_part (plays_of scripts c) (part_in v.share m) (part_in (v.share / 2) (given_mark h.0 m)) refl refl refl (local.columns c below)).0;
-    }
-
 -- A join.
 max_within : (a b most : ℕ) → a ≤ most → b ≤ most → max a b ≤ most
 max_within a b most x y = grind (arith, x, y)
@@ -205,18 +126,15 @@ further_whole plays a b whole y =
     ap (λ (s : Seen). further s b) whole ∙ (λ i. record { plays = max_left (length plays) b.plays (length plays) refl y.0 i; left = true })
 
 module _ (scripts : Scripts) (table : FrameTable) (p other q : Pass) (local : IsLocalPass scripts table p) (theirs : IsLocalPass scripts table other) (is : IsPassOf table q) (joined : view_of q ≡ joined_view (view_of p) (view_of other)) where
-  part_joined : (c : ℕ) → c < length scripts → standing q c ≡ part_in ((view_of p).share + (view_of other).share) (joined_mark (get_or (view_of p).marks c no_mark) (get_or (view_of other).marks c no_mark))
-  part_joined c below =
-      ap (part_of c) joined
-      ∙ ap (part_in ((view_of p).share + (view_of other).share)) (joined_at (view_of p).marks (view_of other).marks c
-      (let l = local.of_table.marks in let m = local.clients in omega arith) (let l = theirs.of_table.marks in let m = theirs.clients in omega arith))
+  part_here : (c : ℕ) → c < length scripts → standing q c ≡ part_in ((view_of p).share + (view_of other).share) (joined_mark (get_or (view_of p).marks c no_mark) (get_or (view_of other).marks c no_mark))
+  part_here c below = part_joined table p other q is local.of_table theirs.of_table joined c (let m = local.clients in omega arith)
 
   pub joined_local : IsLocalPass scripts table q
   joined_local = record {
     of_table = is;
     clients = local.clients;
     columns = λ c below.
-        let part = part_joined c below in
+        let part = part_here c below in
         record {
           planned = ap (λ (r : Part). r.planned) part ∙ (local.columns c below).planned;
           within = subst (λ (r : Part). IsWithinPlan (Plays (plays_of scripts c)) r.reach) (sym part)
@@ -232,18 +150,33 @@ module _ (scripts : Scripts) (table : FrameTable) (p other q : Pass) (local : Is
       let grows = mine c (let l = local.clients in omega arith) in
       let whole = all c below in
       record {
-        reach = ap (λ (r : Part). r.reach) (part_joined c below) ∙ further_whole (plays_of scripts c) (standing p c).reach (standing other c).reach whole.reach (theirs.columns c below).within;
+        reach = ap (λ (r : Part). r.reach) (part_here c below) ∙ further_whole (plays_of scripts c) (standing p c).reach (standing other c).reach whole.reach (theirs.columns c below).within;
         known = grows.closed (ap (λ (k : Column). k.left) whole.known) ∙ whole.known;
       }
 
-  pub joined_share : (view_of q).share ≡ (view_of p).share + (view_of other).share
-  joined_share = ap (λ (v : View). v.share) joined
+  pub joined_ended : (columns : ℕ → Column) →
+      ((c : ℕ) → c < length (plan_of table) → GrowsTo (standing p c).known (standing q c).known) →
+      ((c : ℕ) → length scripts ≤ c → c < length (plan_of table) → (standing other c).made ≡ 0) →
+      HasEndedAll (length scripts) table columns p → HasEndedAll (length scripts) table columns q
+  joined_ended columns mine none ended c past below =
+      let part = part_joined table p other q is local.of_table theirs.of_table joined c below in
+      let was = ended c past below in
+      let same : (standing q c).known ≡ (standing p c).known = (mine c below).closed was.left in
+      record {
+        free = ap (λ (r : Part). r.planned) part ∙ was.free;
+        left = ap (λ (k : Column). k.left) same ∙ was.left;
+        known = λ one.
+            let both : (standing q c).made ≡ (standing p c).made + (standing other c).made = ap (λ (r : Part). r.made) part in
+            let nothing = none c past below in
+            same ∙ was.known (omega arith);
+      }
 
 -- Plays below n were put.
 pub record PutSoFar (scripts : Scripts) (table : FrameTable) (start pass : Pass) (c n : ℕ) : Type 0 where
   pub local : IsLocalPass scripts table pass
   pub share : (view_of pass).share ≡ (view_of start).share
   pub reach : n ≤ (standing pass c).reach.plays
+  pub others : (d : ℕ) → d ≢ c → (standing pass d).made ≡ (standing start d).made
 
 pub may_put : (plays : List (List Order)) (part : Part) (n : ℕ) (orders : List Order) → FollowsScript plays part → slice_get plays n ≡ Some orders → MayPut part n (Play orders)
 may_put plays part n orders so at = subst (λ q. MayPutPlay q part n orders) (sym so.planned) at
@@ -262,10 +195,12 @@ module _ (scripts : Scripts) (table : FrameTable) (start p q : Pass) (c n : ℕ)
         local = acted_local scripts table p q played.local is c here K (put_column K n (Play orders)) acted put.0;
         share = acted.others.0 ∙ played.share;
         reach = (let more = put.1 in let now : (standing q c).reach.plays ≡ length (put_column K n (Play orders)).plays = ap (λ (r : Part). r.reach.plays) acted.part in omega arith);
+        others = λ d apart. ap (λ (r : Part). r.made) (acted.others.2 d apart) ∙ played.others d apart;
       }
 
   pub left_all : (answer : Leaving) → length (plays_of scripts c) ≤ n → LeavesSo c (view_of p) (view_of q) answer →
       IsLocalPass scripts table q × ((view_of q).share ≡ (view_of start).share) × IsAll (standing q c) (script_column (plays_of scripts c))
+      × ((d : ℕ) → d ≢ c → (standing q d).made ≡ (standing start d).made)
   left_all answer end (K, acted, answered) =
       let plays = plays_of scripts c in
       let so = played.local.columns c here in
@@ -274,7 +209,8 @@ module _ (scripts : Scripts) (table : FrameTable) (start p q : Pass) (c n : ℕ)
       let whole : left_column K ≡ script_column plays = departed plays K (found_follows plays (standing p c) K so acted.found) (omega arith) in (
         acted_local scripts table p q played.local is c here K (left_column K) acted (subst (Follows (Plays plays)) (sym whole) (whole_follows plays)),
         acted.others.0 ∙ played.share,
-        published_all plays (standing p c) (standing q c) K (left_column K) whole acted.part,
+        published_all (script_column plays) (standing p c) (standing q c) K (left_column K) whole acted.part,
+        λ d apart. ap (λ (r : Part). r.made) (acted.others.2 d apart) ∙ played.others d apart,
       )
 
 -- The shares of passes.
@@ -287,79 +223,36 @@ shares_same (x ∷ xs) (y ∷ ys) long same =
     let rest = shares_same xs ys (omega arith) (λ i d below. same (suc i) d (omega arith)) in
     omega arith
 
-shares_push : (xs : List ClientPass) (x : ClientPass) → shares_of (xs ++ x ∷ []) ≡ shares_of xs + (view_of x.pass).share
-shares_push [] x = omega arith
-shares_push (y ∷ xs) x = let rest = shares_push xs x in omega arith
-
--- So many passes were split off.
-pub record SplitSoFar (scripts : Scripts) (table : FrameTable) (pass : Pass) (passes : List ClientPass) (client : ℕ) : Type 0 where
-  pub local : IsLocalPass scripts table pass
-  pub knows : KnowsAllSeen scripts pass
-  pub passes_are : All (λ f. IsClientPass scripts table f) passes
-  pub shares : (view_of pass).share + shares_of passes ≡ 2 ^ 62
-  pub enough : 2 ^ (62 - client) ≤ (view_of pass).share
-
-doubled : (k : ℕ) → 2 ^ suc k ≡ 2 * 2 ^ k
-doubled k = omega arith
-
-pub halved : (client share : ℕ) → client < 62 → 2 ^ (62 - client) ≤ share → (2 ≤ share) × (2 ^ (62 - (client + 1)) ≤ share - share / 2)
-halved client share few enough =
-    let k = 61 - client in
-    let here : 62 - client ≡ suc k = omega arith in
-    let next : 62 - (client + 1) ≡ k = omega arith in
-    let d = doubled k in
-    let one : 1 ≤ 2 ^ k = power_pos k in
-    let large : 2 * 2 ^ k ≤ share = subst (λ m. m ≤ share) (ap (λ m. 2 ^ m) here ∙ d) enough in
-    ((omega arith), subst (λ m. m ≤ share - share / 2) (sym (ap (λ m. 2 ^ m) next)) (omega arith))
-  where
-    power_pos : (k : ℕ) → 1 ≤ 2 ^ k
-    power_pos zero = omega arith
-    power_pos (suc k) = let d = doubled k in let rest = power_pos k in omega arith
-
-pub split_none : (scripts : Scripts) (table : FrameTable) (pass : Pass) → IsLocalPass scripts table pass → KnowsAllSeen scripts pass → (view_of pass).share ≡ 2 ^ 62 → SplitSoFar scripts table pass [] 0
-split_none scripts table pass local knows share =
-    record { local = local; knows = knows; passes_are = All-nil (λ f. IsClientPass scripts table f); shares = (omega arith); enough = omega arith }
-
-pub split_more : (scripts : Scripts) (table : FrameTable) (p q : Pass) (passes : List ClientPass) (after : List ClientPass) (client : ℕ) (own : ClientPass) → client < 16 → client < length scripts →
-    SplitSoFar scripts table p passes client → IsPassOf table q → view_of q ≡ kept_view (view_of p) → IsPassOf table own.pass → view_of own.pass ≡ given_view (view_of p) → own.client ≡ client → after ≡ passes ++ own ∷ [] →
-    SplitSoFar scripts table q after (client + 1)
-split_more scripts table p q passes after client own few here far is kept given_is given number pushed =
-    let share = (view_of p).share in
-    let half = halved client share (omega arith) far.enough in
-    let mine : (view_of q).share ≡ share - share / 2 = ap (λ (v : View). v.share) kept in
-    let theirs : (view_of own.pass).share ≡ share / 2 = ap (λ (v : View). v.share) given in
-    record {
-      local = kept_local scripts table p q far.local is kept;
-      knows = kept_knows scripts table p q far.local is kept far.knows;
-      passes_are = subst (All (λ f. IsClientPass scripts table f)) (sym pushed)
-          (All-push (λ f. IsClientPass scripts table f) passes own far.passes_are
-          (record { pass = given_local scripts table p own.pass far.local given_is given; client = omega arith }));
-      shares = (let all = far.shares in let more = ap shares_of pushed ∙ shares_push passes own in omega arith);
-      enough = (let e = half.1 in omega arith);
-    }
-
 -- Some passes were joined, and these are left.
-pub record JoinedSoFar (scripts : Scripts) (table : FrameTable) (pass : Pass) (passes : List ClientPass) (share : ℕ) : Type 0 where
+pub record JoinedSoFar (scripts : Scripts) (table : FrameTable) (start pass : Pass) (passes : List ClientPass) (share : ℕ) : Type 0 where
   pub local : IsLocalPass scripts table pass
   pub all : (c : ℕ) → c < length scripts → IsAll (standing pass c) (script_column (plays_of scripts c))
   pub passes_are : All (λ f. IsClientPass scripts table f) passes
   pub shares : (view_of pass).share + shares_of passes ≡ share
+  pub ended : (columns : ℕ → Column) → HasEndedAll (length scripts) table columns start → HasEndedAll (length scripts) table columns pass
 
 pub last_of : (scripts : Scripts) (table : FrameTable) (all rest : List ClientPass) (own : ClientPass) → All (λ f. IsClientPass scripts table f) all → all ≡ rest ++ own ∷ [] → All (λ f. IsClientPass scripts table f) rest × IsClientPass scripts table own
 last_of scripts table all rest own are is = All-pop (λ f. IsClientPass scripts table f) all rest (Some own) is are
 
-pub join_more : (scripts : Scripts) (table : FrameTable) (p q : Pass) (all rest : List ClientPass) (own : ClientPass) (share : ℕ) → JoinedSoFar scripts table p all share → all ≡ rest ++ own ∷ [] → IsPassOf table q →
-    view_of q ≡ joined_view (view_of p) (view_of own.pass) → ((c : ℕ) → c < length (plan_of table) → GrowsTo (standing p c).known (standing q c).known) → JoinedSoFar scripts table q rest share
-join_more scripts table p q all rest own share far is of_table joined mine =
+pub join_more : (scripts : Scripts) (table : FrameTable) (start p q : Pass) (all rest : List ClientPass) (own : ClientPass) (share : ℕ) → JoinedSoFar scripts table start p all share → all ≡ rest ++ own ∷ [] → IsPassOf table q →
+    view_of q ≡ joined_view (view_of p) (view_of own.pass) → ((c : ℕ) → c < length (plan_of table) → GrowsTo (standing p c).known (standing q c).known) → JoinedSoFar scripts table start q rest share
+join_more scripts table start p q all rest own share far is of_table joined mine =
     let parts = last_of scripts table all rest own far.passes_are is in
     record {
       local = joined_local scripts table p own.pass q far.local parts.1.pass of_table joined;
       all = joined_all scripts table p own.pass q far.local parts.1.pass of_table joined mine far.all;
       passes_are = parts.0;
-      shares = (let s = far.shares in let m = ap shares_of is ∙ shares_push rest own in let j : (view_of q).share ≡ (view_of p).share + (view_of own.pass).share = ap (λ (v : View). v.share) joined in omega arith);
+      shares = (let s = far.shares in let m = ap shares_of is ∙ shares_push rest own in let j = joined_share table p own.pass q of_table far.local.of_table parts.1.pass.of_table joined in omega arith);
+      ended = λ columns begun. joined_ended scripts table p own.pass q far.local parts.1.pass of_table joined columns mine parts.1.made (far.ended columns begun);
     }
 
--- The plan, client by client.
+-- A client's thread fixes no departure of a bot.
+pub client_still : (scripts : Scripts) (table : FrameTable) (own : ClientPass) (client : ℕ) (pass : Pass) → IsClientPass scripts table own → client ≡ own.client → ((d : ℕ) → d ≢ client → (standing pass d).made ≡ (standing own.pass d).made) →
+    (c : ℕ) → length scripts ≤ c → c < length (plan_of table) → (standing pass c).made ≡ 0
+client_still scripts table own client pass is number others c past below =
+    others c (λ same. let here = is.client in absurd (omega arith)) ∙ is.made c past below
+
+-- The first clients' plans.
 plan_next : (scripts : Scripts) (c : ℕ) → c < length scripts → take (suc c) (script_plan scripts) ≡ take c (script_plan scripts) ++ Plays (plays_of scripts c) ∷ []
 plan_next [] c below = absurd (omega arith)
 plan_next (s ∷ scripts) zero below = refl
@@ -371,8 +264,8 @@ plan_end [] (suc c) is = absurd (omega arith)
 plan_end (s ∷ scripts) zero is = absurd (omega arith)
 plan_end (s ∷ scripts) (suc c) is = ap (λ l. Plays s ∷ l) (plan_end scripts c (omega arith))
 
-pub plan_more : (scripts : Scripts) (each after : List Planned) (copy : List (List Order)) (c : ℕ) → c < length scripts → each ≡ take c (script_plan scripts) → copy ≡ plays_of scripts c → after ≡ each ++ Plays copy ∷ [] → after ≡ take (c + 1) (script_plan scripts)
-plan_more scripts each after copy c below is copied pushed =
+pub plays_more : (scripts : Scripts) (each after : List Planned) (copy : List (List Order)) (c : ℕ) → c < length scripts → each ≡ take c (script_plan scripts) → copy ≡ plays_of scripts c → after ≡ each ++ Plays copy ∷ [] → after ≡ take (c + 1) (script_plan scripts)
+plays_more scripts each after copy c below is copied pushed =
     pushed
     ∙ ap (λ l. l ++ Plays copy ∷ []) is
     ∙ ap (λ (x : List (List Order)). take c (script_plan scripts) ++ Plays x ∷ []) copied

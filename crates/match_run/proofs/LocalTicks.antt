@@ -1,75 +1,114 @@
 -- The ticking thread.
-use Rattle.std.proofs.Common.{◌≡◌, ℕ, zero, suc, ◌+◌, ◌<◌, ◌≤◌, ◌⊎◌, List, [], ◌∷◌, ◌++◌, length, take, refl, sym, ap, ap₂, ◌∙◌, subst, inl, inr, ⊎_elim, arith}
+use Rattle.std.proofs.Common.{◌≡◌, ℕ, zero, suc, ◌+◌, ◌<◌, ◌≤◌, ◌⊎◌, List, [], ◌∷◌, ◌++◌, length, map, take, refl, sym, ap, ap₂, ◌∙◌, subst, inl, inr, ⊎_elim, arith}
+use Rattle.std.specs.List.{range_with_len}
+use Rattle.std.proofs.lemmas.List.FromFn.{length-map-range_with_len}
 use Rattle.game_orders.specs.declared.order.Order.{Order}
 use Rattle.game_orders.specs.declared.entry.Entry.{Entry}
-use Rattle.frame_core.specs.Column.{has_at}
+use Rattle.game_orders.specs.declared.entry.Entry.TheVariants.{Play}
+use Rattle.frame_core.specs.Column.{Column, has_at}
 use Rattle.frame_core.specs.Ready.{or_leave, frame_at}
-use Rattle.frame_core.specs.FoldLemmas.{folded_step}
 use Rattle.frame_core.specs.declared.ready.Ready.{Ready}
 use Rattle.frame_core.specs.declared.ready.Ready.TheVariants.{Yes, Over}
 use Rattle.drill_words.specs.Scripts.{plays_of}
 use Rattle.frame_table.specs.declared.pass.Pass.{Pass}
 use Rattle.frame_table.specs.declared.table.FrameTable.{FrameTable}
 use Rattle.frame_table.specs.Word.{whole_of}
-use Rattle.frame_table.specs.Calls.{view_of, standing, HasSeen, MeansReadySeen}
+use Rattle.frame_table.specs.Calls.{plan_of, view_of, standing, HasSeen, IsPassOf, IsLater, MeansReadySeen}
+use Rattle.match_run.specs.Bots.{BotMatch, bot_column, bot_entries, bot_plays}
+use Rattle.match_run.specs.Feeding.{MayFeedAll, HasFed, HasFedAll, HasEndedAll}
 use Rattle.match_run.specs.Local.{script_column, script_columns, frames_of, IsAll}
 use Rattle.match_run.specs.Passes.{IsLocalPass, KnowsAllSeen, IsStepped}
 use Rattle.match_run.specs.declared.taken.Taken.{Taken}
 use Rattle.match_run.specs.Taken.{AreTaken}
-use Rattle.match_run.proofs.LocalPasses.{Scripts}
-
--- The agreed frame, client by client.
-frame_next : (scripts : Scripts) (n c : ℕ) → c < length scripts →
-    take (suc c) (frame_at (script_columns scripts) n) ≡ take c (frame_at (script_columns scripts) n) ++ or_leave (has_at (script_column (plays_of scripts c)) n) ∷ []
-frame_next [] n c below = absurd (omega arith)
-frame_next (s ∷ scripts) n zero below = refl
-frame_next (s ∷ scripts) n (suc c) below = ap (λ l. or_leave (has_at (script_column s) n) ∷ l) (frame_next scripts n c (omega arith))
-
-take_end : (scripts : Scripts) (n c : ℕ) → c ≡ length scripts → take c (frame_at (script_columns scripts) n) ≡ frame_at (script_columns scripts) n
-take_end [] n zero is = refl
-take_end [] n (suc c) is = absurd (omega arith)
-take_end (s ∷ scripts) n zero is = absurd (omega arith)
-take_end (s ∷ scripts) n (suc c) is = ap (λ l. or_leave (has_at (script_column s) n) ∷ l) (take_end scripts n c (omega arith))
-
-pub frame_whole : (scripts : Scripts) (n c : ℕ) (frame : List Entry) → frame ≡ take c (frame_at (script_columns scripts) n) → c ≡ length scripts → frame ≡ frame_at (script_columns scripts) n
-frame_whole scripts n c frame is end = is ∙ take_end scripts n c end
-
-pub frame_none : (scripts : Scripts) (n : ℕ) → [] ≡ take 0 (frame_at (script_columns scripts) n)
-frame_none [] n = refl
-frame_none (s ∷ scripts) n = refl
-
-pub frame_more : (scripts : Scripts) (n c : ℕ) (frame after : List Entry) (e : Entry) → c < length scripts → frame ≡ take c (frame_at (script_columns scripts) n) →
-    or_leave (has_at (script_column (plays_of scripts c)) n) ≡ e → after ≡ frame ++ e ∷ [] → after ≡ take (c + 1) (frame_at (script_columns scripts) n)
-frame_more scripts n c frame after e below is entry pushed =
-    pushed
-    ∙ ap₂ (λ l x. l ++ x ∷ []) is (sym entry)
-    ∙ sym (frame_next scripts n c below)
-    ∙ ap (λ k. take k (frame_at (script_columns scripts) n)) (let one : suc c ≡ c + 1 = omega arith in one)
-
-pub frame_length : (scripts : Scripts) (n : ℕ) → length (frame_at (script_columns scripts) n) ≡ length scripts
-frame_length [] n = refl
-frame_length (s ∷ scripts) n = ap suc (frame_length scripts n)
+use Rattle.match_run.proofs.BotColumns.{plays_length, plays_more, world_more}
+use Rattle.match_run.proofs.BotPasses.{later_fed_all, later_ended_all}
+use Rattle.match_run.proofs.TakenFrames.{taken_later}
+use Rattle.match_run.proofs.LocalPasses.{later_local, later_knows}
+use Rattle.match_run.proofs.Splitting.{Scripts}
 
 -- n frames were ticked.
-pub record TickedSoFar {W : Type 0} (after : W → List Entry → W) (clients_of steps : W → ℕ) (scripts : Scripts) (table : FrameTable) (start pass : Pass) (opening world : W) (taken : List Taken) (n : ℕ) : Type 0 where
+pub record TickedSoFar {W : Type 0} (m : BotMatch W) (clients_of steps : W → ℕ) (table : FrameTable) (start pass : Pass) (world : W) (taken : List Taken) (n : ℕ) : Type 0 where
+  pub local : IsLocalPass m.scripts table pass
+  pub knows : KnowsAllSeen m.scripts pass
+  pub share : (view_of pass).share ≡ (view_of start).share
+  pub fed : HasFedAll (length m.scripts) table (bot_plays m n) pass
+  pub stepped : IsStepped m clients_of steps world n
+  pub held : AreTaken m.scripts taken n
+
+pub may_feed_all : (clients : ℕ) (table : FrameTable) (plays : ℕ → List (List Order)) (pass : Pass) → HasFedAll clients table plays pass → MayFeedAll clients table pass
+may_feed_all clients table plays pass fed c past below = (fed c past below).may
+
+module _ {W : Type 0} (m : BotMatch W) (clients_of steps : W → ℕ) (table : FrameTable) (start : Pass) where
+  pub ticked_none : (world : W) (taken : List Taken) → world ≡ m.start → IsLocalPass m.scripts table start → KnowsAllSeen m.scripts start → HasFedAll (length m.scripts) table (λ c. []) start → clients_of world ≡ length m.scripts + m.bots → steps world ≡ 0 → AreTaken m.scripts taken 0 → TickedSoFar m clients_of steps table start start world taken 0
+  ticked_none world taken is local knows fed clients fresh held = record {
+    local = local;
+    knows = knows;
+    share = refl;
+    fed = fed;
+    stepped = record { world_is = is; clients = clients; steps_are = fresh };
+    held = held;
+  }
+
+  pub ordered_length : (world : W) (ordered : List Entry) → ordered ≡ map (λ (c : ℕ). Play (m.orders world c)) (range_with_len (length m.scripts) m.bots) → length ordered ≡ m.bots
+  ordered_length world ordered is = ap length is ∙ length-map-range_with_len (λ (c : ℕ). Play (m.orders world c)) (length m.scripts) m.bots
+
+  pub ticked_more : (p q r : Pass) (world next : W) (taken after : List Taken) (ordered : List Entry) (n : ℕ) → TickedSoFar m clients_of steps table start p world taken n →
+      ((plays : ℕ → List (List Order)) → ((c : ℕ) → length (plays c) ≡ n) → HasFedAll (length m.scripts) table plays p → HasFedAll (length m.scripts) table (λ c. plays c ++ m.orders world c ∷ []) q) →
+      ((plays : ℕ → List (List Order)) → HasFedAll (length m.scripts) table plays q → HasFedAll (length m.scripts) table plays r) →
+      IsLocalPass m.scripts table r → KnowsAllSeen m.scripts r → (view_of r).share ≡ (view_of start).share →
+      ordered ≡ map (λ (c : ℕ). Play (m.orders world c)) (range_with_len (length m.scripts) m.bots) →
+      next ≡ m.after world (frame_at (script_columns m.scripts) n ++ ordered) → clients_of next ≡ clients_of world → steps next ≡ steps world + 1 → AreTaken m.scripts after n →
+      TickedSoFar m clients_of steps table start r next after (n + 1)
+  ticked_more p q r world next taken after ordered n far put waited local knows share ordered_is is clients more held =
+      let at = far.stepped.world_is in
+      let fed = waited (λ c. bot_plays m n c ++ m.orders world c ∷ []) (put (bot_plays m n) (λ c. plays_length m n c) far.fed) in
+      record {
+        local = local;
+        knows = knows;
+        share = share;
+        fed = λ c past below. subst (λ (l : List (List Order)). HasFed l (standing r c))
+            (ap (λ (w : W). bot_plays m n c ++ m.orders w c ∷ []) at ∙ sym (plays_more m n c)) (fed c past below);
+        stepped = record {
+          world_is =
+              is
+              ∙ ap (λ (l : List Entry). m.after world (frame_at (script_columns m.scripts) n ++ l)) ordered_is
+              ∙ ap (λ (w : W). m.after w (frame_at (script_columns m.scripts) n ++ bot_entries m w)) at
+              ∙ sym (world_more m n);
+          clients = clients ∙ far.stepped.clients;
+          steps_are = more ∙ ap (λ k. k + 1) far.stepped.steps_are;
+        };
+        held = taken_later m.scripts after n held;
+      }
+
+  pub ended_all : (p q r : Pass) (world : W) (taken : List Taken) (n : ℕ) → TickedSoFar m clients_of steps table start p world taken n → n ≡ frames_of m.scripts →
+      ((plays : ℕ → List (List Order)) → HasFedAll (length m.scripts) table plays p → HasEndedAll (length m.scripts) table (λ c. record { plays = plays c; left = true }) q) →
+      ((columns : ℕ → Column) → HasEndedAll (length m.scripts) table columns q → HasEndedAll (length m.scripts) table columns r) → HasEndedAll (length m.scripts) table (bot_column m) r
+  ended_all p q r world taken n far same left waited =
+      waited (bot_column m) (subst (λ k. HasEndedAll (length m.scripts) table (λ c. record { plays = bot_plays m k c; left = true }) q) same (left (bot_plays m n) far.fed))
+
+-- A frame is waited for.
+pub record WaitedSoFar (scripts : Scripts) (table : FrameTable) (start pass : Pass) : Type 0 where
   pub local : IsLocalPass scripts table pass
   pub knows : KnowsAllSeen scripts pass
   pub share : (view_of pass).share ≡ (view_of start).share
-  pub stepped : IsStepped after clients_of steps scripts opening world n
-  pub held : AreTaken scripts taken n
 
--- Whether all clients have something for the frame, and all that was seen at the end.
+pub waited_later : (scripts : Scripts) (table : FrameTable) (start p q : Pass) → WaitedSoFar scripts table start p → IsPassOf table q → IsLater (view_of p) (view_of q) → WaitedSoFar scripts table start q
+waited_later scripts table start p q far is later = record {
+  local = later_local scripts table p q far.local is later;
+  knows = later_knows scripts table p q far.local is later far.knows;
+  share = later.share ∙ far.share;
+}
+
+-- All clients have something for the frame.
 pub yes_seen : (scripts : Scripts) (table : FrameTable) (pass : Pass) (n : ℕ) (answer : Ready) → IsLocalPass scripts table pass → answer ≡ Yes → MeansReadySeen (view_of pass) n answer →
-    ((c : ℕ) → c < length scripts → HasSeen (standing pass c).reach n) × ((c : ℕ) × (c < length scripts) × (n < length (plays_of scripts c)))
-yes_seen scripts table pass n answer local is means =
+    (c : ℕ) → c < length scripts → HasSeen (standing pass c).reach n
+yes_seen scripts table pass n answer local is means c here =
     let yes : MeansReadySeen (view_of pass) n Yes = subst (MeansReadySeen (view_of pass) n) is means in
     let marks = local.of_table.marks in
     let clients = local.clients in
-    let (c, below, has) = yes.1 in
-    let in_scripts : c < length scripts = omega arith in
-    let within = (local.columns c in_scripts).within.0 in
-    ((λ d here. yes.0 d (omega arith)), (c, in_scripts, omega arith))
+    yes.0 c (omega arith)
 
+-- All that was seen at the end.
 pub over_all : (scripts : Scripts) (table : FrameTable) (pass : Pass) (n : ℕ) (answer : Ready) → IsLocalPass scripts table pass → KnowsAllSeen scripts pass → answer ≡ Over → MeansReadySeen (view_of pass) n answer →
     (c : ℕ) → c < length scripts → IsAll (standing pass c) (script_column (plays_of scripts c)) × (length (plays_of scripts c) ≤ n)
 over_all scripts table pass n answer local knows is means c below =
@@ -91,43 +130,15 @@ over_all scripts table pass n answer local knows is means c below =
     take_length (x ∷ xs) = ap (λ l. x ∷ l) (take_length xs)
 
 -- The number of frames of the match.
-longest_most : (scripts : Scripts) (n : ℕ) → ((c : ℕ) → c < length scripts → length (plays_of scripts c) ≤ n) → frames_of scripts ≤ n
+pub longest_most : (scripts : Scripts) (n : ℕ) → ((c : ℕ) → c < length scripts → length (plays_of scripts c) ≤ n) → frames_of scripts ≤ n
 longest_most [] n each = omega arith
 longest_most (s ∷ scripts) n each =
     let here = each 0 (omega arith) in
     let rest = longest_most scripts n (λ c below. each (suc c) (omega arith)) in
     grind (arith, here, rest)
 
-longest_least : (scripts : Scripts) (n c : ℕ) → c < length scripts → n ≤ length (plays_of scripts c) → n ≤ frames_of scripts
-longest_least [] n c below long = absurd (omega arith)
-longest_least (s ∷ scripts) n zero below long = grind (arith, long)
-longest_least (s ∷ scripts) n (suc c) below long = let rest = longest_least scripts n c (omega arith) long in grind (arith, rest)
-
-pub frames_are : (scripts : Scripts) (n : ℕ) → ((c : ℕ) → c < length scripts → length (plays_of scripts c) ≤ n) →
-    (n ≡ 0) ⊎ ((c : ℕ) × (c < length scripts) × (n ≤ length (plays_of scripts c))) → n ≡ frames_of scripts
-frames_are scripts n each played =
-    let most = longest_most scripts n each in
-    let least : n ≤ frames_of scripts = ⊎_elim (λ none. omega arith) (λ some. longest_least scripts n some.0 some.1 some.2) played in
-    omega arith
-
--- A step.
-module _ {W : Type 0} (after : W → List Entry → W) (clients_of steps : W → ℕ) (scripts : Scripts) (start world next : W) (n : ℕ) where
-  pub stepped_once :
-      IsStepped after clients_of steps scripts start world n → next ≡ after world (frame_at (script_columns scripts) n) → clients_of next ≡ length scripts → steps next ≡ steps world + 1 →
-      (c : ℕ) × (c < length scripts) × (n < length (plays_of scripts c)) → IsStepped after clients_of steps scripts start next (n + 1)
-  stepped_once so is clients more some =
-      let (c, below, played) = some in
-      record {
-        world_is = is ∙ ap (λ w. after w (frame_at (script_columns scripts) n)) so.world_is ∙ sym (folded_step after start (frame_at (script_columns scripts)) n);
-        clients = clients;
-        steps_are = more ∙ ap (λ k. k + 1) so.steps_are;
-        played = inr (c, below, omega arith);
-      }
-
-  pub stepped_none : clients_of start ≡ length scripts → steps start ≡ 0 → IsStepped after clients_of steps scripts start start 0
-  stepped_none clients fresh = record { world_is = refl; clients = clients; steps_are = fresh; played = inl refl }
-
-  pub stepped_all :
-      IsStepped after clients_of steps scripts start world n → ((c : ℕ) → c < length scripts → length (plays_of scripts c) ≤ n) →
-      IsStepped after clients_of steps scripts start world (frames_of scripts)
-  stepped_all so each = subst (IsStepped after clients_of steps scripts start world) (frames_are scripts n each so.played) so
+-- So while one of the scripts has a play, not all have left.
+pub not_over : (scripts : Scripts) (table : FrameTable) (pass : Pass) (n : ℕ) (answer : Ready) → IsLocalPass scripts table pass → KnowsAllSeen scripts pass → n < frames_of scripts → answer ≡ Over → MeansReadySeen (view_of pass) n answer → ⊥
+not_over scripts table pass n answer local knows played is means =
+    let end = longest_most scripts n (λ c below. (over_all scripts table pass n answer local knows is means c below).1) in
+    absurd (omega arith)

@@ -18,8 +18,8 @@ use Rattle.match_run.specs.declared.taken.Taken.{Taken}
 use Rattle.match_run.specs.Local.{script_column, script_columns}
 use Rattle.match_run.specs.Passes.{FollowsScript}
 use Rattle.match_run.specs.Taken.{IsTaken, HasEntry, entry_taken, AreTaken, HasFrame}
-use Rattle.match_run.proofs.LocalPasses.{Scripts, found_follows}
-use Rattle.match_run.proofs.LocalTicks.{frame_more}
+use Rattle.match_run.proofs.LocalPasses.{found_follows}
+use Rattle.match_run.proofs.Splitting.{Scripts}
 
 get_take_drop : (xs : List (List Order)) (k n i at : ℕ) → i < k → n + i ≡ at → slice_get (take k (drop n xs)) i ≡ slice_get xs at
 get_take_drop xs zero n i at below is = absurd (omega arith)
@@ -46,15 +46,6 @@ in_taken plays own n is from (inr left) =
 
 pub entry_is : (plays : List (List Order)) (own : Taken) (n : ℕ) → IsTaken plays own → own.from ≤ n → HasEntry own n → or_leave (has_at (script_column plays) n) ≡ entry_taken own n
 entry_is plays own n is from has = ap (λ at. or_leave (entry_from at true)) (in_taken plays own n is from has)
-
--- A play that was taken is of the script.
-pub played_so : (plays : List (List Order)) (own : Taken) (n : ℕ) → IsTaken plays own → own.from ≤ n → n - own.from < length own.plays → (n < length plays) × (n < MAX_FRAMES)
-played_so plays own n is from there =
-    let none = length-drop own.from plays in
-    let few = length-take (length own.plays) (drop own.from plays) in
-    let same = ap length is.plays_are in
-    let limit = is.limit (omega arith) in
-    ((let so : n < length plays = grind (arith, from, there, none, few, same) in so), omega arith)
 
 -- What a take of many plays gives.
 from_start : (later K : List (List Order)) (most : ℕ) (xs : List (List Order)) → xs ≡ take most K → xs ≡ take (length xs) (K ++ later)
@@ -103,36 +94,25 @@ taken_so plays part n most xs left K so seen some found is ends own from_is play
       limit = λ there. let so : n + length xs ≤ MAX_FRAMES = grind (arith, none, few, same, frames, there, long) in omega arith;
     }
 
--- The first i clients were looked at: each has the entry, and whether one has a play.
-pub record HadSoFar (taken : List Taken) (n i : ℕ) (played : Bool) : Type 0 where
-  pub each : (c : ℕ) (d : Taken) → c < i → HasEntry (get_or taken c d) n
-  pub some : played ≡ true → (c : ℕ) × (c < length taken) × ((d : Taken) → n - (get_or taken c d).from < length (get_or taken c d).plays)
+-- Each of the first i clients has the entry.
+abbrev pub HadSoFar : List Taken → ℕ → ℕ → Type 0
+HadSoFar taken n i = (c : ℕ) (d : Taken) → c < i → HasEntry (get_or taken c d) n
 
-pub had_none : (taken : List Taken) (n : ℕ) → HadSoFar taken n 0 false
-had_none taken n = record { each = λ c d below. absurd (omega arith); some = λ is. absurd (true≢false (sym is)) }
+pub had_none : (taken : List Taken) (n : ℕ) → HadSoFar taken n 0
+had_none taken n c d below = absurd (omega arith)
 
 any_default : (taken : List Taken) (c : ℕ) (d e : Taken) → c < length taken → get_or taken c d ≡ get_or taken c e
 any_default [] c d e below = absurd (omega arith)
 any_default (x ∷ taken) zero d e below = refl
 any_default (x ∷ taken) (suc c) d e below = any_default taken c d e (omega arith)
 
-had_more : (taken : List Taken) (n i : ℕ) (d : Taken) → i < length taken → HasEntry (get_or taken i d) n → ((c : ℕ) (e : Taken) → c < i → HasEntry (get_or taken c e) n) → (c : ℕ) (e : Taken) → c < i + 1 → HasEntry (get_or taken c e) n
+pub had_more : (taken : List Taken) (n i : ℕ) (d : Taken) → i < length taken → HasEntry (get_or taken i d) n → HadSoFar taken n i → HadSoFar taken n (i + 1)
 had_more taken n i d here has each c e below = dite (ℕ_discrete c i)
     (λ same. subst (λ (k : ℕ). HasEntry (get_or taken k e) n) (sym same) (subst (λ (o : Taken). HasEntry o n) (any_default taken i d e here) has))
     (λ apart. each c e (omega arith))
 
-pub had_play : (taken : List Taken) (n i : ℕ) (played : Bool) (d : Taken) → i < length taken → n - (get_or taken i d).from < length (get_or taken i d).plays → HadSoFar taken n i played → HadSoFar taken n (i + 1) true
-had_play taken n i played d here there far =
-    record {
-      each = had_more taken n i d here (inl there) far.each;
-      some = λ is. (i, here, λ e. subst (λ (o : Taken). n - o.from < length o.plays) (any_default taken i d e here) there);
-    }
-
-pub had_left : (taken : List Taken) (n i : ℕ) (played : Bool) (d : Taken) → i < length taken → (get_or taken i d).left ≡ true → HadSoFar taken n i played → HadSoFar taken n (i + 1) played
-had_left taken n i played d here left far = record { each = had_more taken n i d here (inr left) far.each; some = far.some }
-
-pub had_all : (taken : List Taken) (n i : ℕ) → length taken ≤ i → HadSoFar taken n i true → HasFrame taken n
-had_all taken n i end far = record { each = λ c d below. far.each c d (omega arith); played = far.some refl }
+pub had_all : (taken : List Taken) (n i : ℕ) → length taken ≤ i → HadSoFar taken n i → HasFrame taken n
+had_all taken n i end far c d below = far c d (omega arith)
 
 -- Nothing was taken yet.
 pub record IsNothing (own : Taken) : Type 0 where
@@ -195,29 +175,3 @@ taken_anew scripts taken n c own here are is from =
           (λ same. subst (λ (e : ℕ). (get_or (set taken c own) e d).from ≤ n) (sym same) (subst (λ (o : Taken). o.from ≤ n) (sym (set_here taken c own d (omega arith))) from))
           (λ apart. subst (λ (o : Taken). o.from ≤ n) (sym (set_other taken c k own d apart)) (are.from k d below));
     }
-
-pub taken_later : (scripts : Scripts) (taken : List Taken) (n : ℕ) → AreTaken scripts taken n → AreTaken scripts taken (n + 1)
-taken_later scripts taken n are = record { clients = are.clients; each = are.each; from = λ c d below. let is = are.from c d below in omega arith }
-
--- The frame that was taken, client by client.
-pub frame_step : (scripts : Scripts) (taken : List Taken) (n i : ℕ) (frame after : List Entry) (e : Entry) (own : Taken) → own ≡ get_or taken i own → i < length taken → AreTaken scripts taken n → HasFrame taken n →
-    frame ≡ take i (frame_at (script_columns scripts) n) → e ≡ entry_taken own n → after ≡ frame ++ e ∷ [] → after ≡ take (i + 1) (frame_at (script_columns scripts) n)
-frame_step scripts taken n i frame after e own at here are has is entry pushed =
-    let clients = are.clients in
-    let in_scripts : i < length scripts = omega arith in
-    let so = subst (IsTaken (plays_of scripts i)) (sym at) (are.each i own in_scripts) in
-    let from = subst (λ (o : Taken). o.from ≤ n) (sym at) (are.from i own in_scripts) in
-    let there = subst (λ (o : Taken). HasEntry o n) (sym at) (has.each i own here) in
-    frame_more scripts n i frame after e in_scripts is (entry_is (plays_of scripts i) own n so from there ∙ sym entry) pushed
-
--- Some client's script has a play at a frame that was taken.
-nobody : Taken
-nobody = record { from = 0; plays = []; left = false }
-
-pub frame_played : (scripts : Scripts) (taken slice : List Taken) (n : ℕ) → AreTaken scripts taken n → slice ≡ taken → HasFrame slice n → (n < MAX_FRAMES) × ((c : ℕ) × (c < length scripts) × (n < length (plays_of scripts c)))
-frame_played scripts taken slice n are same has =
-    let (c, below, there) = (subst (λ (l : List Taken). HasFrame l n) same has).played in
-    let clients = are.clients in
-    let in_scripts : c < length scripts = omega arith in
-    let so = played_so (plays_of scripts c) (get_or taken c nobody) n (are.each c nobody in_scripts) (are.from c nobody in_scripts) (there nobody) in
-    (so.1, (c, in_scripts, so.0))

@@ -37,9 +37,9 @@ pub record IsAll (part : Part) (column : Column) : Type 0 where
 
 -- The table that a run filled with these columns, each of which its client left, with a pass that
 -- has the whole share: so each other pass was joined into it. It knows each whole column.
-pub record IsFilled (columns : List Column) (table : FrameTable) (pass : Pass) : Type 0 where
+pub record IsFilled (filled : List Column) (table : FrameTable) (pass : Pass) : Type 0 where
   pub of_table : IsPassOf table pass
-  pub clients : length (plan_of table) ≡ length columns
+  pub clients : length (plan_of table) ≡ length filled
   pub share : (view_of pass).share ≡ 2 ^ 62
-  pub columns : (c : ℕ) → c < length columns → IsAll (standing pass c) (column_of columns c)
-  pub left : (c : ℕ) → c < length columns → (column_of columns c).left ≡ true
+  pub columns : (c : ℕ) → c < length filled → IsAll (standing pass c) (column_of filled c)
+  pub left : (c : ℕ) → c < length filled → (column_of filled c).left ≡ true

@@ -17,14 +17,17 @@ use Rattle.frame_table.specs.Calls.{plan_of, view_of, standing, IsPassOf}
 use Rattle.match_run.specs.declared.client_pass.ClientPass.{ClientPass}
 use Rattle.match_run.specs.Bots.{BotMatch, world_after}
 
--- Each client of a script is planned to play it; the columns of the bots, who come after them, are
--- free.
+-- Each client of a script is planned to play it.
+abbrev pub script_plan : List (List (List Order)) → List Planned
+script_plan scripts = map Plays scripts
+
+-- The columns of the bots, who come after them, are free.
 abbrev pub match_plan : List (List (List Order)) → (bots : ℕ) → List Planned
-match_plan scripts bots = map Plays scripts ++ replicate bots Free
+match_plan scripts bots = script_plan scripts ++ replicate bots Free
 
 -- Nothing was seen of the column, and nothing done to it.
-pub record IsUntouched (planned : Planned) (part : Part) : Type 0 where
-  pub planned : part.planned ≡ planned
+pub record IsUntouched (plan : Planned) (part : Part) : Type 0 where
+  pub planned : part.planned ≡ plan
   pub reach : part.reach ≡ record { plays = 0; left = false }
   pub known : part.known ≡ no_column
   pub made : part.made ≡ 0

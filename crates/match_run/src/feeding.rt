@@ -40,7 +40,7 @@ pub(crate) fn put_plays<S: Sim, B: Bots<S>, R: Wait>(
     requires limit { n < MAX_FRAMES }
     ensures pass { IsLocalPass scripts.now table.now pass.new }
     ensures share { (view_of pass.new).share ≡ (view_of pass.old).share }
-    ensures knows { KnowsAllSeen scripts.now pass.new }
+    ensures knows { OnOk result (KnowsAllSeen scripts.now pass.new) }
     ensures ordered { OnOk result (ordered.new
         ≡ map (λ (c : ℕ). Play (B.orders_of bots.now sim.now c))
         (range_with_len (length scripts.now) count)) }

@@ -1,5 +1,5 @@
 //! The passes of a match: how they are made, and joined back.
-ghost use Rattle.std.specs.Prelude.{◌≡◌, ◌<◌, ◌≤◌, ◌+◌, ◌*◌, ◌^◌, ◌⊎◌, ◌-◌, true, ℕ, length, All, IfOk};
+ghost use Rattle.std.specs.Prelude.{◌≡◌, ◌<◌, ◌≤◌, ◌+◌, ◌^◌, ◌⊎◌, ◌-◌, true, ℕ, length, All, IfOk};
 ghost use Rattle.game_orders.specs.declared.limits.TheConstants.{MAX_CLIENTS};
 ghost use Rattle.drill_words.specs.Scripts.{plays_of};
 ghost use Rattle.frame_table.specs.Calls.{plan_of, view_of, standing};
@@ -7,7 +7,7 @@ ghost use Rattle.match_run.specs.Feeding.{HasEndedAll};
 ghost use Rattle.frame_core.specs.Column.{Column};
 ghost use Rattle.match_run.specs.Local.{IsAll, script_column};
 ghost use Rattle.match_run.specs.Passes.{IsLocalPass, IsClientPass, IsUnused, AreUnused, AreFrom};
-ghost use Rattle.match_run.specs.Passes.{OneFeeds, match_plan, rights_of, shares_of};
+ghost use Rattle.match_run.specs.Passes.{OneFeeds, match_plan, rights_of, script_plan, shares_of};
 
 use crate::client_pass::ClientPass;
 use base::{List, NoMemory};
@@ -48,7 +48,7 @@ fn plan_of(alloc: Global, scripts: &Scripts, bots: u8) -> Result<Plan, NoMemory>
 
 /// The plan that has each script's client play its script.
 fn scripts_plan(alloc: Global, scripts: &Scripts) -> Result<List<Planned>, NoMemory>
-    ensures { IfOk result (λ each. each ≡ match_plan scripts.now 0) }
+    ensures { IfOk result (λ each. each ≡ script_plan scripts.now) }
 {
     let mut each = List::new(alloc);
     for c in 0..scripts.clients() {
@@ -76,8 +76,8 @@ pub(crate) fn split_passes(
     ensures count { IfOk result (λ passes. length passes.items ≡ end - first) }
     ensures shares { IfOk result (λ passes.
         (view_of pass.new).share + shares_of passes.items ≡ (view_of pass.old).share) }
-    ensures least { IfOk result (λ passes.
-        (view_of pass.old).share ≤ 2 ^ (end - first) * (view_of pass.new).share) }
+    ensures least { IfOk result (λ passes. (k : ℕ) →
+        2 ^ (k + (end - first)) ≤ (view_of pass.old).share → 2 ^ k ≤ (view_of pass.new).share) }
     ensures rights { IfOk result (λ passes. rights_of (view_of pass.new).marks
         ≡ rights_of (view_of pass.old).marks - (end - first)) }
     ensures feeds { IfOk result (λ passes. (c : ℕ) → (standing pass.old c).feeds ≡ true →

@@ -1,5 +1,5 @@
 //! The threads that play the scripts.
-ghost use Rattle.std.specs.Prelude.{◌≡◌, ◌<◌, ◌≤◌, ℕ, length, All, OnOk};
+ghost use Rattle.std.specs.Prelude.{◌≡◌, ◌≢◌, ◌<◌, ◌≤◌, ℕ, length, All, OnOk};
 ghost use Rattle.game_orders.specs.declared.limits.TheConstants.{MAX_FRAMES};
 ghost use Rattle.drill_words.specs.Scripts.{plays_of};
 ghost use Rattle.frame_table.specs.Calls.{view_of, standing};
@@ -77,6 +77,7 @@ fn play_script<R: Wait, G: Gate>(
     ensures share { (view_of pass.new).share ≡ (view_of pass.old).share }
     ensures played { OnOk result (IsAll (standing pass.new c)
         (script_column (plays_of scripts.now c))) }
+    ensures others { (d : ℕ) → d ≢ c → (standing pass.new d).made ≡ (standing pass.old d).made }
 {
     let plays = scripts.plays(c);
     for n in 0..plays.len() as u32 {

@@ -1,4 +1,4 @@
-ghost use Rattle.std.specs.Prelude.{◌≡◌, ◌+◌, ◌<◌, ◌^◌, [], ℕ, length, All, IfOk, OnOk};
+ghost use Rattle.std.specs.Prelude.{◌≡◌, ◌+◌, ◌<◌, ◌≤◌, ◌^◌, [], ℕ, length, All, IfOk, OnOk};
 ghost use denote.Param.Send.{IsSync};
 ghost use Rattle.game_orders.specs.declared.limits.TheConstants.{MAX_CLIENTS};
 ghost use Rattle.drill_words.specs.Scripts.{plays_of};
@@ -77,8 +77,9 @@ pub fn run_with_bots<S: Sim, B: Bots<S>, G: Gate + Sync, R: Threads + Wait + Syn
     ensures filled { IfOk result (λ run. IsFilled (match_columns (record { after = S.after;
         orders = B.orders_of bots.now; start = sim; scripts = scripts.now; bots = count }))
         run.table run.pass) }
-    ensures played { let m = record { after = S.after; orders = B.orders_of bots.now; start = sim;
-        scripts = scripts.now; bots = count } in IsPlayed m (match_columns m) }
+    ensures played { IsPlayed (record { after = S.after; orders = B.orders_of bots.now; start = sim;
+        scripts = scripts.now; bots = count }) (match_columns (record { after = S.after;
+        orders = B.orders_of bots.now; start = sim; scripts = scripts.now; bots = count })) }
     ensures world { IfOk result (λ run. run.sim ≡ match_world (record { after = S.after;
         orders = B.orders_of bots.now; start = sim; scripts = scripts.now; bots = count })) }
     ensures clients { IfOk result (λ run. S.clients_of run.sim ≡ S.clients_of sim) }

@@ -1,6 +1,7 @@
 ghost use Rattle.std.specs.Prelude.{◌≡◌, ◌<◌, ◌≤◌, ◌-◌, [], ◌∷◌, ◌++◌, ◌==◌, false, nat_lt, length};
 ghost use Rattle.game_orders.specs.declared.limits.TheConstants.{MAX_CLIENTS};
-ghost use Rattle.match_run.specs.Taken.{entry_taken};
+ghost use Rattle.std.specs.Bool.{OnTrue};
+ghost use Rattle.match_run.specs.Taken.{HasEntry, entry_taken};
 
 use frame_core::PlayList;
 use game_orders::{Entry, Frame};
@@ -48,6 +49,14 @@ impl Taken {
         ensures { result ≡ nat_lt (n - self.now.from) (length self.now.plays) }
     {
         ((n - self.from) as usize) < self.plays.len()
+    }
+
+    /// Whether the entry at frame `n` was taken, which is not below `from`: a play, or a departure.
+    pub(crate) fn has_entry(&self, n: u32) -> bool
+        requires { self.now.from ≤ n }
+        ensures { OnTrue result (HasEntry self.now n) }
+    {
+        self.left || self.has_play(n)
     }
 
     /// Adds the entry at frame `n`, which is not below `from`, to a frame with room for it: the play

@@ -1,10 +1,11 @@
 //! The thread that ticks.
-ghost use Rattle.std.specs.Prelude.{◌≡◌, ◌+◌, ◌<◌, ◌≤◌, ◌++◌, [], ℕ, List, length, IfOk, OnOk};
+ghost use Rattle.std.specs.Prelude.{◌≡◌, ◌+◌, ◌<◌, ◌≤◌, ◌++◌, [], ◌∷◌, ℕ, List, length, IfOk, OnOk};
 ghost use Rattle.std.specs.Bool.{OnTrue};
+ghost use Rattle.std.specs.Option.{option_copied};
 ghost use Rattle.game_orders.specs.declared.limits.TheConstants.{MAX_CLIENTS, MAX_FRAMES};
 ghost use Rattle.game_orders.specs.declared.order.Order.{Order};
 ghost use Rattle.frame_core.specs.Column.{Column};
-ghost use Rattle.frame_core.specs.Ready.{frame_at};
+ghost use Rattle.frame_core.specs.Ready.{frame_at, or_leave};
 ghost use Rattle.drill_words.specs.Scripts.{plays_of};
 ghost use Rattle.frame_table.specs.Part.{OthersStay};
 ghost use Rattle.frame_table.specs.Calls.{plan_of, view_of, standing, HasSeen};
@@ -150,10 +151,10 @@ fn await_end<R: Wait>(
         if out_of_memory.load(Ordering::SeqCst) {
             return Err(AllocError);
         }
-        if table.ready(pass, n) == Ready::Over {
-            return Ok(());
+        match table.ready(pass, n) {
+            Ready::Over => return Ok(()),
+            Ready::Yes | Ready::NotYet(_) => thread::yield_now(),
         }
-        thread::yield_now();
     }
     unreachable!()
 }
@@ -170,13 +171,14 @@ fn nothing_taken(alloc: Global, scripts: &Scripts) -> Result<Vec<Taken>, NoMemor
 }
 
 /// Whether frame `n` was taken: the entry of each client.
+#[tactic(auto, using(crate::proofs::Taking::had_none, crate::proofs::Taking::had_more, crate::proofs::Taking::had_all))]
 fn has_frame(scripts: &Scripts, taken: &[Taken], n: u32) -> bool
     requires { AreTaken scripts.now taken.now n }
     ensures { OnTrue result (HasFrame taken.now n) }
 {
     let _clients = scripts.clients();
     for own in taken {
-        if !own.left && !own.has_play(n) {
+        if !own.has_entry(n) {
             return false;
         }
     }
@@ -218,10 +220,18 @@ fn add_entries(frame: &mut Frame, entries: &Frame)
     ensures { frame.new ≡ frame.old ++ entries.now }
 {
     for i in 0..entries.len() {
-        match entries.get(i) {
-            Some(Entry::Play(orders)) => frame.push_play(orders.as_slice()),
-            _ => frame.push(Entry::Leave),
-        }
+        add_entry(frame, entries.get(i));
+    }
+}
+
+/// Adds an entry to a frame with room for it, or a departure.
+fn add_entry(frame: &mut Frame, entry: Option<&Entry>)
+    requires { length frame.old < MAX_CLIENTS }
+    ensures { frame.new ≡ frame.old ++ or_leave (option_copied entry.entry) ∷ [] }
+{
+    match entry {
+        Some(Entry::Play(orders)) => frame.push_play(orders.as_slice()),
+        _ => frame.push(Entry::Leave),
     }
 }
 
@@ -243,6 +253,9 @@ fn take_more<R: Wait>(
     ensures share { (view_of pass.new).share ≡ (view_of pass.old).share }
     ensures knows { OnOk result (KnowsAllSeen scripts.now pass.new) }
     ensures taken { OnOk result (AreTaken scripts.now taken.new n) }
+    ensures fed { OnOk result ((plays : ℕ → List (List Order)) →
+        HasFedAll (length scripts.now) table.now plays pass.old →
+        HasFedAll (length scripts.now) table.now plays pass.new) }
 {
     for c in 0..scripts.clients() {
         take_client(

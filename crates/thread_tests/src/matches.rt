@@ -1,9 +1,11 @@
 //! Matches over the least world, on threads.
+use base::NoMemory;
 use drill_words::{MAX_DRILL_BYTES, read_script};
 use frame_core::{Sim, Tally};
 use game_io::{Gate, HoldGate, NoGate, NoWatch};
-use match_run::run_local;
-use std::alloc::Global;
+use game_orders::Orders;
+use match_run::{Bots, IdleBots, run_local, run_with_bots};
+use std::alloc::{AllocError, Global};
 use std::process::Abort;
 use std::sync::Wait;
 use std::sync::atomic::{AtomicU64, Ordering};
@@ -106,5 +108,59 @@ fn each_play_comes_to_the_gate(rt: HostRuntime) -> Result<(), Fail> {
     assert_eq!(rt; hash_after(&rt, rt.alloc(), script, &gate)?, 7);
     assert_eq!(rt; gate.first.load(Ordering::SeqCst), 0x12_34_56);
     assert_eq!(rt; gate.second.load(Ordering::SeqCst), 0x12);
+    Ok(())
+}
+
+/// Bots that are out of memory at once.
+#[derive(Drop)]
+struct PoorBots;
+
+impl Bots<Tally> for PoorBots {
+    ghost use Rattle.std.specs.Prelude.{[]};
+
+    ghost orders_of = { λ bots sim c. [] };
+
+    fn orders(&self, _sim: &Tally, _c: u8) -> Result<Orders, NoMemory> {
+        Err(AllocError)
+    }
+}
+
+/// The hash of the world after a match of one client with this script and one bot. It is 99 where
+/// the match was out of memory.
+fn hash_beside<B: Bots<Tally>, R: Abort + Threads + Wait + Sync>(
+    rt: &R,
+    alloc: Global,
+    script: &[u8],
+    bots: &B,
+) -> Result<u64, Fail> {
+    assert!(rt; script.len() <= MAX_DRILL_BYTES as usize);
+    let Ok((_seed, scripts)) = read_script(alloc, script, false) else {
+        return Ok(u64::MAX);
+    };
+    assert!(rt; scripts.clients() == 1);
+    match run_with_bots(rt, alloc, &scripts, Tally::new(), bots, 1, &NoGate) {
+        Ok(run) => Ok(run.sim.hash()),
+        Err(_) => Ok(99),
+    }
+}
+
+/// A bot plays as many frames as the longest script has. The first client plays the last of them.
+#[test]
+fn a_bot_beside_a_script(rt: HostRuntime) -> Result<(), Fail> {
+    for (script, want) in [
+        (b"script 1 9".as_slice(), 0),
+        (b"script 1 9\n0".as_slice(), 3),
+        (b"script 1 9\n0\n0\n0".as_slice(), 7),
+    ] {
+        assert_eq!(rt; hash_beside(&rt, rt.alloc(), script, &IdleBots)?, want);
+    }
+    Ok(())
+}
+
+/// Memory that a bot is refused ends the match, at its first frame.
+#[test]
+fn a_bot_out_of_memory(rt: HostRuntime) -> Result<(), Fail> {
+    assert_eq!(rt; hash_beside(&rt, rt.alloc(), b"script 1 9\n0", &PoorBots)?, 99);
+    assert_eq!(rt; hash_beside(&rt, rt.alloc(), b"script 1 9", &PoorBots)?, 0);
     Ok(())
 }

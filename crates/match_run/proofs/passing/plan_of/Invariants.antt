@@ -1,6 +1,6 @@
-use Rattle.std.proofs.Common.{◌≡◌, take, length}
-use Rattle.match_run.specs.Local.{script_plan}
+use Rattle.std.proofs.Common.{◌≡◌}
+use Rattle.match_run.specs.Passes.{match_plan}
 use Rattle.match_run.proofs.passing.plan_of.Given as goal
 
-abbrev pub invariant-loop-c : goal.invariant-loop-c
-invariant-loop-c l = (l.each ≡ take l.c (script_plan l.scripts)) × (l.c-end ≡ length l.scripts)
+abbrev pub invariant-loop-bot : goal.invariant-loop-bot
+invariant-loop-bot l = l.each ≡ match_plan l.scripts l._bot

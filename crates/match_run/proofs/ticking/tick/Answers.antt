@@ -1,5 +1,5 @@
 use Rattle.std.proofs.Common.{refl}
-use Rattle.match_run.proofs.Taking.{frame_step}
+use Rattle.match_run.proofs.TakenFrames.{frame_step}
 use Rattle.match_run.proofs.ticking.tick.Goals as goal
 
 pub loop-own-preserved : goal.loop-own-preserved

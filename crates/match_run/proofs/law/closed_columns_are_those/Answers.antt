@@ -1,5 +1,5 @@
 use Rattle.match_run.specs.LocalLemmas.{closed_are}
-use Rattle.match_run.proofs.law.closed_columns_are_the_scripts.Goals as goal
+use Rattle.match_run.proofs.law.closed_columns_are_those.Goals as goal
 
 pub returns : goal.returns
 returns c = closed_are
