@@ -76,8 +76,10 @@ fn compare_frames(found: &mut Found, count: u32, r: &Replay, s: &Replay) -> Resu
 {
     let mut left = r.parts.iter();
     let mut others = s.parts.iter();
+    let (mut frame, mut other) = (Frame::empty(), Frame::empty());
     for n in 0..count {
-        let (frame, other) = (next_frame(&mut left), next_frame(&mut others));
+        next_frame(&mut left, &mut frame);
+        next_frame(&mut others, &mut other);
         if compare_frame(found, n, r.clients, &frame, &other)? {
             return Ok(());
         }
@@ -165,8 +167,10 @@ fn compare_marks(found: &mut Found, count: u32, r: &Replay, s: &Replay) -> Resul
 {
     let mut left = r.parts.iter();
     let mut others = s.parts.iter();
+    let mut frame = Frame::empty();
     for n in 0..count + 1 {
-        let (mark, other) = (next_mark(&mut left), next_mark(&mut others));
+        let mark = next_mark(&mut left, &mut frame);
+        let other = next_mark(&mut others, &mut frame);
         if compare_mark(found, n, mark, other)? {
             return Ok(());
         }

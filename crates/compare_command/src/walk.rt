@@ -4,33 +4,34 @@ ghost use Rattle.compare_command.specs.Walking.{first_frame, first_mark};
 ghost use Rattle.replay_run.specs.Playing.{after_frame};
 
 use game_orders::Frame;
-use replay_file::{Part, PartCursor};
+use replay_file::{PartCursor, PartKind};
 
-/// The next frame, past the marks before it. One without entries where none is left.
-pub(crate) fn next_frame(left: &mut PartCursor<'_>) -> Frame
-    ensures value { result ≡ first_frame left.old }
+/// Reads the next frame, past the marks before it, in the place of this one. It has no entries
+/// where none is left.
+pub(crate) fn next_frame(left: &mut PartCursor<'_>, frame: &mut Frame)
+    ensures value { frame.new ≡ first_frame left.old }
     ensures rest { left.new ≡ after_frame left.old }
 {
-    while let Some(part) = left.next() {
-        if let Part::Frame(frame) = part {
-            return frame;
+    while let Some(kind) = left.next_into(frame) {
+        if let PartKind::Frame = kind {
+            return;
         }
     }
-    Frame::empty()
+    frame.clear();
 }
 
-/// The mark before the next frame, past that frame.
-pub(crate) fn next_mark(left: &mut PartCursor<'_>) -> Option<u64>
+/// The mark before the next frame, past that frame, which is read in the place of this one.
+pub(crate) fn next_mark(left: &mut PartCursor<'_>, frame: &mut Frame) -> Option<u64>
     ensures value { result ≡ first_mark left.old }
     ensures rest { left.new ≡ after_frame left.old }
 {
-    let Some(part) = left.next() else {
+    let Some(kind) = left.next_into(frame) else {
         return None;
     };
-    match part {
-        Part::Frame(_) => None,
-        Part::Mark(hash) => {
-            next_frame(left);
+    match kind {
+        PartKind::Frame => None,
+        PartKind::Mark(hash) => {
+            next_frame(left, frame);
             Some(hash)
         }
     }

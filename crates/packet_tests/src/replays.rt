@@ -1,6 +1,6 @@
 //! Files that two programs written apart agree on, and a small file with a byte changed or cut off.
 use game_orders::{Entry, Frame, Order, Orders};
-use replay_file::{Part, Replay, ReplayFault, VERSION, read_replay, write_replay};
+use replay_file::{PartKind, Replay, ReplayFault, VERSION, read_replay, write_replay};
 use std::alloc::{AllocError, Global};
 use std::process::Abort;
 use std::test::Fail;
@@ -393,12 +393,11 @@ fn parts_in_order(rt: HostRuntime) -> Result<(), Fail> {
     replay.parts.push_mark(5)?;
     replay.parts.push_frame(&frame)?;
     let mut left = replay.parts.iter();
-    assert!(rt; matches!(left.next(), Some(Part::Mark(5))));
-    let Some(Part::Frame(first)) = left.next() else {
-        return Err(AllocError.into());
-    };
+    let mut first = Frame::empty();
+    assert_eq!(rt; left.next_into(&mut first), Some(PartKind::Mark(5)));
+    assert_eq!(rt; left.next_into(&mut first), Some(PartKind::Frame));
     assert_eq!(rt; first.len(), 2);
     assert!(rt; first.get(1).is_some_and(|entry| *entry == Entry::Leave));
-    assert!(rt; left.next().is_none());
+    assert_eq!(rt; left.next_into(&mut first), None);
     Ok(())
 }

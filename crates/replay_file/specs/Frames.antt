@@ -1,10 +1,8 @@
 -- What the parts of a replay are to a game that runs over them.
 use Rattle.std.specs.Prelude.{ℕ, ◌+◌, List, [], ◌∷◌}
 use Rattle.game_orders.specs.declared.entry.Entry.{Entry}
-use Rattle.replay_file.specs.declared.limits.TheConstants.{VERSION}
 use Rattle.replay_file.specs.declared.part.Part.{Part}
 use Rattle.replay_file.specs.declared.part.Part.TheVariants.{Frame, Mark}
-use Rattle.replay_file.specs.declared.replay.Replay.{Replay}
 
 -- The frames in order.
 abbrev pub frames_of : List Part → List (List Entry)
@@ -29,15 +27,3 @@ marked_anew hash_after frames (Frame entries ∷ parts) =
     Frame entries ∷ marked_anew hash_after (frames + 1) parts
 marked_anew hash_after frames (Mark hash ∷ parts) =
     Mark (hash_after frames) ∷ marked_anew hash_after frames parts
-
--- The replay in the version that is written: the same frames, and a mark wherever the old one has
--- one, with the hash for the number of frames before it.
-abbrev pub migrated : (ℕ → ℕ) → Replay → Replay
-migrated hash_after r =
-    record {
-      version = VERSION;
-      rules = r.rules;
-      seed = r.seed;
-      clients = r.clients;
-      parts = marked_anew hash_after 0 r.parts;
-    }

@@ -4,9 +4,11 @@ pub mod FirstFault
 pub mod FrameLemmas
 pub mod HeaderClauses
 pub mod Frames
+pub mod Migrated
 pub mod MigratedLemmas
 pub mod OrdersLemmas
 pub mod PartBytes
+pub mod PartKind
 pub mod PartReading
 pub mod PartRules
 pub mod PartStore

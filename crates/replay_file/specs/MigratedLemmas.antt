@@ -9,7 +9,8 @@ use Rattle.replay_file.specs.declared.part.Part.TheVariants.{Frame, Mark}
 use Rattle.replay_file.specs.declared.replay.Replay.{Replay}
 use Rattle.replay_file.specs.declared.standing.Standing.{Standing}
 use Rattle.replay_file.specs.EntriesLemmas.{entries_known}
-use Rattle.replay_file.specs.Frames.{frames_of, marks_after, marks_of, marked_anew, migrated}
+use Rattle.replay_file.specs.Frames.{frames_of, marks_after, marks_of, marked_anew}
+use Rattle.replay_file.specs.Migrated.{migrated}
 use Rattle.replay_file.specs.PartRules.{after_part, opening, EachMayFollow}
 use Rattle.replay_file.specs.SoFarLemmas.{few_frames}
 use Rattle.replay_file.specs.ValidReplay.{IsValidReplay}

@@ -11,6 +11,7 @@ use Rattle.replay_file.specs.declared.limits.TheConstants.{GREATEST_TAG}
 use Rattle.replay_file.specs.declared.part.Part.{Part}
 use Rattle.replay_file.specs.declared.part.Part.TheVariants.{Frame, Mark}
 use Rattle.replay_file.specs.declared.part_fault.PartFault.TheVariants.{Short, Bad}
+use Rattle.replay_file.specs.Frames.{frames_of}
 use Rattle.replay_file.specs.PartBytes.{entries_bytes, FitsPart}
 use Rattle.replay_file.specs.PartReading.{PartRead, entries_after, mark_in}
 
@@ -64,3 +65,8 @@ pub record IsStore (bytes : List ℕ) : Type 0 where
   pub stored : bytes ≡ all_stored (parts_in bytes)
   pub fits : AllByRecursion FitsPart (parts_in bytes)
   pub small : AllByRecursion IsSmall (parts_in bytes)
+
+-- They do, and so many of the parts are frames.
+pub record IsCountedStore (bytes : List ℕ) (frames : ℕ) : Type 0 where
+  pub store : IsStore bytes
+  pub count : frames ≡ length (frames_of (parts_in bytes))

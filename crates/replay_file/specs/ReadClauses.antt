@@ -27,10 +27,6 @@ SpellsNext version s old new None = old ≡ end_bytes ++ new
 SpellsNext version s old new (Some part) =
     (old ≡ part_bytes part ++ new) × MayFollow version s part
 
-abbrev pub IsMark : Part → Type 0
-IsMark (Frame entries) = ⊥
-IsMark (Mark hash) = Unit {0}
-
 -- The next part was read, or the end, or the fault that stands there.
 abbrev pub GivesNext :
     (total version : ℕ) → Standing → (old new : List ℕ) → Result (Option Part) ReplayFault →

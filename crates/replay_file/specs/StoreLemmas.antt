@@ -1,5 +1,5 @@
 -- Stored parts are read back.
-use Rattle.std.specs.Prelude.{◌≡◌, ℕ, zero, suc, ◌<◌, ◌≤◌, false}
+use Rattle.std.specs.Prelude.{◌≡◌, ℕ, zero, suc, ◌+◌, ◌<◌, ◌≤◌, false}
 use Rattle.std.specs.Prelude.{List, [], ◌∷◌, ◌++◌, length, replicate, Result, Ok, Err, OnOk, OnErr}
 use Rattle.std.specs.List.{AllByRecursion}
 use Rattle.std.proofs.Common.{refl, sym, ap, subst, ◌∙◌, arith, append_assoc}
@@ -17,10 +17,11 @@ use Rattle.replay_file.specs.declared.part.Part.TheVariants.{Frame, Mark}
 use Rattle.replay_file.specs.declared.part_fault.PartFault.{PartFault}
 use Rattle.replay_file.specs.declared.part_fault.PartFault.TheVariants.{Short}
 use Rattle.replay_file.specs.EntriesLemmas.{entries_again, entries_known, nobody_stays}
+use Rattle.replay_file.specs.Frames.{frames_of}
 use Rattle.replay_file.specs.OrdersLemmas.{all_added}
 use Rattle.replay_file.specs.PartReading.{PartRead, mark_in}
 use Rattle.replay_file.specs.PartStore.{stored_bytes, all_stored, counted_frame, stored_at}
-use Rattle.replay_file.specs.PartStore.{parts_up_to, parts_in, IsSmall, IsStore}
+use Rattle.replay_file.specs.PartStore.{parts_up_to, parts_in, IsCountedStore, IsSmall, IsStore}
 use Rattle.replay_file.specs.PartBytes.{entries_bytes, FitsEntry, FitsPart}
 
 -- Parts in a row, and what follows them.
@@ -149,15 +150,7 @@ parts_grow old new part is fits small added =
     (all_added FitsPart (parts_in old) part is.fits fits)
     (all_added IsSmall (parts_in old) part is.small small)
 
--- A part was stored, or out of memory nothing was.
-pub store_after :
-    {A E : Type 0} (old new : List ℕ) (part : Part) (result : Result A E) → IsStore old →
-    FitsPart part → IsSmall part → OnOk result (new ≡ old ++ stored_bytes part) →
-    OnErr result (new ≡ old) → IsStore new
-store_after old new part (Ok done) is fits small added same =
-    store_grows old new part is fits small added
-store_after old new part (Err fault) is fits small added same = subst IsStore (sym same) is
-
+-- A part was stored.
 pub parts_after :
     {A E : Type 0} (old new : List ℕ) (part : Part) (result : Result A E) → IsStore old →
     FitsPart part → IsSmall part → OnOk result (new ≡ old ++ stored_bytes part) →
@@ -165,6 +158,98 @@ pub parts_after :
 parts_after old new part (Ok done) is fits small added =
     parts_grow old new part is fits small added
 parts_after old new part (Err fault) is fits small added = tt
+
+-- ---- the number of frames
+
+-- One more frame is one more, and one more mark none.
+frames_more :
+    (parts : List Part) (entries : List Entry) →
+    length (frames_of (parts ++ Frame entries ∷ [])) ≡ length (frames_of parts) + 1
+frames_more [] entries = refl
+frames_more (Frame first ∷ parts) entries = omega (arith, frames_more parts entries)
+frames_more (Mark hash ∷ parts) entries = frames_more parts entries
+
+marks_none :
+    (parts : List Part) (hash : ℕ) → frames_of (parts ++ Mark hash ∷ []) ≡ frames_of parts
+marks_none [] hash = refl
+marks_none (Frame first ∷ parts) hash =
+    ap (λ (frames : List (List Entry)). first ∷ frames) (marks_none parts hash)
+marks_none (Mark other ∷ parts) hash = marks_none parts hash
+
+frames_few : (parts : List Part) → length (frames_of parts) ≤ length parts
+frames_few [] = omega arith
+frames_few (Frame first ∷ parts) = omega (arith, frames_few parts)
+frames_few (Mark other ∷ parts) = omega (arith, frames_few parts)
+
+-- There are no more frames than stored bytes.
+pub count_few : (bytes : List ℕ) (frames : ℕ) → IsCountedStore bytes frames →
+    frames ≤ length bytes
+count_few bytes frames is =
+    omega (
+      arith,
+      is.count,
+      frames_few (parts_in bytes),
+      all_long (parts_in bytes),
+      ap length is.store.stored,
+    )
+
+-- After one more frame.
+pub frame_counted :
+    (old new : List ℕ) (entries : List Entry) (frames count : ℕ) → IsCountedStore old frames →
+    AllByRecursion FitsEntry entries → length entries ≤ MAX_CLIENTS →
+    new ≡ old ++ stored_bytes (Frame entries) → count ≡ frames + 1 → IsCountedStore new count
+frame_counted old new entries frames count is fits small added more =
+    record {
+      store = store_grows old new (Frame entries) is.store fits small added;
+      count =
+          omega (
+            arith,
+            more,
+            is.count,
+            ap (λ (parts : List Part). length (frames_of parts))
+                (parts_grow old new (Frame entries) is.store fits small added),
+            frames_more (parts_in old) entries,
+          );
+    }
+
+-- There is room for the count of one more frame.
+pub room_for_frame :
+    (old new : List ℕ) (entries : List Entry) (frames : ℕ) → IsCountedStore old frames →
+    new ≡ old ++ stored_bytes (Frame entries) → frames < length new
+room_for_frame old new entries frames is added =
+    omega (
+      arith,
+      count_few old frames is,
+      ap length added,
+      length-append old (stored_bytes (Frame entries)),
+      stored_long (Frame entries),
+    )
+
+-- After one more mark, or out of memory.
+pub mark_counted :
+    {A E : Type 0} (old new : List ℕ) (hash frames : ℕ) (result : Result A E) →
+    IsCountedStore old frames → FitsPart (Mark hash) →
+    OnOk result (new ≡ old ++ stored_bytes (Mark hash)) → OnErr result (new ≡ old) →
+    IsCountedStore new frames
+mark_counted old new hash frames (Ok done) is fits added same =
+    record {
+      store = store_grows old new (Mark hash) is.store fits tt added;
+      count =
+          is.count
+          ∙ sym (ap (λ (parts : List Part). length (frames_of parts))
+          (parts_grow old new (Mark hash) is.store fits tt added)
+          ∙ ap (λ (all : List (List Entry)). length all) (marks_none (parts_in old) hash));
+    }
+mark_counted old new hash frames (Err fault) is fits added same =
+    subst (λ (bytes : List ℕ). IsCountedStore bytes frames) (sym same) is
+
+-- No bytes store no frames.
+pub count_begins : IsCountedStore [] 0
+count_begins =
+    record {
+      store = store_begins;
+      count = sym (ap (λ (parts : List Part). length (frames_of parts)) no_parts);
+    }
 
 -- The first part was read.
 pub record TakenFrom (view : List Part) (new : List ℕ) (part : Part) : Type 0 where

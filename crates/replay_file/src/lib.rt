@@ -19,9 +19,10 @@
 //! says it of the frames and marks as a whole (`specs/RuleLaws.antt`).
 //!
 //! [`Parts`] holds the parts in about as many bytes as a file has; a [`PartCursor`] hands them out
-//! one by one. [`read_entries`] reads the entries of one frame, as they stand in a file, from any
-//! bytes. What a replay is to a game, its frames in order and how many stand before each mark,
-//! and the replay that replaces it in the version that is written, is in `specs/Frames.antt`.
+//! one by one, frames in the room of one that the caller keeps. [`read_entries`] reads the entries of one frame, as they stand in a file, from any
+//! bytes. What a replay is to a game, its frames in order and how many stand before each mark, is
+//! in `specs/Frames.antt`, and the replay that replaces it in the version that is written in
+//! `specs/Migrated.antt`.
 #![tactic(auto)]
 
 mod departed;
@@ -33,6 +34,7 @@ mod part;
 mod part_cursor;
 mod part_fault;
 mod part_fits;
+mod part_kind;
 mod part_reading;
 mod part_writing;
 mod parts;
@@ -51,6 +53,7 @@ pub use limits::{FIRST_MAX_CLIENTS, FIRST_MAX_FRAMES, FIRST_VERSION, GREATEST_TA
 pub use part::Part;
 pub use part_cursor::PartCursor;
 pub use part_fault::PartFault;
+pub use part_kind::PartKind;
 pub use part_reading::read_entries;
 pub use parts::Parts;
 pub use replay::Replay;

@@ -1,6 +1,7 @@
 use game_orders::Frame;
 
-/// One part of a replay.
+/// One part of a replay, as clauses see it. Code has a [`PartKind`](crate::PartKind), beside the room
+/// of a frame that serves part after part.
 #[derive(Debug, Drop)]
 pub enum Part {
     /// A frame of the match.

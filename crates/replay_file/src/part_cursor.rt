@@ -1,14 +1,16 @@
 ghost use Rattle.std.specs.Prelude.{◌≡◌};
 ghost use Rattle.wire_bytes.specs.Read.{Reads};
+ghost use Rattle.replay_file.specs.declared.part.Part.TheVariants as part;
+ghost use Rattle.replay_file.specs.PartKind.{next_of, part_of, with_value};
 ghost use Rattle.replay_file.specs.PartStore.{counted_frame, parts_in, stored_at, TakesPart};
 ghost use Rattle.replay_file.specs.PartStore.{IsStore};
 
 use crate::departed::Departed;
 use crate::limits::GREATEST_TAG;
-use crate::part::Part;
 use crate::part_fault::PartFault;
+use crate::part_kind::PartKind;
 use crate::part_reading::{read_entries, read_mark};
-use game_orders::MAX_CLIENTS;
+use game_orders::{Frame, MAX_CLIENTS};
 use std::marker::Model;
 use wire_bytes::Cursor;
 
@@ -31,31 +33,35 @@ impl<'a> Model for PartCursor<'a> {
     ghost invariant = { λ parts. IsStore parts.left };
 }
 
-/// Reads the entries of a stored frame.
+/// Reads the entries of a stored frame, in the place of those that this one has.
 #[tactic(auto, unfolding(crate::specs::PartStore::counted_frame))]
-fn read_counted(c: &mut Cursor<'_>, count: u8) -> Result<Part, PartFault>
-    ensures { Reads (counted_frame count) c.old c.new result }
+fn read_counted(c: &mut Cursor<'_>, count: u8, frame: &mut Frame) -> Result<(), PartFault>
+    ensures { Reads (counted_frame count) c.old c.new
+        (with_value (λ _. part.Frame frame.new) result) }
 {
     if count > MAX_CLIENTS {
         return Err(PartFault::Bad);
     }
     let nobody = Departed::nobody(count);
-    let frame = read_entries(c, GREATEST_TAG, nobody.as_slice())?;
-    Ok(Part::Frame(frame))
+    read_entries(c, GREATEST_TAG, nobody.as_slice(), frame)
 }
 
-/// Reads a stored part.
+/// Reads a stored part. The entries of a frame come in the place of those that this one has.
 #[tactic(auto, unfolding(crate::specs::PartStore::stored_at))]
-fn read_stored(c: &mut Cursor<'_>) -> Result<Part, PartFault>
-    ensures { Reads stored_at c.old c.new result }
+fn read_stored(c: &mut Cursor<'_>, frame: &mut Frame) -> Result<PartKind, PartFault>
+    ensures { Reads stored_at c.old c.new (with_value (λ kind. part_of kind frame.new) result) }
 {
     let tag = c.read_u8()?;
     match tag {
         1 => {
             let count = c.read_u8()?;
-            read_counted(c, count)
+            read_counted(c, count, frame)?;
+            Ok(PartKind::Frame)
         }
-        2 => read_mark(c),
+        2 => {
+            let hash = read_mark(c)?;
+            Ok(PartKind::Mark(hash))
+        }
         _ => Err(PartFault::Bad),
     }
 }
@@ -71,16 +77,17 @@ impl<'a> PartCursor<'a> {
         }
     }
 
-    /// The next part. None exactly where none is left.
-    pub fn next(&mut self) -> Option<Part>
-        ensures { TakesPart self.old self.new result }
+    /// The next part. The entries of a frame come in the place of those that `frame` has, so the
+    /// room of one serves a whole replay. None exactly where no part is left.
+    pub fn next_into(&mut self, frame: &mut Frame) -> Option<PartKind>
+        ensures { TakesPart self.old self.new (next_of result frame.new) }
     {
         if self.left.left() == 0 {
             return None;
         }
-        let Ok(part) = read_stored(&mut self.left) else {
+        let Ok(kind) = read_stored(&mut self.left, frame) else {
             unreachable!()
         };
-        Some(part)
+        Some(kind)
     }
 }

@@ -1,9 +1,8 @@
-ghost use Rattle.std.specs.Prelude.{◌≡◌, ◌≤◌, length};
+ghost use Rattle.std.specs.Prelude.{◌≤◌, length};
 ghost use Rattle.std.specs.List.{AllByRecursion};
 ghost use Rattle.game_orders.specs.declared.limits.TheConstants.{MAX_CLIENTS};
-ghost use Rattle.replay_file.specs.PartBytes.{FitsEntry, FitsPart};
+ghost use Rattle.replay_file.specs.PartBytes.{FitsEntry};
 
-use crate::part::Part;
 use game_orders::{Entry, Frame, orders_fit};
 
 /// The numbers of an entry that code holds fit their fields. The call does nothing.
@@ -26,18 +25,5 @@ pub(crate) fn frame_fits(frame: &Frame)
             unreachable!()
         };
         entry_fits(entry);
-    }
-}
-
-/// The numbers of a part that code holds fit their fields. The call does nothing.
-pub(crate) fn part_fits(part: &Part)
-    ensures { FitsPart part.now }
-{
-    match part {
-        Part::Frame(frame) => frame_fits(frame),
-        Part::Mark(hash) => {
-            // the number is read so that the proof has the range of its type
-            let _hash = *hash;
-        }
     }
 }

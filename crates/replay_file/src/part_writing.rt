@@ -2,10 +2,11 @@ ghost use Rattle.std.specs.Prelude.{◌≡◌, ◌++◌, OnOk, OnErr, length};
 ghost use Rattle.wire_bytes.specs.Field.{field_bytes};
 ghost use Rattle.wire_bytes.specs.Write.{Extends};
 ghost use Rattle.replay_file.specs.declared.part.Part.TheVariants as part;
+ghost use Rattle.replay_file.specs.PartKind.{part_of};
 ghost use Rattle.replay_file.specs.PartStore.{stored_bytes};
 ghost use Rattle.replay_file.specs.PartBytes.{entry_bytes, entries_bytes, part_bytes};
 
-use crate::part::Part;
+use crate::part_kind::PartKind;
 use base::NoMemory;
 use game_orders::{Entry, Frame, write_orders};
 use wire_bytes::{write_u8, write_u64};
@@ -62,15 +63,15 @@ pub(crate) fn append_mark(out: &mut Vec<u8>, hash: u64) -> Result<(), NoMemory>
     write_u64(out, hash)
 }
 
-/// Appends a part as it stands in a replay.
+/// Appends a part of this kind as it stands in a replay.
 #[tactic(auto, using(wire_bytes::specs::WriteLemmas::written), unfolding(crate::specs::PartBytes::part_bytes))]
-pub(crate) fn append_part(out: &mut Vec<u8>, part: &Part) -> Result<(), NoMemory>
-    ensures ok { OnOk result (out.new.items ≡ out.old.items ++ part_bytes part.now) }
+pub(crate) fn append_part(out: &mut Vec<u8>, kind: PartKind, frame: &Frame) -> Result<(), NoMemory>
+    ensures ok { OnOk result (out.new.items ≡ out.old.items ++ part_bytes (part_of kind frame.now)) }
     ensures err { OnErr result (Extends out.old.items out.new.items) }
 {
-    match part {
-        Part::Frame(frame) => append_frame(out, frame),
-        Part::Mark(hash) => append_mark(out, *hash),
+    match kind {
+        PartKind::Frame => append_frame(out, frame),
+        PartKind::Mark(hash) => append_mark(out, hash),
     }
 }
 

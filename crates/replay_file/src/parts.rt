@@ -1,13 +1,15 @@
 //! The list of a replay's parts, in little memory.
-ghost use Rattle.std.specs.Prelude.{◌≡◌, ◌∷◌, [], ◌++◌, OnOk, OnErr};
+ghost use Rattle.std.specs.Prelude.{◌≡◌, ◌<◌, ◌+◌, ◌∷◌, [], ◌++◌, length, OnOk, OnErr};
 ghost use Rattle.std.specs.List.{AllByRecursion};
 ghost use Rattle.replay_file.specs.declared.part.Part.TheVariants as part;
+ghost use Rattle.replay_file.specs.Frames.{frames_of};
 ghost use Rattle.replay_file.specs.PartBytes.{FitsPart};
+ghost use Rattle.replay_file.specs.PartKind.{part_of};
 ghost use Rattle.replay_file.specs.PartStore.{all_stored, stored_bytes, parts_in};
 
-use crate::part::Part;
 use crate::part_cursor::PartCursor;
 use crate::part_fits::frame_fits;
+use crate::part_kind::PartKind;
 use crate::part_writing::{store_frame, store_mark};
 use base::NoMemory;
 use game_orders::Frame;
@@ -18,6 +20,7 @@ use std::marker::Model;
 #[derive(Drop)]
 pub struct Parts {
     bytes: Vec<u8>,
+    frames: usize,
 }
 
 impl Model for Parts {
@@ -26,13 +29,22 @@ impl Model for Parts {
     ghost use Rattle.replay_file.specs.declared.part.Part.{Part};
     ghost use Rattle.replay_file.specs.PartBytes.{FitsPart};
     ghost use Rattle.replay_file.specs.PartStore.{all_stored, parts_in};
-    ghost use Rattle.replay_file.specs.PartStore.{IsStore};
+    ghost use Rattle.replay_file.specs.PartStore.{IsCountedStore};
 
     ghost Value = { List Part };
 
     ghost view = { λ parts. parts_in parts.bytes.items };
 
-    ghost invariant = { λ parts. IsStore parts.bytes.items };
+    ghost invariant = { λ parts. IsCountedStore parts.bytes.items parts.frames };
+}
+
+/// One more than this number, which is less than the number of these bytes.
+fn one_more(count: usize, bytes: &[u8]) -> usize
+    requires { count < length bytes.now }
+    ensures { result ≡ count + 1 }
+{
+    let _len = bytes.len();
+    count + 1
 }
 
 impl Parts {
@@ -42,6 +54,7 @@ impl Parts {
     {
         Parts {
             bytes: Vec::new(alloc),
+            frames: 0,
         }
     }
 
@@ -49,28 +62,42 @@ impl Parts {
     pub fn push_frame(&mut self, frame: &Frame) -> Result<(), NoMemory>
         ensures ok { OnOk result (self.new ≡ self.old ++ part.Frame frame.now ∷ []) }
         ensures err { OnErr result (self.new ≡ self.old) }
+        ensures fits { FitsPart (part.Frame frame.now) }
     {
         frame_fits(frame);
-        store_frame(&mut self.bytes, frame)
+        store_frame(&mut self.bytes, frame)?;
+        self.frames = one_more(self.frames, self.bytes.as_slice());
+        Ok(())
     }
 
     /// Adds a mark last. It fails only where it is out of memory, and then nothing changes.
     pub fn push_mark(&mut self, hash: u64) -> Result<(), NoMemory>
         ensures ok { OnOk result (self.new ≡ self.old ++ part.Mark hash ∷ []) }
         ensures err { OnErr result (self.new ≡ self.old) }
+        ensures fits { FitsPart (part.Mark hash) }
     {
         store_mark(&mut self.bytes, hash)
     }
 
-    /// Adds a part last. It fails only where it is out of memory, and then nothing changes.
-    pub fn push(&mut self, part: &Part) -> Result<(), NoMemory>
-        ensures ok { OnOk result (self.new ≡ self.old ++ part.now ∷ []) }
+    /// Adds a part of this kind last, with the entries of `frame` where it is a frame. It fails only
+    /// where it is out of memory, and then nothing changes.
+    pub fn push(&mut self, kind: PartKind, frame: &Frame) -> Result<(), NoMemory>
+        ensures ok { OnOk result (self.new ≡ self.old ++ part_of kind frame.now ∷ []) }
         ensures err { OnErr result (self.new ≡ self.old) }
+        ensures fits { FitsPart (part_of kind frame.now) }
     {
-        match part {
-            Part::Frame(frame) => self.push_frame(frame),
-            Part::Mark(hash) => self.push_mark(*hash),
+        match kind {
+            PartKind::Frame => self.push_frame(frame),
+            PartKind::Mark(hash) => self.push_mark(hash),
         }
+    }
+
+    /// The number of frames.
+    pub fn frame_count(&self) -> usize
+        ensures { result ≡ length (frames_of self.now) }
+    {
+        let _bytes = &self.bytes;
+        self.frames
     }
 
     /// The parts, to be gone over from the first.

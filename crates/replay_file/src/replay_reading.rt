@@ -4,19 +4,20 @@ ghost use Rattle.game_orders.specs.declared.limits.TheConstants.{MAX_CLIENTS};
 ghost use Rattle.replay_file.specs.declared.replay.Replay.{Replay};
 ghost use Rattle.replay_file.specs.FirstFault.{fault_at, IsReadFault, IsReadOf, Spells};
 ghost use Rattle.replay_file.specs.PartBytes.{FitsPart};
+ghost use Rattle.replay_file.specs.PartKind.{next_of, with_value};
 ghost use Rattle.replay_file.specs.PartReading.{next_in};
 ghost use Rattle.replay_file.specs.ReadClauses.{AnswersTo, GivesNext, GivesParts};
 ghost use Rattle.replay_file.specs.Reading.{read_of, ReturnsRead};
 
 use crate::header_reading::read_header;
-use crate::part::Part;
 use crate::part_fault::PartFault;
-use crate::part_fits::part_fits;
+use crate::part_kind::PartKind;
 use crate::part_reading::read_next;
 use crate::parts::Parts;
 use crate::replay::Replay;
 use crate::replay_fault::ReplayFault;
 use crate::standing::Standing;
+use game_orders::Frame;
 use std::alloc::Global;
 use wire_bytes::Cursor;
 
@@ -34,12 +35,14 @@ fn read_next_at(
     c: &mut Cursor<'_>,
     version: u16,
     standing: &Standing,
-) -> Result<Option<Part>, ReplayFault>
+    frame: &mut Frame,
+) -> Result<Option<PartKind>, ReplayFault>
     requires { length c.old ≤ total }
-    ensures { GivesNext total version standing.now c.old c.new result }
+    ensures { GivesNext total version standing.now c.old c.new
+        (with_value (λ next. next_of next frame.new) result) }
 {
     let at = place(total, c);
-    match read_next(c, version, standing) {
+    match read_next(c, version, standing, frame) {
         Ok(next) => Ok(next),
         Err(PartFault::Short) => Err(ReplayFault::Torn { at }),
         Err(PartFault::Bad) => Err(ReplayFault::BadRecord { at }),
@@ -60,12 +63,10 @@ fn read_parts(
 {
     let mut parts = Parts::new(alloc);
     let mut standing = Standing::opening(clients);
-    while let Some(part) = read_next_at(total, c, version, &standing)? {
-        part_fits(&part);
-        standing.pass(&part);
-        parts.push(&part)?;
-        // by a call, so that the loop's proof is one for all parts
-        drop(part);
+    let mut frame = Frame::empty();
+    while let Some(kind) = read_next_at(total, c, version, &standing, &mut frame)? {
+        standing.pass(kind, &frame);
+        parts.push(kind, &frame)?;
     }
     if c.left() > 0 {
         return Err(ReplayFault::TrailingBytes {

@@ -10,6 +10,7 @@ use crate::part_writing::append_part;
 use crate::parts::Parts;
 use crate::replay::Replay;
 use base::NoMemory;
+use game_orders::Frame;
 use std::alloc::Global;
 use wire_bytes::{write_u8, write_u16, write_u32, write_u64};
 
@@ -38,8 +39,9 @@ fn append_parts(out: &mut Vec<u8>, parts: &Parts) -> Result<(), NoMemory>
     ensures { OnOk result (out.new.items ≡ out.old.items ++ parts_bytes parts.now) }
 {
     let mut left = parts.iter();
-    while let Some(part) = left.next() {
-        append_part(out, &part)?;
+    let mut frame = Frame::empty();
+    while let Some(kind) = left.next_into(&mut frame) {
+        append_part(out, kind, &frame)?;
     }
     Ok(())
 }

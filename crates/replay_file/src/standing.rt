@@ -1,9 +1,11 @@
 ghost use Rattle.std.specs.Prelude.{◌≡◌, ◌+◌, ◌<◌, ◌≤◌, ◌^◌, false, length, replicate};
 ghost use Rattle.game_orders.specs.declared.limits.TheConstants.{MAX_CLIENTS};
+ghost use Rattle.replay_file.specs.PartKind.{part_of};
 ghost use Rattle.replay_file.specs.PartRules.{after_part, departed_in, opening};
 
 use crate::departed::Departed;
-use crate::part::Part;
+use crate::part_kind::PartKind;
+use game_orders::Frame;
 
 /// What the next part of a replay depends on.
 #[derive(Drop)]
@@ -29,18 +31,18 @@ impl Standing {
         }
     }
 
-    /// After one more part. The frames so far are below the greatest `u32`.
-    pub(crate) fn pass(&mut self, part: &Part)
+    /// After one more part, of this kind. The frames so far are below the greatest `u32`.
+    pub(crate) fn pass(&mut self, kind: PartKind, frame: &Frame)
         requires { self.old.frames + 1 < 2 ^ 32 }
-        ensures { self.new ≡ after_part self.old part.now }
+        ensures { self.new ≡ after_part self.old (part_of kind frame.now) }
     {
-        match part {
-            Part::Frame(frame) => {
+        match kind {
+            PartKind::Frame => {
                 self.departed = Departed::in_frame(frame);
                 self.frames += 1;
                 self.marked = false;
             }
-            Part::Mark(_) => {
+            PartKind::Mark(_) => {
                 self.marked = true;
             }
         }

@@ -12,9 +12,17 @@ use Rattle.replay_file.specs.RuleLaws.{IsFrameOf}
 use Rattle.replay_file.specs.ValidLemmas.{valid_obeys}
 use Rattle.replay_file.specs.ValidReplay.{IsValidReplay}
 use Rattle.replay_run.specs.Playing.{playback_of, played, FitsPlayback, IsPlayback, PlaybackState}
-use Rattle.replay_run.specs.Playing.{PlaysOn}
+use Rattle.replay_run.specs.Playing.{PlaysOn, TakesFrame, taken_frame}
 use Rattle.replay_run.specs.Rerun.{frame_in}
 use Rattle.replay_run.specs.RerunLemmas.{few_in_all, next_frame}
+
+-- Where a frame was taken it is the first of those that were left.
+pub took_frame :
+    (old new : List Part) (frame : List Entry) (taken : Bool) →
+    TakesFrame old new (taken_frame taken frame) → taken ≡ true →
+    frames_of old ≡ frame ∷ frames_of new
+took_frame old new frame true takes is = takes.0
+took_frame old new frame false takes is = absurd cc
 
 pub plays_on :
     {W : Type 0} (after : W → List Entry → W) (start : W) (r : Replay) (old new : PlaybackState W) →

@@ -55,6 +55,11 @@ after_frame [] = []
 after_frame (Frame entries ∷ parts) = parts
 after_frame (Mark hash ∷ parts) = after_frame parts
 
+-- The frame that was taken, if one was.
+abbrev pub taken_frame : Bool → List Entry → Option (List Entry)
+taken_frame true frame = Some frame
+taken_frame false frame = None
+
 -- The first frame of the parts, if there is one, was taken off, and the marks before it.
 abbrev pub TakesFrame : (old new : List Part) → Option (List Entry) → Type 0
 TakesFrame old new None = (frames_of old ≡ []) × (frames_of new ≡ [])

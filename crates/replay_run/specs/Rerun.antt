@@ -8,7 +8,8 @@ use Rattle.frame_core.specs.declared.summary.Summary.{Summary}
 use Rattle.frame_core.specs.Fold.{folded}
 use Rattle.replay_file.specs.declared.part.Part.{Part}
 use Rattle.replay_file.specs.declared.replay.Replay.{Replay}
-use Rattle.replay_file.specs.Frames.{frames_of, marks_of, migrated}
+use Rattle.replay_file.specs.Frames.{frames_of, marks_of}
+use Rattle.replay_file.specs.Migrated.{migrated}
 use Rattle.replay_run.specs.declared.difference.Difference.{Difference}
 use Rattle.replay_run.specs.declared.replayed.Replayed.{Replayed}
 use Rattle.replay_run.specs.Passing.{hash_by}

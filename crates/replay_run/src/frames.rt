@@ -2,23 +2,24 @@
 ghost use Rattle.std.specs.Prelude.{◌≡◌, ◌≤◌, ◌+◌, drop};
 ghost use Rattle.replay_file.specs.Frames.{frames_of};
 ghost use Rattle.replay_file.specs.ValidReplay.{IsValidReplay};
-ghost use Rattle.replay_run.specs.Playing.{TakesFrame};
+ghost use Rattle.replay_run.specs.Playing.{TakesFrame, taken_frame};
 ghost use Rattle.replay_run.specs.Rerun.{frame_count};
 ghost use Rattle.replay_run.specs.Skipping.{IsSkipped};
 
 use game_orders::Frame;
-use replay_file::{Part, PartCursor, Replay};
+use replay_file::{PartCursor, PartKind, Replay};
 
-/// The next frame, past the marks before it. None exactly where none is left.
-pub(crate) fn next_frame(left: &mut PartCursor<'_>) -> Option<Frame>
-    ensures { TakesFrame left.old left.new result }
+/// Reads the next frame, past the marks before it, in the place of this one. False exactly where
+/// none is left.
+pub(crate) fn next_frame(left: &mut PartCursor<'_>, frame: &mut Frame) -> bool
+    ensures { TakesFrame left.old left.new (taken_frame result frame.new) }
 {
-    while let Some(part) = left.next() {
-        if let Part::Frame(frame) = part {
-            return Some(frame);
+    while let Some(kind) = left.next_into(frame) {
+        if let PartKind::Frame = kind {
+            return true;
         }
     }
-    None
+    false
 }
 
 /// The number of frames of a valid replay, at most `MAX_FRAMES`.
@@ -27,12 +28,7 @@ pub fn frame_count(r: &Replay) -> u32
     requires { IsValidReplay r.now }
     ensures { result ≡ frame_count r.now }
 {
-    let mut left = r.parts.iter();
-    let mut frames = 0;
-    while let Some(_frame) = next_frame(&mut left) {
-        frames += 1;
-    }
-    frames
+    r.parts.frame_count() as u32
 }
 
 /// The parts after the first `from` frames of a replay, which has so many.
@@ -42,8 +38,9 @@ pub(crate) fn parts_after(r: &Replay, from: u32) -> PartCursor<'_>
     ensures { IsSkipped r.entry.now from from result }
 {
     let mut left = r.parts.iter();
+    let mut frame = Frame::empty();
     for _skipped in 0..from {
-        next_frame(&mut left);
+        next_frame(&mut left, &mut frame);
     }
     left
 }

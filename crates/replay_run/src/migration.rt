@@ -1,5 +1,6 @@
 ghost use Rattle.std.specs.Prelude.{◌≡◌, ◌+◌, ◌++◌, ◌<◌, ◌^◌, IfOk, OnOk};
 ghost use Rattle.replay_file.specs.PartBytes.{part_bytes, FitsPart};
+ghost use Rattle.replay_file.specs.PartKind.{part_of};
 ghost use Rattle.replay_file.specs.ValidReplay.{IsValidReplay};
 ghost use Rattle.replay_run.specs.Migrating.{marked_part, marks_in, Migrates};
 ghost use Rattle.replay_run.specs.Rerun.{rerun_over};
@@ -9,7 +10,8 @@ use crate::first_hash::FirstHash;
 use crate::replayed::Replayed;
 use base::NoMemory;
 use frame_core::Sim;
-use replay_file::{Part, Replay, ReplayWriter, replay_fits};
+use game_orders::Frame;
+use replay_file::{PartKind, Replay, ReplayWriter, replay_fits};
 use std::alloc::Global;
 
 /// What a migration comes to.
@@ -28,20 +30,26 @@ pub enum Migration {
     },
 }
 
-/// Writes a part anew: a frame as it is, a mark with the hash of this world. Returns how many marks
-/// that are.
-fn write_anew<S: Sim>(writer: &mut ReplayWriter, part: &Part, world: &S) -> Result<u32, NoMemory>
-    ensures written { OnOk result
-        (writer.new ≡ writer.old ++ part_bytes (marked_part (S.hash_of world.now) part.now)) }
-    ensures fits { OnOk result (FitsPart (marked_part (S.hash_of world.now) part.now)) }
-    ensures marks { IfOk result (λ marks. marks ≡ marks_in part.now) }
+/// Writes a part of this kind anew: a frame as it is, a mark with the hash of this world. Returns how
+/// many marks that are.
+fn write_anew<S: Sim>(
+    writer: &mut ReplayWriter,
+    kind: PartKind,
+    frame: &Frame,
+    world: &S,
+) -> Result<u32, NoMemory>
+    ensures written { OnOk result (writer.new ≡ writer.old
+        ++ part_bytes (marked_part (S.hash_of world.now) (part_of kind frame.now))) }
+    ensures fits { OnOk result
+        (FitsPart (marked_part (S.hash_of world.now) (part_of kind frame.now))) }
+    ensures marks { IfOk result (λ marks. marks ≡ marks_in (part_of kind frame.now)) }
 {
-    match part {
-        Part::Frame(frame) => {
+    match kind {
+        PartKind::Frame => {
             writer.push_frame(frame)?;
             Ok(0)
         }
-        Part::Mark(_) => {
+        PartKind::Mark(_) => {
             let hash = world.hash();
             writer.push_mark(hash)?;
             Ok(1)
@@ -70,14 +78,13 @@ pub fn migrate<S: FirstHash>(alloc: Global, world: S, r: &Replay) -> Result<Migr
     };
     let mut marks = 0;
     let mut left = r.parts.iter();
-    while let Some(part) = left.next() {
-        run.pass(&part, version);
+    let mut frame = Frame::empty();
+    while let Some(kind) = left.next_into(&mut frame) {
+        run.pass(kind, &frame, version);
         if let Some(difference) = run.difference {
             return Ok(Migration::Differs(difference));
         }
-        marks += write_anew(&mut writer, &part, &run.world)?;
-        // by a call, so that the loop's proof is one for all parts
-        drop(part);
+        marks += write_anew(&mut writer, kind, &frame, &run.world)?;
     }
     Ok(Migration::Migrated {
         bytes: writer.finish()?,

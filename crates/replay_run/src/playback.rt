@@ -5,6 +5,7 @@ ghost use Rattle.replay_run.specs.Rerun.{frame_count};
 
 use crate::frames::next_frame;
 use frame_core::Sim;
+use game_orders::Frame;
 use replay_file::{PartCursor, Replay};
 use std::marker::Model;
 
@@ -12,6 +13,8 @@ use std::marker::Model;
 /// are passed over.
 pub struct Playback<'a, S: Sim> {
     left: PartCursor<'a>,
+    // The room of each frame.
+    frame: Frame,
     frames: u32,
     world: S,
 }
@@ -21,6 +24,7 @@ impl<'a, S: Sim> Drop for Playback<'a, S> {
     fn drop(self) {
         let Self {
             left: _,
+            frame: _,
             frames: _,
             world: _,
         } = self;
@@ -58,6 +62,7 @@ impl<'a, S: Sim> Playback<'a, S> {
     {
         Playback {
             left: r.parts.iter(),
+            frame: Frame::empty(),
             frames: 0,
             world,
         }
@@ -72,13 +77,12 @@ impl<'a, S: Sim> Playback<'a, S> {
             IsPlayback S.after start r self.old → IsPlayback S.after start r self.new }
         ensures clients { S.clients_of self.new.world ≡ S.clients_of self.old.world }
     {
-        match next_frame(&mut self.left) {
-            Some(frame) => {
-                self.world.step(&frame);
-                self.frames += 1;
-                true
-            }
-            None => false,
+        if next_frame(&mut self.left, &mut self.frame) {
+            self.world.step(&self.frame);
+            self.frames += 1;
+            true
+        } else {
+            false
         }
     }
 
@@ -104,6 +108,7 @@ impl<'a, S: Sim> Playback<'a, S> {
     {
         let Self {
             left: _,
+            frame: _,
             frames: _,
             world,
         } = self;

@@ -9,6 +9,7 @@ ghost use Rattle.replay_run.specs.Recording.{recorded, recorded_by, replay_of};
 
 use base::NoMemory;
 use frame_core::Sim;
+use game_orders::Frame;
 use replay_file::ReplayWriter;
 use server_core::Server;
 use std::alloc::Global;
@@ -31,8 +32,10 @@ fn write_frames<S: Sim>(writer: &mut ReplayWriter, server: &Server<S>) -> Result
 {
     let columns = server.columns();
     let marks = server.marks();
+    let mut frame = Frame::empty();
     for n in 0..server.ticked() {
-        writer.push_frame(&columns.frame(n))?;
+        columns.fill_frame(n, &mut frame);
+        writer.push_frame(&frame)?;
         writer.push_mark(mark_at(marks, n))?;
     }
     Ok(())

@@ -1,10 +1,12 @@
 ghost use Rattle.std.specs.Prelude.{◌≡◌};
 ghost use Rattle.replay_file.specs.declared.part.Part.TheVariants as part;
+ghost use Rattle.replay_file.specs.PartKind.{part_of};
 ghost use Rattle.replay_run.specs.Passing.{compared, hash_by, passed, FitsPass};
 
 use crate::difference::Difference;
 use crate::first_hash::FirstHash;
-use replay_file::{FIRST_VERSION, Part};
+use game_orders::Frame;
+use replay_file::{FIRST_VERSION, PartKind};
 
 /// What a replay gave so far, or in the end.
 #[derive(Drop)]
@@ -40,23 +42,23 @@ fn hash_by<S: FirstHash>(world: &S, version: u16) -> u64
 }
 
 impl<S: FirstHash> Replayed<S> {
-    /// Goes on with a part of a replay of this version: steps the world by a frame, or compares a
-    /// mark, if none differed before. A frame has an entry for each client of the world, which has
-    /// made as many steps as there are frames so far, fewer than `MAX_FRAMES`.
-    pub fn pass(&mut self, part: &Part, version: u16)
-        requires { FitsPass S.clients_of S.steps self.old part.now }
+    /// Goes on with a part of this kind of a replay of this version: steps the world by this frame,
+    /// or compares a mark, if none differed before. A frame has an entry for each client of the
+    /// world, which has made as many steps as there are frames so far, fewer than `MAX_FRAMES`.
+    pub fn pass(&mut self, kind: PartKind, frame: &Frame, version: u16)
+        requires { FitsPass S.clients_of S.steps self.old (part_of kind frame.now) }
         ensures value { self.new ≡ passed S.after (hash_by S.hash_of S.first_hash_of version)
-            self.old part.now }
+            self.old (part_of kind frame.now) }
         ensures clients { S.clients_of self.new.world ≡ S.clients_of self.old.world }
         ensures steps { S.steps self.old.world ≡ self.old.frames →
             S.steps self.new.world ≡ self.new.frames }
     {
-        match part {
-            Part::Frame(frame) => {
+        match kind {
+            PartKind::Frame => {
                 self.world.step(frame);
                 self.frames += 1;
             }
-            Part::Mark(hash) => self.compare(*hash, version),
+            PartKind::Mark(hash) => self.compare(hash, version),
         }
     }
 

@@ -5,6 +5,7 @@ ghost use Rattle.replay_run.specs.Rerun.{rerun_over, replayed, replayed_from, fr
 use crate::first_hash::FirstHash;
 use crate::frames::parts_after;
 use crate::replayed::Replayed;
+use game_orders::Frame;
 use replay_file::Replay;
 
 /// Runs a valid replay over an opening world of its clients, which has made no step.
@@ -38,10 +39,9 @@ pub fn run_replay_from<S: FirstHash>(world: S, from: u32, r: &Replay) -> Replaye
         world,
     };
     let mut left = parts_after(r, from);
-    while let Some(part) = left.next() {
-        run.pass(&part, version);
-        // by a call, so that the loop's proof is one for all parts
-        drop(part);
+    let mut frame = Frame::empty();
+    while let Some(kind) = left.next_into(&mut frame) {
+        run.pass(kind, &frame, version);
     }
     run
 }

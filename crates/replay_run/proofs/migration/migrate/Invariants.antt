@@ -8,8 +8,8 @@ use Rattle.replay_run.specs.Rerun.{rerun_over}
 use Rattle.replay_run.specs.RerunLemmas.{IsSoFar}
 use Rattle.replay_run.proofs.migration.migrate.Given as goal
 
-abbrev pub invariant-loop-part : goal.invariant-loop-part
-invariant-loop-part g l =
+abbrev pub invariant-loop-kind : goal.invariant-loop-kind
+invariant-loop-kind g l =
     (g.S.Sim.clients_of l.run.world ≡ l.r.clients)
     × (g.S.Sim.steps l.run.world ≡ l.run.frames)
     × (l.run.difference ≡ None)
@@ -22,5 +22,5 @@ invariant-loop-part g l =
     l.fn.world)
     l.r (header_bytes VERSION l.r.rules l.r.seed l.r.clients) l.left l.run.frames l.writer l.marks
 
-abbrev pub decreases-loop-part : goal.decreases-loop-part
-decreases-loop-part g l = length l.left
+abbrev pub decreases-loop-kind : goal.decreases-loop-kind
+decreases-loop-kind g l = length l.left

@@ -4,8 +4,8 @@ use Rattle.replay_run.specs.Rerun.{rerun_over}
 use Rattle.replay_run.specs.RerunLemmas.{IsSoFar}
 use Rattle.replay_run.proofs.rerun.run_replay_from.Given as goal
 
-abbrev pub invariant-loop-part : goal.invariant-loop-part
-invariant-loop-part g l =
+abbrev pub invariant-loop-kind : goal.invariant-loop-kind
+invariant-loop-kind g l =
     (g.S.Sim.clients_of l.run.world ≡ l.r.clients)
     × (g.S.Sim.steps l.run.world ≡ l.run.frames)
     × IsSoFar
@@ -13,5 +13,5 @@ invariant-loop-part g l =
     l.fn.world)
     l.from l.r l.left l.run
 
-abbrev pub decreases-loop-part : goal.decreases-loop-part
-decreases-loop-part g l = length l.left
+abbrev pub decreases-loop-kind : goal.decreases-loop-kind
+decreases-loop-kind g l = length l.left

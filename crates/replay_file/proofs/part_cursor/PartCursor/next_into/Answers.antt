@@ -1,6 +1,7 @@
 use Rattle.std.proofs.Common.{arith, sym, ◌∙◌, ◌≡◌, []}
+use Rattle.replay_file.specs.PartKind.{part_of}
 use Rattle.replay_file.specs.StoreLemmas.{none_left, never_bad, part_taken}
-use Rattle.replay_file.proofs.part_cursor.PartCursor.next.Goals as goal
+use Rattle.replay_file.proofs.part_cursor.PartCursor.next_into.Goals as goal
 
 pub returns-then-left-eq0 : goal.returns-then-left-eq0
 returns-then-left-eq0 c =
@@ -15,11 +16,13 @@ unreachable-requires c =
 
 pub invariant_of-self : goal.invariant_of-self
 invariant_of-self c =
-    (part_taken c.self.inside.left c.read_stored.new.c c.in-Ok.part c.self.invariant (omega arith)
+    (part_taken c.self.inside.left c.read_stored.new.c
+    (part_of c.in-Ok.kind c.read_stored.new.frame) c.self.invariant (omega arith)
     c.in-Ok.ensures).store
 
 pub returns : goal.returns
 returns c =
     sym c.self.view_is
-    ∙ (part_taken c.self.inside.left c.read_stored.new.c c.in-Ok.part c.self.invariant (omega arith)
+    ∙ (part_taken c.self.inside.left c.read_stored.new.c
+    (part_of c.in-Ok.kind c.read_stored.new.frame) c.self.invariant (omega arith)
     c.in-Ok.ensures).first
