@@ -21,7 +21,6 @@ SHOWN = [
     ('docs/DESYNC.md', '../../lockstep replay --file battle.replay --map map rules.yaml', BATTLE, 0),
     ('docs/DESYNC.md', DIFFERS, BATTLE, 7),
     ('docs/DESYNC.md', '../../lockstep worlds --file battle.replay --from 1 --to 2 --map map rules.yaml', BATTLE, 0),
-    ('docs/DESYNC.md', './lockstep drill --script examples/alarm.drill', '.', 0),
     ('docs/FORMATS.md', './lockstep drill --script examples/one_frame.drill --record new.replay', '.', 0),
     ('docs/FORMATS.md', './lockstep replay --file examples/one_frame.replay', '.', 0),
     ('docs/FORMATS.md', './lockstep migrate --file examples/one_frame_old.replay --to new.replay', '.', 0),
@@ -37,7 +36,6 @@ SHOWN = [
     ('docs/RULES.md', 'lockstep check --map ../maps/sample.map ../maps/sample.yaml mod.yaml', 'examples/mod', 0),
     ('docs/RULES.md', 'lockstep yaml ../maps/sample.yaml mod.yaml', 'examples/mod', 0),
     ('docs/RULES.md', 'lockstep check ../maps/sample.yaml slip.yaml', 'examples/mod', 3),
-    ('docs/RULES.md', 'lockstep yaml base.yaml units.yaml', 'examples/yaml', 0),
 ]
 
 # What DESYNC has another machine do, whose program has another line in this file of the source.
