@@ -133,7 +133,7 @@ length-columns zero = refl
 length-columns (suc n) = ap suc (length-columns n)
 
 -- There is one column for each client.
-length_columns :
+pub length_columns :
     {W : Type 0} (m : Match W) (events : List Event) (i : ℕ) → length (record_after m events i).columns ≡ m.clients
 length_columns m events i =
     by_events m events (λ j progress. length progress.columns ≡ m.clients) (length-columns m.clients)

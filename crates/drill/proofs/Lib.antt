@@ -13,4 +13,5 @@ pub mod GrownLemmas
 pub mod DraftLemmas
 pub mod MadeLemmas
 pub mod DepartureLemmas
+pub mod ToldLemmas
 pub mod FirstReportLemmas

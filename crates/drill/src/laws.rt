@@ -44,11 +44,15 @@ pub fn plays_were_sealed<S: Sim>()
 {}
 
 /// A law of the record: a client's departure stands in its column only if an event dropped the
-/// client, or an event sent its farewell and a later one handed that up.
+/// client, or an event sent its farewell and a later one handed that up. And whenever one did so of
+/// a client of the match, its departure stands there from then on.
 pub fn departures_were_told<S: Sim>()
-    ensures { (m : Match S) (events : List Event) (i c : ℕ) →
+    ensures only { (m : Match S) (events : List Event) (i c : ℕ) →
         (column_of (record_after m events i).columns c).left ≡ true →
         WasDropped m events i c ⊎ SaidFarewell m events i c }
+    ensures whenever { (m : Match S) (events : List Event) (i c : ℕ) → c < m.clients →
+        WasDropped m events i c ⊎ SaidFarewell m events i c →
+        (column_of (record_after m events i).columns c).left ≡ true }
 {}
 
 /// A law of the record: the report that is kept of a client for a frame is the first of them that
