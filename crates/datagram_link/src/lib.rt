@@ -32,8 +32,6 @@ mod post;
 mod reading;
 mod receiver;
 mod sender;
-#[cfg(test)]
-mod tests;
 mod turn;
 mod turn_fault;
 mod window;
