@@ -1,22 +1,22 @@
 -- A script that is run line by line has the text of its schedule.
-use Rattle.std.proofs.Common.{◌≡◌, ℕ, ◌+◌, List, [], ◌∷◌, ◌++◌, length, Result, Ok, Err, refl, sym, ap}
-use Rattle.std.proofs.Common.{ap₂, ◌∙◌, append_assoc, arith, ⊎_elim, inl, inr}
+use Rattle.std.proofs.Common.{◌≡◌, ℕ, ◌+◌, List, [], ◌∷◌, ◌++◌, Result, Ok, Err, refl, sym, ap}
+use Rattle.std.proofs.Common.{◌∙◌, append_assoc, inl, inr}
 use Rattle.base.specs.Steps.{◌>>=◌, IsFault}
-use Rattle.datagram_link.specs.Sender.{offered_count}
 use Rattle.datagram_schedule.specs.declared.event.Event.{Event}
 use Rattle.datagram_schedule.specs.declared.outcome.Outcome.{Outcome}
 use Rattle.datagram_schedule.specs.Exchange.{ExchangeState, nothing_exchanged, exchange_outcome}
 use Rattle.datagram_schedule.specs.Exchange.{after_exchange}
 use Rattle.datagram_schedule.specs.Schedule.{Schedule, nothing_scheduled, outcome_of, after_event}
-use Rattle.datagram_schedule.specs.Schedule.{scheduled, in_order, delivered}
+use Rattle.datagram_schedule.specs.Schedule.{scheduled}
 use Rattle.datagram_schedule.specs.Follows.{Follows}
 use Rattle.datagram_schedule.specs.NumberLemmas.{order_is}
 use Rattle.datagram_schedule.specs.SendingLemmas.{counts, follows_start}
 use Rattle.datagram_schedule.specs.FollowsLemmas.{follows_event, ready_is}
 use Rattle.drill_words.specs.declared.drill_fault.DrillFault.{DrillFault}
+use Rattle.drill_words.specs.declared.drill_fault.DrillFault.TheVariants.{NoMemory}
 use Rattle.drill_words.specs.KeptLine.{KeptLine, kept_lines}
 use Rattle.datagrams_command.specs.Script.{event_on, events_from, schedule_of}
-use Rattle.datagrams_command.specs.Text.{outcome_line, event_lines, got_lines, last_lines}
+use Rattle.datagrams_command.specs.Text.{outcome_line, event_lines}
 use Rattle.datagrams_command.specs.Text.{closing_lines, schedule_text}
 use Rattle.datagrams_command.specs.Run.{run_one, run_from, exchange_closing, closed}
 use Rattle.datagrams_command.specs.Datagrams.{script_text}
@@ -130,3 +130,29 @@ pub run_failed :
     (bytes : List ℕ) (fault : DrillFault) →
     run_from 0 nothing_exchanged [] (kept_lines bytes) ≡ Err fault → script_text bytes ≡ Err fault
 run_failed bytes fault ran = sym (run_all bytes) ∙ ap closed ran
+
+-- ---- a run from what is nothing yet
+
+start_is :
+    (bytes text : List ℕ) (x : ExchangeState) (lines : List KeptLine) → x ≡ nothing_exchanged →
+    text ≡ [] → lines ≡ kept_lines bytes →
+    run_from 0 x text lines ≡ run_from 0 nothing_exchanged [] (kept_lines bytes)
+start_is bytes text x lines none empty all = rw (none, empty, all) refl
+
+-- It came to its end.
+pub run_done :
+    (bytes text : List ℕ) (x : ExchangeState) (lines : List KeptLine) (after : ExchangeState)
+    (next all : List ℕ) → x ≡ nothing_exchanged → text ≡ [] → lines ≡ kept_lines bytes →
+    run_from 0 x text lines ≡ Ok (after, next) → all ≡ next ++ exchange_closing after →
+    script_text bytes ≡ Ok all
+run_done bytes text x lines after next all none empty kept ran is =
+    run_text bytes next all after (sym (start_is bytes text x lines none empty kept) ∙ ran) is
+
+-- It came to a fault.
+pub run_stopped :
+    (bytes text : List ℕ) (x : ExchangeState) (lines : List KeptLine) (fault : DrillFault) →
+    x ≡ nothing_exchanged → text ≡ [] → lines ≡ kept_lines bytes →
+    IsFault NoMemory fault (run_from 0 x text lines) → IsFault NoMemory fault (script_text bytes)
+run_stopped bytes text x lines fault none empty kept (inl memory) = inl memory
+run_stopped bytes text x lines fault none empty kept (inr ran) =
+    inr (run_failed bytes fault (sym (start_is bytes text x lines none empty kept) ∙ ran))

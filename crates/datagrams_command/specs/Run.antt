@@ -1,5 +1,5 @@
 -- A script that is run line by line by an exchange.
-use Rattle.std.specs.Prelude.{ℕ, ◌+◌, List, [], ◌∷◌, ◌++◌, Result, Ok, Err}
+use Rattle.std.specs.Prelude.{ℕ, ◌+◌, List, [], ◌∷◌, ◌++◌, Result, Ok}
 use Rattle.base.specs.Steps.{◌>>=◌}
 use Rattle.datagram_link.specs.Sender.{offered_count}
 use Rattle.datagram_schedule.specs.Exchange.{ExchangeState, exchange_outcome, after_exchange}
