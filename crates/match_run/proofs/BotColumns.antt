@@ -15,8 +15,8 @@ use Rattle.drill_words.specs.Scripts.{plays_of}
 use Rattle.frame_table.specs.declared.pass.Pass.{Pass}
 use Rattle.frame_table.specs.declared.table.FrameTable.{FrameTable}
 use Rattle.frame_table.specs.Calls.{plan_of, view_of, standing, IsPassOf}
-use Rattle.match_run.specs.Local.{script_column, script_columns, frames_of, IsAll, IsFilled}
-use Rattle.match_run.specs.Bots.{BotMatch, bot_entries, world_after, bot_plays, bot_column, match_columns, IsPlayed}
+use Rattle.match_run.specs.Local.{script_column, script_columns, frames_of, world_of, IsAll, IsFilled}
+use Rattle.match_run.specs.Bots.{BotMatch, bot_entries, world_after, bot_plays, bot_column, match_columns, match_world, IsPlayed}
 
 get_range : {X : Type 0} (f : ℕ → X) (a n i : ℕ) → i < n → slice_get (map f (range_with_len a n)) i ≡ Some (f (a + i))
 get_range f a zero i below = absurd (omega arith)
@@ -77,6 +77,9 @@ module _ {W : Type 0} (m : BotMatch W) where
   pub world_is : (n : ℕ) → n ≤ frames_of m.scripts → world_at m.after m.start (match_columns m) n ≡ world_after m n
   world_is zero within = refl
   world_is (suc n) within = ap₂ m.after (world_is n (omega arith)) (frame_is n (omega arith))
+
+  pub end_world : world_after m (frames_of m.scripts) ≡ match_world m
+  end_world = sym (world_is (frames_of m.scripts) (omega arith))
 
   columns_long : length (match_columns m) ≡ length m.scripts + m.bots
   columns_long =
@@ -142,6 +145,12 @@ module _ {W : Type 0} (m : BotMatch W) where
 -- Without bots.
 pub no_bots : {W : Type 0} (m : BotMatch W) → m.bots ≡ 0 → match_columns m ≡ script_columns m.scripts
 no_bots m none = ap (λ (k : ℕ). script_columns m.scripts ++ map (bot_column m) (range_with_len (length m.scripts) k)) none ∙ append-nil (script_columns m.scripts)
+
+pub filled_alone : {W : Type 0} (m : BotMatch W) (table : FrameTable) (pass : Pass) → m.bots ≡ 0 → IsFilled (match_columns m) table pass → IsFilled (script_columns m.scripts) table pass
+filled_alone m table pass none so = subst (λ (l : List Column). IsFilled l table pass) (no_bots m none) so
+
+pub world_alone : {W : Type 0} (m : BotMatch W) → m.bots ≡ 0 → match_world m ≡ world_of m.after m.start m.scripts
+world_alone m none = ap (λ (l : List Column). world_at m.after m.start l (frames_of m.scripts)) (no_bots m none)
 
 -- What holds of a value that a call gives.
 pub if_ok : {T E : Type 0} (r : Result T E) (P Q : T → Type 0) → ((x : T) → P x → Q x) → IfOk r P → IfOk r Q

@@ -213,6 +213,17 @@ module _ (scripts : Scripts) (table : FrameTable) (start p q : Pass) (c n : ℕ)
         λ d apart. ap (λ (r : Part). r.made) (acted.others.2 d apart) ∙ played.others d apart,
       )
 
+-- Passes that were lent as a slice.
+pub all_lent : (scripts : Scripts) (table : FrameTable) (n : ℕ) (xs ys : List ClientPass) → length xs ≡ n → All (λ f. IsClientPass scripts table f) xs → All (λ f. IsClientPass scripts table f) (take n (xs ++ ys))
+all_lent scripts table n xs ys long all = subst (All (λ f. IsClientPass scripts table f)) (sym (front n xs ys long)) all
+  where
+    front : (k : ℕ) (us vs : List ClientPass) → length us ≡ k → take k (us ++ vs) ≡ us
+    front zero [] [] is = refl
+    front zero [] (v ∷ vs) is = refl
+    front zero (u ∷ us) vs is = absurd (omega arith)
+    front (suc k) [] vs is = absurd (omega arith)
+    front (suc k) (u ∷ us) vs is = ap (λ (l : List ClientPass). u ∷ l) (front k us vs (omega arith))
+
 -- The shares of passes.
 pub shares_same : (xs ys : List ClientPass) → length ys ≡ length xs → ((i : ℕ) (d : ClientPass) → i < length xs → (view_of (get_or ys i d).pass).share ≡ (view_of (get_or xs i d).pass).share) → shares_of ys ≡ shares_of xs
 shares_same [] [] long same = refl

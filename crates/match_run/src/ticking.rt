@@ -58,29 +58,31 @@ pub(crate) fn tick_all<S: Sim, B: Bots<S>, R: Wait>(
     ensures all { OnOk result ((c : ℕ) → c < length scripts.now →
         IsAll (standing pass.new c) (script_column (plays_of scripts.now c))) }
     ensures bots { OnOk result (HasEndedAll (length scripts.now) table.now
-        (bot_column (record { after = S.after; orders = B.orders_of bots.now; start = sim.old;
-        scripts = scripts.now; bots = count })) pass.new) }
-    ensures world { OnOk result (IsStepped (record { after = S.after;
-        orders = B.orders_of bots.now; start = sim.old; scripts = scripts.now; bots = count })
+        (bot_column (record {
+          after = S.after;
+          orders = B.orders_of bots.now;
+          start = sim.old;
+          scripts = scripts.now;
+          bots = count;
+        })) pass.new) }
+    ensures world { OnOk result (IsStepped (record {
+      after = S.after;
+      orders = B.orders_of bots.now;
+      start = sim.old;
+      scripts = scripts.now;
+      bots = count;
+    })
         S.clients_of S.steps sim.new (frames_of scripts.now)) }
 {
-    let mut taken = nothing_taken(alloc, scripts)?;
+    let mut held = nothing_taken(alloc, scripts)?;
+    let taken = held.as_mut_slice();
     let mut ordered = Frame::empty();
     let mut frame = Frame::empty();
     let frames = frames_of(scripts);
     for n in 0..frames {
         put_plays(rt, table, scripts, bots, count, sim, pass, n, &mut ordered)?;
-        take_frame(
-            rt,
-            alloc,
-            table,
-            scripts,
-            out_of_memory,
-            pass,
-            n,
-            taken.as_mut_slice(),
-        )?;
-        tick(scripts, taken.as_slice(), n, &ordered, &mut frame, sim);
+        take_frame(rt, alloc, table, scripts, out_of_memory, pass, n, taken)?;
+        tick(scripts, taken, n, &ordered, &mut frame, sim);
     }
     leave_all(rt, table, scripts, count, pass);
     await_end(rt, table, scripts, out_of_memory, pass, frames)

@@ -1,5 +1,5 @@
 use Rattle.std.proofs.Common.{◌≡◌, ◌+◌, ◌-◌, ◌≤◌, ◌^◌, arith, subst, length}
-use Rattle.match_run.proofs.Splitting.{power_more, others_feed, unused_fed, unused_clients}
+use Rattle.match_run.proofs.Splitting.{power_more, others_feed, unused_long, unused_fed, unused_clients}
 use Rattle.match_run.proofs.running.begin.Goals as goal
 
 pub split_passes-requires-2-clause-share : goal.split_passes-requires-2-clause-share
@@ -15,11 +15,12 @@ pub returns-clause-fed : goal.returns-clause-fed
 returns-clause-fed c =
     let made = c.in_ok-table.ensures in
     let first = c.clients-clients.ensures.value in
+    let long = unused_long _ _ _ _ made.plan made.pass in
     unused_fed _ _ _ _ made.plan c.join_unused.ensures.unused
     (λ d past below.
     let rights = made.rights in
     let left = c.in_ok-feeding.ensures.rights in
-    c.join_unused.ensures.feeds d below (others_feed _ _ d (omega arith) (c.in_ok-feeding.ensures.feeds d (made.feeds d past (omega arith)))))
+    c.join_unused.ensures.feeds d below (others_feed c.split_passes.new.pass c.in_ok-feeding.feeding.items d (omega arith) (c.in_ok-feeding.ensures.feeds d (made.feeds d past (omega arith)))))
 
 pub returns-clause-passes : goal.returns-clause-passes
 returns-clause-passes c =

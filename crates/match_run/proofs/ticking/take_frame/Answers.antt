@@ -7,7 +7,7 @@ use Rattle.match_run.proofs.ticking.take_frame.Goals as goal
 pub loop-turn-preserved-in-Continue-1 : goal.loop-turn-preserved-in-Continue-1
 loop-turn-preserved-in-Continue-1 g c =
     let far = c.loop-turn.invariant in
-    let took = c.in_ok-take_more.ensures in (
+    let took = c.in_ok-take_more-in-Yes.ensures in (
       record { local = c.take_more.ensures.pass; knows = took.knows; share = c.take_more.ensures.share ∙ c.ready.ensures.later.share ∙ far.0.share },
       took.taken,
       λ plays fed. took.fed plays (later_fed_all (length c.args.scripts.now) c.args.table.now plays c.loop-turn.pass c.ready.new.pass c.ready.ensures.later (far.2 plays fed)),
