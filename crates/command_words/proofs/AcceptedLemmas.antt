@@ -18,7 +18,7 @@ use Rattle.clap.specs.declared.error.kind.ErrorKind.TheVariants.{MissingRequired
 use Rattle.clap.proofs.SimpleLemmas.{is_nil}
 use Rattle.clap.proofs.WalkLemmas.{both}
 use Rattle.world_units.specs.declared.cell.CPos.{CPos}
-use Rattle.command_words.specs.RequestPlain.{Check, Compare, Continue, Datagrams, Drill, Local, Make, Migrate, Replay, RequestPlain, Route, Save, Serve, View, Worlds, Yaml}
+use Rattle.command_words.specs.RequestPlain.{Check, Compare, Continue, Datagrams, Drill, Local, Make, Migrate, Replay, RequestPlain, Save, Serve, View, Worlds, Yaml}
 use Rattle.command_words.specs.Player.{PlayerPlain, Script, Bot}
 use Rattle.command_words.specs.Commands.{option_named, required_option, flag_named, number_option, required_number, bare_app, lockstep_app}
 use Rattle.command_words.specs.Reading.{is_accepted, command_request, names_in, cell_in, number_of, number_in, up_to, count_in, count_or, from_one, step_or, at_most, bots_in, match_in, local_in, play_in, serve_in, migrate_in, route_in, save_in, continue_in, view_in, range_in, worlds_in, compare_in, has_flag, player_of, player_in, played_by, found_request, request_of, NamesRefused, CellRefused, PlayerRefused}
@@ -484,24 +484,28 @@ AllAsk (s ∷ shapes) = AsksBy s × AllAsk shapes
 asks_by : (command : Text) (rules : List Rule) → AllWant rules rules → Shortless rules → GivesRequest command rules → AsksBy (shape_with command rules)
 asks_by command rules all shortless gives words quiet = gives (rows_after rules [] words) (rows_found command rules words all shortless quiet)
 
+-- One more of them.
+also : {A B : Type 0} → A → B → A × B
+also a b = (a, b)
+
 all_ask : AllAsk command_shapes
 all_ask =
-    (asks_by (codes "drill") drill_shape.rules ((refl, refl), ((refl, refl), ((refl, refl), ((refl, refl), tt)))) (λ x. refl) drill_request,
-    (asks_by (codes "yaml") (names_rules false) ((refl, refl), tt) (λ x. refl) yaml_request,
-    (asks_by (codes "check") (names_rules true) ((refl, refl), ((refl, refl), tt)) (λ x. refl) check_request,
-    (asks_by (codes "route") route_shape.rules ((refl, refl), ((refl, refl), ((refl, refl), ((refl, refl), ((refl, refl), tt))))) (λ x. refl) route_request,
-    (asks_by (codes "make") make_shape.rules ((refl, refl), tt) (λ x. refl) make_request,
-    (asks_by (codes "local") local_shape.rules ((refl, refl), ((refl, refl), ((refl, refl), ((refl, refl), tt)))) (λ x. refl) local_request,
-    (asks_by (codes "serve") serve_shape.rules ((refl, refl), ((refl, refl), ((refl, refl), ((refl, refl), ((refl, refl), ((refl, refl), tt)))))) (λ x. refl) serve_request,
-    (asks_by (codes "play") play_shape.rules ((refl, refl), ((refl, refl), ((refl, refl), ((refl, refl), ((refl, refl), ((refl, refl), tt)))))) (λ x. refl) play_request,
-    (asks_by (codes "replay") replay_shape.rules ((refl, refl), ((refl, refl), ((refl, refl), tt))) (λ x. refl) replay_request,
-    (asks_by (codes "migrate") migrate_shape.rules ((refl, refl), ((refl, refl), ((refl, refl), ((refl, refl), tt)))) (λ x. refl) migrate_request,
-    (asks_by (codes "save") save_shape.rules ((refl, refl), ((refl, refl), ((refl, refl), ((refl, refl), ((refl, refl), tt))))) (λ x. refl) save_request,
-    (asks_by (codes "continue") continue_shape.rules ((refl, refl), ((refl, refl), ((refl, refl), ((refl, refl), tt)))) (λ x. refl) continue_request,
-    (asks_by (codes "view") view_shape.rules ((refl, refl), ((refl, refl), ((refl, refl), ((refl, refl), tt)))) (λ x. refl) view_request,
-    (asks_by (codes "worlds") worlds_shape.rules ((refl, refl), ((refl, refl), ((refl, refl), ((refl, refl), ((refl, refl), ((refl, refl), tt)))))) (λ x. refl) worlds_request,
-    (asks_by (codes "compare") compare_shape.rules ((refl, refl), ((refl, refl), ((refl, refl), ((refl, refl), tt)))) (λ x. refl) compare_request,
-    (asks_by (codes "datagrams") datagrams_shape.rules ((refl, refl), tt) (λ x. refl) datagrams_request, tt))))))))))))))))
+    also (asks_by (codes "drill") drill_shape.rules ((refl, refl), ((refl, refl), ((refl, refl), ((refl, refl), tt)))) (λ x. refl) drill_request)
+    (also (asks_by (codes "yaml") (names_rules false) ((refl, refl), tt) (λ x. refl) yaml_request)
+    (also (asks_by (codes "check") (names_rules true) ((refl, refl), ((refl, refl), tt)) (λ x. refl) check_request)
+    (also (asks_by (codes "route") route_shape.rules ((refl, refl), ((refl, refl), ((refl, refl), ((refl, refl), ((refl, refl), tt))))) (λ x. refl) route_request)
+    (also (asks_by (codes "make") make_shape.rules ((refl, refl), tt) (λ x. refl) make_request)
+    (also (asks_by (codes "local") local_shape.rules ((refl, refl), ((refl, refl), ((refl, refl), ((refl, refl), tt)))) (λ x. refl) local_request)
+    (also (asks_by (codes "serve") serve_shape.rules ((refl, refl), ((refl, refl), ((refl, refl), ((refl, refl), ((refl, refl), ((refl, refl), tt)))))) (λ x. refl) serve_request)
+    (also (asks_by (codes "play") play_shape.rules ((refl, refl), ((refl, refl), ((refl, refl), ((refl, refl), ((refl, refl), ((refl, refl), tt)))))) (λ x. refl) play_request)
+    (also (asks_by (codes "replay") replay_shape.rules ((refl, refl), ((refl, refl), ((refl, refl), tt))) (λ x. refl) replay_request)
+    (also (asks_by (codes "migrate") migrate_shape.rules ((refl, refl), ((refl, refl), ((refl, refl), ((refl, refl), tt)))) (λ x. refl) migrate_request)
+    (also (asks_by (codes "save") save_shape.rules ((refl, refl), ((refl, refl), ((refl, refl), ((refl, refl), ((refl, refl), tt))))) (λ x. refl) save_request)
+    (also (asks_by (codes "continue") continue_shape.rules ((refl, refl), ((refl, refl), ((refl, refl), ((refl, refl), tt)))) (λ x. refl) continue_request)
+    (also (asks_by (codes "view") view_shape.rules ((refl, refl), ((refl, refl), ((refl, refl), ((refl, refl), tt)))) (λ x. refl) view_request)
+    (also (asks_by (codes "worlds") worlds_shape.rules ((refl, refl), ((refl, refl), ((refl, refl), ((refl, refl), ((refl, refl), ((refl, refl), tt)))))) (λ x. refl) worlds_request)
+    (also (asks_by (codes "compare") compare_shape.rules ((refl, refl), ((refl, refl), ((refl, refl), ((refl, refl), tt)))) (λ x. refl) compare_request)
+    (also (asks_by (codes "datagrams") datagrams_shape.rules ((refl, refl), tt) (λ x. refl) datagrams_request) tt)))))))))))))))
 
 -- The command of this name, of some commands.
 abbrev command_at : Text → List Shape → Option Shape

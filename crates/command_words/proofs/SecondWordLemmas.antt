@@ -17,7 +17,7 @@ use Rattle.clap.proofs.SimpleLemmas.{is_nil}
 use Rattle.clap.proofs.WalkLemmas.{both, walk_stopped}
 use Rattle.command_words.specs.CommandNames.{command_of}
 use Rattle.command_words.specs.Commands.{lockstep_app}
-use Rattle.command_words.specs.RequestPlain.{RequestPlain, Drill, Yaml, Check, Route, Make, Local, Serve, Play, Replay, Migrate, Save, Continue, View, Worlds, Compare, Datagrams, PlayBot}
+use Rattle.command_words.specs.RequestPlain.{RequestPlain, Drill, Yaml, Check, Route, Make, Local, Serve, Replay, Migrate, Save, Continue, View, Worlds, Compare, Datagrams, PlayBot}
 use Rattle.command_words.specs.Player.{PlayerPlain, Script, Bot}
 use Rattle.game_orders.specs.declared.limits.TheConstants.{MAX_FRAMES}
 use Rattle.command_words.specs.Reading.{at_most, player_in, played_by, is_accepted, command_request, names_in, number_in, bots_in, match_in, local_in, play_in, serve_in, migrate_in, route_in, save_in, continue_in, view_in, range_in, worlds_in, compare_in, found_request, request_of}

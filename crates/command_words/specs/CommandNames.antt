@@ -2,7 +2,8 @@
 use Rattle.std.specs.Prelude.{List, ℕ, codes}
 use Rattle.command_words.specs.RequestPlain.{RequestPlain, Drill, Yaml, Check, Route, Make}
 use Rattle.command_words.specs.RequestPlain.{Local, Serve, Play, Replay, Migrate}
-use Rattle.command_words.specs.RequestPlain.{Save, Continue, View, Worlds, Compare, Datagrams, PlayBot}
+use Rattle.command_words.specs.RequestPlain.{Save, Continue, View, Worlds, Compare}
+use Rattle.command_words.specs.RequestPlain.{Datagrams, PlayBot}
 
 -- The command of a request.
 abbrev pub command_of : RequestPlain → List ℕ

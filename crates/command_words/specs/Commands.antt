@@ -124,9 +124,9 @@ manned_app =
     (with_rule dialed_app (flag_named (codes "bot")))
     (number_option (codes "frames") 0 MAX_FRAMES)
 
--- `play --at ADDRESS --script FILE --bot --frames N --map FILE RULES`, where all but the address may
--- be left out. That `--script` stands alone, or `--bot` and `--frames` without it, is tested beside
--- `clap`.
+-- `play --at ADDRESS --script FILE --bot --frames N --map FILE RULES`, where all but the address
+-- may be left out. That `--script` stands alone, or `--bot` and `--frames` without it, is tested
+-- beside `clap`.
 unfoldable pub play_app : App
 play_app = with_rule (with_rule manned_app (option_named (codes "map"))) file_names
 

@@ -1,7 +1,7 @@
 -- The request that the words of a command line name.
 use Rattle.std.specs.Prelude.{◌≡◌, ◌⊎◌, ℕ, ◌&&◌, ◌==◌, Bool, true, not, nat_le}
-use Rattle.std.specs.Prelude.{if◌then◌else◌, List, [], ◌∷◌, length, Option, None, Some, codes, false}
-use Rattle.std.specs.Prelude.{option_map, option_and_then, unwrap_or}
+use Rattle.std.specs.Prelude.{if◌then◌else◌, List, [], ◌∷◌, length, Option, None, Some, codes}
+use Rattle.std.specs.Prelude.{false, option_map, option_and_then, unwrap_or}
 use Rattle.std.specs.Option.{IsSomeAnd, option_map_or}
 use Rattle.std.specs.Str.{bytes_eq}
 use Rattle.std.specs.Str.Parse.{digits_value, without_leading_plus}
@@ -17,7 +17,8 @@ use Rattle.rule_values.specs.Cells.{cell_of}
 use Rattle.world_units.specs.declared.cell.CPos.{CPos}
 use Rattle.command_words.specs.RequestPlain.{RequestPlain, Drill, Yaml, Check, Route, Make}
 use Rattle.command_words.specs.RequestPlain.{Local, Serve, Play, Replay, Migrate}
-use Rattle.command_words.specs.RequestPlain.{Save, Continue, View, Worlds, Compare, Datagrams, PlayBot}
+use Rattle.command_words.specs.RequestPlain.{Save, Continue, View, Worlds, Compare}
+use Rattle.command_words.specs.RequestPlain.{Datagrams, PlayBot}
 use Rattle.command_words.specs.RequestPlain.{MatchPlain, RoutePlain, ServePlain, RangePlain}
 use Rattle.command_words.specs.Commands.{lockstep_app}
 use Rattle.command_words.specs.Player.{PlayerPlain, Script, Bot}
@@ -273,7 +274,8 @@ found_request = option_and_then (λ command. command_request command.0 command.1
 
 -- The request that the words name; the first of them is the program's name. Words name none where
 -- `clap`'s definition of the command line does not accept them, where the number of positional
--- arguments is not allowed, where a cell of `route` is none, and where `play` has no player, or two.
+-- arguments is not allowed, where a cell of `route` is none, and where `play` has no player, or
+-- two.
 unfoldable pub request_of : List Text → Option RequestPlain
 request_of words =
     if is_accepted words then found_request (subcommand_of lockstep_app words) else None
@@ -310,8 +312,8 @@ CellRefused (Some command) =
     (command.0 ≡ codes "route")
     × ((cell_in (codes "from") command.1 ≡ None) ⊎ (cell_in (codes "to") command.1 ≡ None))
 
--- The command is `play`, and neither does `--script` stand alone, nor `--bot` and `--frames` without
--- it.
+-- The command is `play`, and neither does `--script` stand alone, nor `--bot` and `--frames`
+-- without it.
 abbrev pub PlayerRefused : Option (Text × List Row) → Type 0
 PlayerRefused None = ⊥
 PlayerRefused (Some command) = (command.0 ≡ codes "play") × (player_in command.1 ≡ None)

@@ -145,7 +145,8 @@ HasFewFiles query = length query.rules ≤ MAX_FILES
 abbrev pub IsCount : ℕ → Type 0
 IsCount clients = (1 ≤ clients) × (clients ≤ MAX_CLIENTS)
 
--- The request has at most `MAX_FILES` positional arguments, and its numbers are within their bounds.
+-- The request has at most `MAX_FILES` positional arguments, and its numbers are within their
+-- bounds.
 abbrev pub IsWithinBounds : Request → Type 0
 IsWithinBounds (request.Drill query recorded) = HasFewFiles query
 IsWithinBounds (request.Yaml files) = length files ≤ MAX_FILES

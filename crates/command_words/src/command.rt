@@ -14,8 +14,8 @@ ghost use Rattle.command_words.specs.Follows.{Follows};
 ghost use Rattle.clap.specs.Simple.{app_of};
 ghost use Rattle.clap.specs.Walk.{rule_of};
 
-use base::NoMemory;
 use crate::MAX_BOTS;
+use base::NoMemory;
 use clap::builder::ValueParser;
 use clap::{Arg, ArgAction, Command};
 use game_orders::{MAX_CLIENTS, MAX_FRAMES, MAX_LAG};

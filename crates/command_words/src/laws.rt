@@ -156,14 +156,10 @@ pub fn play_after_equals()
         ≡ Some (Play (match_alone script) at) }
 {}
 
-/// A law of the definition: `play --bot --frames=N --at=ADDRESS` names the server's address, whatever
-/// it is, and N, the greatest number here. A bot and a script together are refused, and so is a bot
-/// without a number of frames.
-#[tactic(auto, using(
-    crate::proofs::LiteralLemmas::play_by_a_bot,
-    crate::proofs::LiteralLemmas::play_by_both,
-    crate::proofs::LiteralLemmas::play_without_frames,
-))]
+/// A law of the definition: `play --bot --frames=N --at=ADDRESS` names the server's address,
+/// whatever it is, and N, the greatest number here. A bot and a script together are refused, and so
+/// is a bot without a number of frames.
+#[tactic(auto, using(crate::proofs::LiteralLemmas::play_by_a_bot, crate::proofs::LiteralLemmas::play_by_both, crate::proofs::LiteralLemmas::play_without_frames,))]
 pub fn play_by_a_bot()
     ensures bot { (program at : List ℕ) →
         request_of (program ∷ codes "play" ∷ codes "--bot" ∷ codes "--frames=262144"
@@ -270,8 +266,8 @@ pub fn check_names()
 {}
 
 /// A law of the definition: words that `clap` accepts name a request, unless a command that takes
-/// positional arguments has too many of them, or too few, or a cell of `route` is none, or `play` has
-/// no player, or two.
+/// positional arguments has too many of them, or too few, or a cell of `route` is none, or `play`
+/// has no player, or two.
 #[tactic(auto, using(crate::proofs::AcceptedLemmas::accepted_request))]
 pub fn accepted_words_name_a_request()
     ensures { (words : List (List ℕ)) → is_accepted words ≡ true →

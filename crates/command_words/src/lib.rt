@@ -24,11 +24,10 @@ pub use file_names::FileNames;
 pub use laws::{
     accepted_words_name_a_request, check_names, command_comes_second, compare_after_equals,
     continue_after_equals, datagrams_after_equals, local_after_equals, local_with_bots,
-    make_of_a_number, map_after_equals, migrated_files_after_equals, no_command,
-    play_after_equals, play_by_a_bot, record_after_equals,
-    replay_after_equals, route_with_options, save_with_options, script_after_equals,
-    script_in_a_word, serve_with_options, serve_without_options, view_of_a_client,
-    worlds_with_options, worlds_without_options, yaml_names,
+    make_of_a_number, map_after_equals, migrated_files_after_equals, no_command, play_after_equals,
+    play_by_a_bot, record_after_equals, replay_after_equals, route_with_options, save_with_options,
+    script_after_equals, script_in_a_word, serve_with_options, serve_without_options,
+    view_of_a_client, worlds_with_options, worlds_without_options, yaml_names,
 };
 pub use match_query::MatchQuery;
 pub use reading::read_words;

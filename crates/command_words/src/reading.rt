@@ -211,7 +211,8 @@ fn played_by<'a>(
 ) -> Option<Request<'a>>
     requires { length rules ≤ MAX_FILES }
     ensures request { option_map plain_of result
-        ≡ played_by at.entry.now (plain_name map_file.entry) rules.entry (plain_player player.entry) }
+        ≡ played_by at.entry.now (plain_name map_file.entry) rules.entry
+        (plain_player player.entry) }
     ensures bounds { IfSome result IsWithinBounds }
 {
     match player {

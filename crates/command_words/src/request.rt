@@ -64,8 +64,8 @@ pub enum Request<'a> {
         at: &'a str,
     },
 
-    /// `play --at ADDRESS --bot --frames N --map FILE RULES`: let a bot play over a link to a server,
-    /// over the map and the rules.
+    /// `play --at ADDRESS --bot --frames N --map FILE RULES`: let a bot play over a link to a
+    /// server, over the map and the rules.
     PlayBot(BotQuery<'a>),
 
     /// `replay --file FILE --map FILE RULES`: run the replay that the file holds, over the map and

@@ -1,5 +1,6 @@
 pub mod Grams
 pub mod Reading
+pub mod ReadingLemmas
 pub mod Window
 pub mod WindowLemmas
 pub mod Sender

@@ -1,4 +1,4 @@
-ghost use Rattle.std.specs.Prelude.{◌≡◌, ◌∷◌, [], MatchOption, OnErr, IfOk};
+ghost use Rattle.std.specs.Prelude.{◌≡◌, ◌∷◌, [], length, MatchOption, OnErr, IfOk};
 ghost use Rattle.datagram_link.specs.Receiver.{nothing_arrived, has_arrived, is_too_far};
 ghost use Rattle.datagram_link.specs.Receiver.{arrival_answer, after_arrival};
 
@@ -89,6 +89,7 @@ impl Receiver {
         ensures answer { IfOk result (λ arrived. arrived
             ≡ arrival_answer self.old number payload.now) }
         ensures after { IfOk result (λ _. self.new ≡ after_arrival self.old number payload.now) }
+        ensures places { length self.new.window ≡ WINDOW }
         ensures err { OnErr result (self.new ≡ self.old) }
     {
         if self.has_arrived(number) {

@@ -71,6 +71,7 @@ impl Sender {
         requires { IsPayload payload.now }
         ensures answer { IfOk result (λ offered. offered ≡ offer_answer self.old) }
         ensures after { IfOk result (λ _. self.new ≡ after_offer self.old payload.now) }
+        ensures few { length self.new.waiting ≤ WINDOW }
         ensures err { OnErr result (self.new ≡ self.old) }
     {
         let number = self.offered();

@@ -18,11 +18,6 @@ impl Bots<Game> for GameBots {
     ghost orders_of = { λ bots game c. game_orders game c };
 
     fn orders(&self, sim: &Game, c: u8) -> Result<Orders, NoMemory> {
-        Ok(bot_orders_from(
-            sim.rules(),
-            &sim.head().cash,
-            &GameActors { game: sim },
-            c,
-        ))
+        Ok(bot_orders_from(sim.rules(), &sim.head().cash, &GameActors { game: sim }, c))
     }
 }

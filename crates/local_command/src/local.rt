@@ -98,9 +98,13 @@ fn played_text<M: Maker, B: Bots<M::World>, G: Gate + Sync, R: Threads + Wait + 
 ) -> Result<Vec<u8>, NoMemory>
     requires { length scripts.now + count ≤ MAX_CLIENTS }
     ensures { IfOk result (λ text. text.items
-        ≡ local_lines M.World.hash_of M.World.summary_of (record { after = M.World.after;
-        orders = B.orders_of bots.now; start = M.made maker.now seed (length scripts.now + count);
-        scripts = scripts.now; bots = count })) }
+        ≡ local_lines M.World.hash_of M.World.summary_of (record {
+          after = M.World.after;
+          orders = B.orders_of bots.now;
+          start = M.made maker.now seed (length scripts.now + count);
+          scripts = scripts.now;
+          bots = count;
+        })) }
 {
     let sim = maker.make(alloc, seed, scripts.clients() + count)?;
     let run = run_with_bots(rt, alloc, scripts, sim, bots, count, gate)?;

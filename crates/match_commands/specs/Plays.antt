@@ -22,8 +22,8 @@ use Rattle.link_commands.specs.Plays.{PlaysBy, LinkFailed, IsPlayDone}
 use Rattle.link_commands.specs.SoloScript.{solo_step}
 use Rattle.rule_commands.specs.Numbers.{numbered_setup_step}
 
--- What a player plays by: the rules and the map, their number, and what it plays, a script or what a
--- bot orders.
+-- What a player plays by: the rules and the map, their number, and what it plays, a script or what
+-- a bot orders.
 pub record PlayMeans : Type 0 where
   pub setup : Setup
   pub number : ℕ

@@ -91,8 +91,8 @@ fn play_made<K: Sink, N: Net>(
     }
 }
 
-/// The command `play` by a bot: reads rule files and a map, if one is named, and lets a bot play over
-/// them at the server of its address.
+/// The command `play` by a bot: reads rule files and a map, if one is named, and lets a bot play
+/// over them at the server of its address.
 pub(crate) fn run_bot<D: Disk, K: Sink, N: Net>(
     alloc: Global,
     query: &BotQuery<'_>,

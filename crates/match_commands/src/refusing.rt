@@ -17,8 +17,8 @@ ghost use Rattle.view_command.specs.Views.{no_such_client};
 /// Laws of the commands on replays and saves and of `local`, where their files are accepted: `save`
 /// and `worlds` are refused exactly where the replay has fewer frames than asked for; `continue`
 /// where it is one of another match than the save, else exactly where it has fewer frames than the
-/// save; `view` exactly where the client is none of the replay's; `local` exactly where the script's
-/// clients and the bots are more than a match may have. The call does nothing.
+/// save; `view` exactly where the client is none of the replay's; `local` exactly where the
+/// script's clients and the bots are more than a match may have. The call does nothing.
 pub fn refusals_are_exact()
     ensures save { (query : MatchPlain) (frames : ℕ) (to : List ℕ) (contents : Contents)
         (made : Setup × ℕ) (r : Replay) → Accepts query contents made r →

@@ -74,14 +74,34 @@ pub fn run_with_bots<S: Sim, B: Bots<S>, G: Gate + Sync, R: Threads + Wait + Syn
 ) -> Result<LocalRun<S>, NoMemory>
     requires clients { S.clients_of sim ≡ length scripts.now + count }
     requires fresh { S.steps sim ≡ 0 }
-    ensures filled { IfOk result (λ run. IsFilled (match_columns (record { after = S.after;
-        orders = B.orders_of bots.now; start = sim; scripts = scripts.now; bots = count }))
+    ensures filled { IfOk result (λ run. IsFilled (match_columns (record {
+      after = S.after;
+      orders = B.orders_of bots.now;
+      start = sim;
+      scripts = scripts.now;
+      bots = count;
+    }))
         run.table run.pass) }
-    ensures played { IsPlayed (record { after = S.after; orders = B.orders_of bots.now; start = sim;
-        scripts = scripts.now; bots = count }) (match_columns (record { after = S.after;
-        orders = B.orders_of bots.now; start = sim; scripts = scripts.now; bots = count })) }
-    ensures world { IfOk result (λ run. run.sim ≡ match_world (record { after = S.after;
-        orders = B.orders_of bots.now; start = sim; scripts = scripts.now; bots = count })) }
+    ensures played { IsPlayed (record {
+      after = S.after;
+      orders = B.orders_of bots.now;
+      start = sim;
+      scripts = scripts.now;
+      bots = count;
+    }) (match_columns (record {
+      after = S.after;
+      orders = B.orders_of bots.now;
+      start = sim;
+      scripts = scripts.now;
+      bots = count;
+    })) }
+    ensures world { IfOk result (λ run. run.sim ≡ match_world (record {
+      after = S.after;
+      orders = B.orders_of bots.now;
+      start = sim;
+      scripts = scripts.now;
+      bots = count;
+    })) }
     ensures clients { IfOk result (λ run. S.clients_of run.sim ≡ S.clients_of sim) }
     ensures steps { IfOk result (λ run. S.steps run.sim ≡ frames_of scripts.now) }
 {
@@ -160,10 +180,20 @@ fn run_threads<S: Sim, B: Bots<S>, G: Gate + Sync, R: Threads + Wait + Sync>(
     ensures all { OnOk result ((c : ℕ) → c < length scripts.now →
         IsAll (standing pass.new c) (script_column (plays_of scripts.now c))) }
     ensures bots { OnOk result (HasEndedAll (length scripts.now) table.now
-        (bot_column (record { after = S.after; orders = B.orders_of bots.now; start = sim.old;
-        scripts = scripts.now; bots = count })) pass.new) }
-    ensures world { OnOk result (IsStepped (record { after = S.after;
-        orders = B.orders_of bots.now; start = sim.old; scripts = scripts.now; bots = count })
+        (bot_column (record {
+          after = S.after;
+          orders = B.orders_of bots.now;
+          start = sim.old;
+          scripts = scripts.now;
+          bots = count;
+        })) pass.new) }
+    ensures world { OnOk result (IsStepped (record {
+      after = S.after;
+      orders = B.orders_of bots.now;
+      start = sim.old;
+      scripts = scripts.now;
+      bots = count;
+    })
         S.clients_of S.steps sim.new (frames_of scripts.now)) }
 {
     let out_of_memory = AtomicBool::new(false);

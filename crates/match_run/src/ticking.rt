@@ -58,10 +58,20 @@ pub(crate) fn tick_all<S: Sim, B: Bots<S>, R: Wait>(
     ensures all { OnOk result ((c : ℕ) → c < length scripts.now →
         IsAll (standing pass.new c) (script_column (plays_of scripts.now c))) }
     ensures bots { OnOk result (HasEndedAll (length scripts.now) table.now
-        (bot_column (record { after = S.after; orders = B.orders_of bots.now; start = sim.old;
-        scripts = scripts.now; bots = count })) pass.new) }
-    ensures world { OnOk result (IsStepped (record { after = S.after;
-        orders = B.orders_of bots.now; start = sim.old; scripts = scripts.now; bots = count })
+        (bot_column (record {
+          after = S.after;
+          orders = B.orders_of bots.now;
+          start = sim.old;
+          scripts = scripts.now;
+          bots = count;
+        })) pass.new) }
+    ensures world { OnOk result (IsStepped (record {
+      after = S.after;
+      orders = B.orders_of bots.now;
+      start = sim.old;
+      scripts = scripts.now;
+      bots = count;
+    })
         S.clients_of S.steps sim.new (frames_of scripts.now)) }
 {
     let mut held = nothing_taken(alloc, scripts)?;

@@ -14,7 +14,7 @@ pub loop-n-preserved : goal.loop-n-preserved
 loop-n-preserved g c =
     let far = c.loop-n.invariant in (
       ticked_more _ _ _ _ _ c.loop-n.pass c.put_plays.new.pass c.take_frame.new.pass _ _ _ _ _ _ far.0 c.in_ok-put_plays.ensures.fed c.in_ok-take_frame.ensures.fed c.take_frame.ensures.pass c.in_ok-take_frame.ensures.knows
-      (c.take_frame.ensures.share ∙ c.put_plays.ensures.share ∙ far.0.share) c.in_ok-put_plays.ensures.ordered c.tick.ensures.world c.tick.ensures.clients c.tick.ensures.steps c.in_ok-take_frame.ensures.taken,
+          (c.take_frame.ensures.share ∙ c.put_plays.ensures.share ∙ far.0.share) c.in_ok-put_plays.ensures.ordered c.tick.ensures.world c.tick.ensures.clients c.tick.ensures.steps c.in_ok-take_frame.ensures.taken,
       far.1,
     )
 

@@ -32,3 +32,6 @@ invariant_of-self-2 c =
     c.put_payload-2.ensures.items in
     rw c.move_on-count.ensures.count
     (receiver_moved next places c.move_on-count.new.places.items whole c.move_on-count.ensures.places)
+
+pub returns-clause-places : goal.returns-clause-places
+returns-clause-places c = (invariant_of-self-2 c).places

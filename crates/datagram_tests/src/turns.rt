@@ -1,5 +1,8 @@
 //! Datagrams and their bytes by hand, and turns of an end over a post in memory.
-use super::*;
+use datagram_link::{
+    Datagram, End, GramFault, MemPost, Offered, Post, Receiver, Turn, TurnFault, read_datagram,
+    write_datagram,
+};
 use std::alloc::Global;
 use std::test::Fail;
 
