@@ -224,11 +224,11 @@ def run_all(tally, program, is_long):
         it.of_garbage()
         it.of_net()
         it.of_output()
-        it.matches('one', 'killed', 'ended 20', 'early 3')
+        it.matches('one', 'killed', 'ended 20', 'refused 10', 'early 3')
         if is_long:
             if lacking('pgrep'):
                 tally.skip('tools/tcp_matches/run .. soak', 'no pgrep')
             else:
                 it.matches('soak')
-            it.matches('ended', 'early')
+            it.matches('ended', 'refused', 'early')
         nobody.join()
