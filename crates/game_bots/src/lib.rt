@@ -5,7 +5,7 @@
 //! and no memory is taken.
 #![tactic(auto)]
 
-mod bots;
 mod game_actors;
+mod game_bots;
 
-pub use bots::GameBots;
+pub use game_bots::GameBots;

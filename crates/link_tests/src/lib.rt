@@ -3,7 +3,7 @@
 #![tactic(auto)]
 
 #[cfg(test)]
-mod bots;
+mod bot_players;
 #[cfg(test)]
 mod greetings;
 #[cfg(test)]
