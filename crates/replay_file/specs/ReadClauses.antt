@@ -4,7 +4,6 @@ use Rattle.std.specs.List.{AllByRecursion}
 use Rattle.wire_bytes.specs.Field.{field_bytes}
 use Rattle.game_orders.specs.declared.limits.TheConstants.{MAX_FRAMES}
 use Rattle.replay_file.specs.declared.part.Part.{Part}
-use Rattle.replay_file.specs.declared.part.Part.TheVariants.{Frame, Mark}
 use Rattle.replay_file.specs.declared.replay.Replay.{Replay}
 use Rattle.replay_file.specs.declared.replay_fault.ReplayFault.{ReplayFault}
 use Rattle.replay_file.specs.declared.replay_fault.ReplayFault.TheVariants as cause

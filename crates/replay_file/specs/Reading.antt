@@ -1,5 +1,5 @@
 -- The replay that bytes spell, or their first fault, as one function of the bytes.
-use Rattle.std.specs.Prelude.{◌≡◌, ◌⊎◌, ℕ, zero, suc, ◌+◌, List, [], ◌∷◌, length}
+use Rattle.std.specs.Prelude.{◌≡◌, ℕ, zero, suc, ◌+◌, List, [], ◌∷◌, length}
 use Rattle.std.specs.Prelude.{Option, Some, None, Result, Ok, Err}
 use Rattle.base.specs.Steps.{◌>>=◌, IsFault}
 use Rattle.replay_file.specs.declared.header.Header.{Header}
