@@ -29,6 +29,7 @@ SHOWN = [
     ('docs/FORMATS.md', './lockstep continue --save one_frame.save --file examples/one_frame.replay', '.', 0),
     ('docs/FORMATS.md', './lockstep compare --file examples/battle/battle.replay --with examples/battle/differs.replay --map examples/battle/map examples/battle/rules.yaml', '.', 7),
     ('docs/FORMATS.md', './lockstep view --file examples/scout/scout.replay --client 0 --map examples/scout/map examples/scout/rules.yaml', '.', 0),
+    ('docs/FORMATS.md', './lockstep datagrams --script examples/datagrams.script', '.', 0),
     ('docs/LOCKSTEP.md', './lockstep local --script examples/local.script', '.', 0),
     ('docs/MAPS.md', './lockstep check --map examples/maps/sample.map examples/maps/sample.yaml', '.', 0),
     ('docs/MAPS.md', './lockstep route --map examples/maps/corner.map --kind unit --from 0,1 --to 2,1 examples/maps/walker.yaml', '.', 0),
