@@ -6,12 +6,14 @@ use Rattle.std.proofs.lemmas.Bool.Decides.{eqb_tells}
 use Rattle.base.specs.Steps.{◌>>=◌}
 use Rattle.command_words.specs.RequestPlain.{MatchPlain, RangePlain, Continue, Local, Save, View, Worlds}
 use Rattle.drill_words.specs.declared.drill_fault.DrillFault.{DrillFault}
-use Rattle.drill_words.specs.Script.{ScriptPlain}
+use Rattle.drill_words.specs.Script.{ScriptPlain, read_script_of}
 use Rattle.frame_core.specs.declared.summary.Summary.{Summary}
 use Rattle.game_orders.specs.declared.entry.Entry.{Entry}
 use Rattle.game_orders.specs.declared.order.Order.{Order}
 use Rattle.game_orders.specs.declared.limits.TheConstants.{MAX_CLIENTS}
 use Rattle.local_command.specs.LocalText.{local_step, match_step, script_step, too_many_clients}
+use Rattle.game_bots.specs.GameOrders.{game_orders}
+use Rattle.tick_core.specs.Game.{game_start, game_after, game_hash, game_summary}
 use Rattle.game_model.specs.Setup.{Setup}
 use Rattle.game_model.specs.World.{clients_of}
 use Rattle.game_save.specs.declared.saved.Saved.{Saved}
@@ -189,4 +191,4 @@ pub locals_where :
 locals_where query bots contents setup script accepts =
     at_step _ (text_reply (local_step setup query.file (unwrap_or contents.script []) bots)) _ (too_many_clients query.file)
     (ap (λ (step : Step Setup). text_reply (step >>= λ setup. local_step setup query.file (unwrap_or contents.script []) bots)) accepts.stands)
-    (local_where _ _ _ _ _ query.file bots _ script accepts.reads)
+    (local_where game_after game_hash game_summary game_orders (game_start setup) query.file bots (read_script_of false (unwrap_or contents.script [])) script accepts.reads)

@@ -1,6 +1,8 @@
-use Rattle.std.proofs.Common.{None, refl, arith}
+use Rattle.std.proofs.Common.{None, refl, subst, arith}
 use Rattle.command_words.specs.RequestPlain.{Datagrams}
+use Rattle.command_answers.specs.Answer.{reply_of}
 use Rattle.command_answers.specs.Given.{script_contents}
+use Rattle.command_answers.specs.Stop.{ReturnsStep}
 use Rattle.command_answers.specs.WantedFiles.{no_files, with_script}
 use Rattle.datagrams_command.specs.Datagrams.{datagrams_step}
 use Rattle.match_commands.proofs.AnswerLemmas.{answer_printed}
@@ -21,7 +23,9 @@ returns-in-Ok g c =
     all_given (Datagrams script) (with_script script no_files) contents c.print_answer.result d d' s s' refl
     (omega (arith, c.in-Ok.ensures.later, c.print_answer.ensures.disk)) c.print_answer.ensures.later c.in-Ok.ensures.told c.in-Ok.ensures.untold
     (answer_printed None c.datagrams_answer.result (datagrams_step script c.in-Ok.given.1.items) c.print_answer.result d d1 d' s s' c.in-Ok.ensures.files c.in-Ok.ensures.later
-    (datagrams_fit script c.in-Ok.given.1.items) c.datagrams_answer.ensures c.print_answer.ensures.answers)
+    (datagrams_fit script c.in-Ok.given.1.items)
+    (subst (λ bytes. ReturnsStep c.datagrams_answer.result reply_of (datagrams_step script bytes)) c.deref.ensures.value c.datagrams_answer.ensures)
+    c.print_answer.ensures.answers)
 
 -- It was not.
 pub returns-in-Err : goal.returns-in-Err

@@ -5,6 +5,7 @@ use Rattle.command_answers.specs.WantedFiles.{rules_and_map}
 use Rattle.link_commands.specs.Links.{with_links}
 use Rattle.link_commands.specs.LinkLemmas.{linked_given, linked_stopped}
 use Rattle.link_commands.specs.Plays.{LinkFailed, IsPlayDone}
+use Rattle.rule_commands.specs.Numbers.{numbered_setup_step}
 use Rattle.match_commands.specs.Plays.{bot_means, bot_step, PlaysOver}
 use Rattle.match_commands.proofs.WaitingLemmas.{bot_returns, play_begins, play_caused}
 use Rattle.match_commands.proofs.linking.run_bot.Goals as goal
@@ -17,7 +18,7 @@ returns-in-Ok g c console =
     let old = with_links (g.D.Disk.state c.args.disk.now) (g.K.Sink.state c.args.out.now) (g.N.Net.state c.args.net.now) console in
     let new = with_links (g.D.Disk.state c.read_files.new.disk) (g.K.Sink.state c.play_bot.new.out) (g.N.Net.state c.play_bot.new.net) console in
     let stands = rw c.as_slice-names.ensures at c.read_numbered_maker-made.ensures in
-    let returns = bot_returns query.frames c.read_numbered_maker-made.result _ stands in
+    let returns = bot_returns query.frames c.read_numbered_maker-made.result (numbered_setup_step query.rules query.map_file contents) stands in
     linked_given (rules_and_map query.rules query.map_file) (rules_and_map (map (λ name. name.now) c.as_slice-names.result.now) query.map_file)
     (bot_step query) (PlaysOver c.play_bot.result old new) IsPlayDone contents c.play_bot.result _ old new
     (ap (λ names. rules_and_map names query.map_file) (sym c.as_slice-names.ensures))

@@ -11,11 +11,11 @@ pub returns-in-Ok : goal.returns-in-Ok
 returns-in-Ok g c =
     let query = plain_match c.args.query.now in
     let contents = script_contents c.in-Ok.given in
-    files_given (Local query c.args.bots) (with_script query.file (rules_and_map (map (λ name. name.now) c.as_slice-names.result.now) query.map_file)) contents c.match_text.result (local_match_step query c.args.bots contents) c.print_text.result
+    files_given (Local query c.args.bots) (with_script query.file (rules_and_map (map (λ name. name.now) c.as_slice-names.result.now) query.map_file)) contents c.match_text-text.result (local_match_step query c.args.bots contents) c.print_text.result
     (g.D.Disk.state c.args.disk.now) (g.D.Disk.state c.read_played_files.new.disk) (g.K.Sink.state c.args.out.now) (g.K.Sink.state c.print_text.new.out)
     (ap (λ names. with_script query.file (rules_and_map names query.map_file)) (sym c.as_slice-names.ensures))
     c.in-Ok.ensures.files c.in-Ok.ensures.later c.print_text.ensures.later c.in-Ok.ensures.told c.in-Ok.ensures.untold
-    c.match_text.ensures refl c.print_text.ensures.prints
+    c.match_text-text.ensures refl c.print_text.ensures.prints
 
 -- One of them was not.
 pub returns-in-Err : goal.returns-in-Err
