@@ -37,6 +37,7 @@ SHOWN = [
     ('docs/RULES.md', 'lockstep check --map ../maps/sample.map ../maps/sample.yaml mod.yaml', 'examples/mod', 0),
     ('docs/RULES.md', 'lockstep yaml ../maps/sample.yaml mod.yaml', 'examples/mod', 0),
     ('docs/RULES.md', 'lockstep check ../maps/sample.yaml slip.yaml', 'examples/mod', 3),
+    ('docs/RULES.md', '../../lockstep local --script idle.script --bots 1 --map map rules.yaml', 'examples/bots', 0),
 ]
 
 # What DESYNC has another machine do, whose program has another line in this file of the source.
