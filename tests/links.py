@@ -105,6 +105,24 @@ class Links:
             start = b'column 0 3 left\ncolumn 1 3 left\nlink 0 ended\nlink 1 ended\nserver frames 3 hash '
             self.tally.check('serve: its lines', served.out.startswith(start) and served.out.endswith(b'\nend\n'), served)
 
+    def of_bots(self):
+        """A match of two bots over the sample rules and map: one world, in which something was ordered."""
+        at, files = free_address(), '--map maps/sample.map maps/sample.yaml'
+        server = self.start(f'serve --at {at} --clients 2 {files}')
+        players = [self.start(f'play --at {at} --bot --frames 40 {files}') for _ in range(2)]
+        played, served = [it.ended() for it in players], server.ended()
+        self.tally.same('bots: status', [it.status for it in (*played, served)], [0, 0, 0])
+        ends = [b' '.join(it.out.split()[2:]) for it in played]
+        self.tally.check('bots: two worlds', ends[0] == ends[1] and ends[0].startswith(b'frames 40 hash '), played)
+        self.tally.check('bots: the world of the server', ends[0].replace(b' end', b'') in served.out, served)
+        with open(os.path.join(self.folder, 'idle.script'), 'w') as file:
+            file.write('script 1 1\n' + '0\n' * 40)
+        at = free_address()
+        server = self.start(f'serve --at {at} --clients 2 {files}')
+        players = [self.start(f'play --at {at} --script idle.script {files}') for _ in range(2)]
+        idle = [it.ended() for it in (*players, server)]
+        self.tally.check('bots: they order something', idle[0].status == 0 and idle[0].out.split()[2:] != played[0].out.split()[2:], idle)
+
     def of_kick(self):
         """A client that greets and then says nothing: the match goes on once the console kicks it."""
         at = free_address()
@@ -218,6 +236,7 @@ def run_all(tally, program, is_long):
         nobody = threading.Thread(target=it.of_nobody)
         nobody.start()
         it.of_match()
+        it.of_bots()
         it.of_kick()
         it.of_console()
         it.of_refused()

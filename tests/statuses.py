@@ -86,6 +86,8 @@ REFUSED = {
     'serve --at 127.0.0.1:1 --clients 1 maps/sample.yaml mod/slip.yaml': 'mod/slip.yaml 5 NothingToRemove',
     'play --at 127.0.0.1:1 --script none': 'none 0 Missing',
     'play --at 127.0.0.1:1 --script refused.drill': 'refused.drill 3 BadWord',
+    'play --at 127.0.0.1:1 --bot --frames 1 none': 'none 0 Missing',
+    'play --at 127.0.0.1:1 --bot --frames 1 maps/sample.yaml mod/slip.yaml': 'mod/slip.yaml 5 NothingToRemove',
 }
 
 # Commands of which one file can't be read: UNREAD stands for its name.
@@ -96,7 +98,8 @@ UNREADABLE = ['drill --script UNREAD', 'drill --script one_frame.drill --map UNR
               'compare --file one_frame.save --with UNREAD', 'view --file UNREAD --client 0', 'worlds --file UNREAD', 'local --script UNREAD',
               'local --script UNREAD --bots 1', 'datagrams --script UNREAD', 'yaml UNREAD', 'check maps/sample.yaml UNREAD',
               'route --map UNREAD --kind unit --from 0,1 --to 2,1 maps/walker.yaml',
-              'serve --at 127.0.0.1:1 --clients 1 UNREAD', 'play --at 127.0.0.1:1 --script UNREAD']
+              'serve --at 127.0.0.1:1 --clients 1 UNREAD', 'play --at 127.0.0.1:1 --script UNREAD',
+              'play --at 127.0.0.1:1 --bot --frames 1 UNREAD']
 
 # Commands whose replay has a mark that differs.
 DIFFERING = ['replay --file battle/differs.replay --map battle/map battle/rules.yaml',
@@ -167,7 +170,8 @@ class Statuses:
     def of_words(self):
         """Status 2."""
         for words in ('', 'dance', 'drill --script', 'make --number 4294967296', 'save --file r --frames 4294967296 --to v',
-                      'view --file r --client -1', 'worlds --file r --every 0', 'local --script s --bots 16', *(f'{it} --what' for it in COMMANDS.values())):
+                      'view --file r --client -1', 'worlds --file r --every 0', 'local --script s --bots 16', 'play --at a --bot',
+                      'play --at a --script s --bot --frames 1', 'play --at a --bot --frames 262145', *(f'{it} --what' for it in COMMANDS.values())):
             self.tally.same(f'"{words}"', self.run(words), WORDS_REFUSED)
         for words in ([b'\xff'], [b'drill', b'--script', b'\xff.drill'], [b'yaml', b'\xc3']):
             self.tally.same(f'{words}, no UTF-8', self.run(words), WORDS_REFUSED)
