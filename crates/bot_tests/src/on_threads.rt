@@ -25,7 +25,15 @@ fn play<R: Abort + Threads + Wait + Sync>(
     let first = opening.scripts.clients();
     assert!(rt; game.step_count() == 0);
     assert!(rt; u32::from(game.clients()) == u32::from(first) + u32::from(case.bots));
-    let run = run_with_bots(rt, alloc, &opening.scripts, game, &GameBots, case.bots, &NoGate)?;
+    let run = run_with_bots(
+        rt,
+        alloc,
+        &opening.scripts,
+        game,
+        &GameBots,
+        case.bots,
+        &NoGate,
+    )?;
     assert_eq!(rt; run.sim.hash(), case.hash);
     let columns = run.table.close(rt, run.pass);
     for c in first..columns.clients() {

@@ -88,10 +88,8 @@ fn run_request<D: Disk, K: Sink>(
         Request::Worlds { query, range } => run_worlds_query(alloc, query, *range, disk, out),
         Request::Compare { query, second } => run_compare(alloc, query, second, disk, out),
         Request::Datagrams { script } => run_datagrams(alloc, script, disk, out),
-        Request::Local { .. }
-        | Request::Serve(_)
-        | Request::Play { .. }
-        | Request::PlayBot(_) => refuse_words(out),
+        Request::Local { .. } | Request::Serve(_) | Request::Play { .. } | Request::PlayBot(_) =>
+            refuse_words(out),
     }
 }
 

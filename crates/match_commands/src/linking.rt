@@ -8,9 +8,7 @@ ghost use Rattle.link_commands.specs.Links.{with_links};
 ghost use Rattle.match_commands.specs.Plays.{PlaysFrom, RunsBot, RunsPlay};
 ghost use Rattle.match_commands.specs.Plays.{bot_means, play_means, play_step};
 
-use command_answers::{
-    GivenFiles, PlayedFile, Stop, print_stop, read_files, read_played_files,
-};
+use command_answers::{GivenFiles, PlayedFile, Stop, print_stop, read_files, read_played_files};
 use command_words::{BotQuery, MAX_FILES, MatchQuery};
 use drill_words::MAX_DRILL_BYTES;
 use game_bots::GameBots;

@@ -160,7 +160,10 @@ fn a_bot_beside_a_script(rt: HostRuntime) -> Result<(), Fail> {
 /// Memory that a bot is refused ends the match, at its first frame.
 #[test]
 fn a_bot_out_of_memory(rt: HostRuntime) -> Result<(), Fail> {
-    assert_eq!(rt; hash_beside(&rt, rt.alloc(), b"script 1 9\n0", &PoorBots)?, 99);
+    assert_eq!(rt;
+        hash_beside(&rt, rt.alloc(), b"script 1 9\n0", &PoorBots)?,
+        99
+    );
     assert_eq!(rt; hash_beside(&rt, rt.alloc(), b"script 1 9", &PoorBots)?, 0);
     Ok(())
 }
