@@ -132,7 +132,10 @@ fn play_over(rt: &impl Abort, alloc: Global, case: &MatchCase) -> Result<(), Fai
     let mut input = MemSource::new(link.down, Vec::new(alloc));
     let mut output = MemSink::new(alloc, Vec::new(alloc));
     let rule = &GameBots;
-    let bot = Bot { rule, frames: case.frames };
+    let bot = Bot {
+        rule,
+        frames: case.frames,
+    };
     let played = play_match_from(alloc, RULES, &bot, &opening.maker, &mut input, &mut output)?;
     assert_eq!(rt; played.end, PlayEnd::Over);
     assert_eq!(rt; played.frames, case.frames);

@@ -114,11 +114,7 @@ pub(crate) struct Opening {
 }
 
 /// What the match of a case begins with.
-pub(crate) fn opening(
-    rt: &impl Abort,
-    alloc: Global,
-    case: &MatchCase,
-) -> Result<Opening, Fail>
+pub(crate) fn opening(rt: &impl Abort, alloc: Global, case: &MatchCase) -> Result<Opening, Fail>
     ensures { IfOk result (λ opening. (1 ≤ opening.clients) × (opening.clients ≤ MAX_CLIENTS)) }
 {
     let (rules, _) = type_rules(alloc, &forest_of(alloc, case.rules)?)?;
