@@ -1,6 +1,9 @@
-//! Bots over links. The lag is one frame, so a bot seals each frame by the world that has ticked all
-//! frames before it, as in a match on one machine: it writes what `bot_orders` gives for these
+//! Bots over links. The lag is one frame, so a bot seals each frame by the world that has ticked
+//! all frames before it, as in a match on one machine: it writes what `bot_orders` gives for these
 //! worlds, and ends with the world of that match.
+
+ghost use Rattle.std.specs.Prelude.{◌≤◌};
+ghost use Rattle.game_orders.specs.declared.limits.TheConstants.{MAX_CLIENTS};
 
 use crate::match_case::MatchCase;
 use crate::one_bot;
@@ -104,7 +107,10 @@ fn link_of(
     alloc: Global,
     case: &MatchCase,
     opening: &Opening,
-) -> Result<(Link, u64), Fail> {
+) -> Result<(Link, u64), Fail>
+    requires least { 1 ≤ opening.now.clients }
+    requires most { opening.now.clients ≤ MAX_CLIENTS }
+{
     let mut link = welcomed(alloc, opening)?;
     let mut game = opening.maker.make(alloc, opening.seed, opening.clients)?;
     for n in 0..case.frames {
