@@ -1,7 +1,7 @@
 //! Some of the matches on threads: the scripts, and the bots beside them.
 
 use crate::match_case::MatchCase;
-use crate::playing::opening;
+use crate::playing::opening_of;
 use crate::{more_bots, one_bot};
 use frame_core::{Maker, Sim};
 use game_bots::GameBots;
@@ -20,7 +20,7 @@ fn play<R: Abort + Threads + Wait + Sync>(
     alloc: Global,
     case: &MatchCase,
 ) -> Result<(), Fail> {
-    let opening = opening(rt, alloc, case)?;
+    let opening = opening_of(rt, alloc, case)?;
     let game = opening.maker.make(alloc, opening.seed, opening.clients)?;
     let first = opening.scripts.clients();
     assert!(rt; game.step_count() == 0);

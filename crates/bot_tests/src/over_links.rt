@@ -7,7 +7,7 @@ ghost use Rattle.game_orders.specs.declared.limits.TheConstants.{MAX_CLIENTS};
 
 use crate::match_case::MatchCase;
 use crate::one_bot;
-use crate::playing::{Opening, frame_of, opening, step};
+use crate::playing::{Opening, frame_of, opening_of, step};
 use frame_core::{Maker, Sim};
 use game_bots::GameBots;
 use game_io::{MemSink, MemSource};
@@ -132,7 +132,7 @@ fn link_of(
 
 /// Plays the bot of a case over its link, and compares what it writes, and its last world.
 fn play_over(rt: &impl Abort, alloc: Global, case: &MatchCase) -> Result<(), Fail> {
-    let opening = opening(rt, alloc, case)?;
+    let opening = opening_of(rt, alloc, case)?;
     let (link, hash) = link_of(rt, alloc, case, &opening)?;
     assert_eq!(rt; hash, case.hash);
     let mut input = MemSource::new(link.down, Vec::new(alloc));

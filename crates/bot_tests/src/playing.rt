@@ -114,7 +114,7 @@ pub(crate) struct Opening {
 }
 
 /// What the match of a case begins with.
-pub(crate) fn opening(rt: &impl Abort, alloc: Global, case: &MatchCase) -> Result<Opening, Fail>
+pub(crate) fn opening_of(rt: &impl Abort, alloc: Global, case: &MatchCase) -> Result<Opening, Fail>
     ensures { IfOk result (λ opening. (1 ≤ opening.clients) × (opening.clients ≤ MAX_CLIENTS)) }
 {
     let (rules, _) = type_rules(alloc, &forest_of(alloc, case.rules)?)?;
@@ -133,7 +133,7 @@ pub(crate) fn opening(rt: &impl Abort, alloc: Global, case: &MatchCase) -> Resul
 
 /// Plays the match of a case to its end, and compares the last world with the expected one.
 pub(crate) fn play(rt: &impl Abort, alloc: Global, case: &MatchCase) -> Result<(), Fail> {
-    let opening = opening(rt, alloc, case)?;
+    let opening = opening_of(rt, alloc, case)?;
     let mut game = opening.maker.make(alloc, opening.seed, opening.clients)?;
     for n in 0..case.frames {
         let frame = frame_of(rt, alloc, &game, &opening.scripts, n)?;
