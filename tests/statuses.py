@@ -287,7 +287,7 @@ class Statuses:
         self.files = files_of(self.folder)
         # A thread that can't be started has no answer, so `local` is left out.
         rows = {**COMMANDS, 'a long drill': 'drill --script long.drill'}
-        del rows['local']
+        del rows['local'], rows['local with bots']
         short = 0
         for name, words in rows.items():
             whole, least = self.run(words), None
