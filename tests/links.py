@@ -1,5 +1,5 @@
 """`serve` and `play` over loopback: each status that they can have, and that a server's console is read."""
-import os, socket, struct, subprocess, tempfile, threading, time
+import os, re, socket, struct, subprocess, sys, tempfile, threading, time
 
 from harness import PATIENCE, TOP, Ran, free_address, lacking, with_examples
 
@@ -105,23 +105,25 @@ class Links:
             start = b'column 0 3 left\ncolumn 1 3 left\nlink 0 ended\nlink 1 ended\nserver frames 3 hash '
             self.tally.check('serve: its lines', served.out.startswith(start) and served.out.endswith(b'\nend\n'), served)
 
-    def of_bots(self):
-        """A match of two bots over the sample rules and map: one world, in which something was ordered."""
+    def of_client(self):
+        """The player of the examples that is written in Python, beside `play`: its frames and its order are taken."""
         at, files = free_address(), '--map maps/sample.map maps/sample.yaml'
+        tools = os.path.join(self.folder, 'bin')
+        os.makedirs(tools)
+        script = os.path.join(tools, 'lockstep')
+        with open(script, 'w') as file:
+            file.write(f'#!/bin/sh\nexec \'{self.program}\' "$@"\n')
+        os.chmod(script, 0o755)
         server = self.start(f'serve --at {at} --clients 2 {files}')
-        players = [self.start(f'play --at {at} --bot --frames 40 {files}') for _ in range(2)]
-        played, served = [it.ended() for it in players], server.ended()
-        self.tally.same('bots: status', [it.status for it in (*played, served)], [0, 0, 0])
-        ends = [b' '.join(it.out.split()[2:]) for it in played]
-        self.tally.check('bots: two worlds', ends[0] == ends[1] and ends[0].startswith(b'frames 40 hash '), played)
-        self.tally.check('bots: the world of the server', ends[0].replace(b' end', b'') in served.out, served)
-        with open(os.path.join(self.folder, 'idle.script'), 'w') as file:
-            file.write('script 1 1\n' + '0\n' * 40)
-        at = free_address()
-        server = self.start(f'serve --at {at} --clients 2 {files}')
-        players = [self.start(f'play --at {at} --script idle.script {files}') for _ in range(2)]
-        idle = [it.ended() for it in (*players, server)]
-        self.tally.check('bots: they order something', idle[0].status == 0 and idle[0].out.split()[2:] != played[0].out.split()[2:], idle)
+        players = [Started('/usr/bin/env', f'PATH={tools}:/usr/bin:/bin {sys.executable} links/client.py {at} 10 {files}', self.folder),
+                   self.start(f'play --at {at} --script three.script {files}')]
+        client, played, served = (it.ended() for it in (*players, server))
+        told = re.match(rb'client ([01]) of 2 frames 10\n$', client.out)
+        if not self.tally.check('client.py', told and client.status == played.status == 0, (client, played)):
+            return
+        columns, cash = (b'column 0 10 left\ncolumn 1 3 left\n', b' cash 1990 2010\n') if told[1] == b'0' else (
+            b'column 0 3 left\ncolumn 1 10 left\n', b' cash 2010 1990\n')
+        self.tally.check('serve: the match of client.py', served.status == 0 and served.out.startswith(columns) and cash in served.out, served)
 
     def of_kick(self):
         """A client that greets and then says nothing: the match goes on once the console kicks it."""
@@ -236,7 +238,7 @@ def run_all(tally, program, is_long):
         nobody = threading.Thread(target=it.of_nobody)
         nobody.start()
         it.of_match()
-        it.of_bots()
+        it.of_client()
         it.of_kick()
         it.of_console()
         it.of_refused()

@@ -9,17 +9,15 @@ COMMAND = re.compile(r'^(?:\$ )?((?:\.\./\.\./|\./)?lockstep [^`]*)$')
 # Each command: its page, the command, the folder in which it is run, its status. What it prints is shown after it: in the
 # same block, or in the next one. Of a long text the page shows a part, as the README of the worked schedule's; so what is
 # shown is a piece of what is printed, and `..` in it stands for any lines, or any words.
-DIFFERS = '../../lockstep replay --file differs.replay --map map rules.yaml'
 BATTLE, RIVER = 'examples/battle', 'examples/river'
+DIFFERS = f'./lockstep replay --file {BATTLE}/differs.replay --map {BATTLE}/map {BATTLE}/rules.yaml'
 SHOWN = [
     ('README.md', './lockstep drill --script examples/departure.drill', '.', 0),
-    ('README.md', f'./lockstep replay --file {BATTLE}/differs.replay --map {BATTLE}/map {BATTLE}/rules.yaml', '.', 7),
+    ('README.md', DIFFERS, '.', 7),
     ('docs/DESYNC.md', '../../lockstep save --file river.replay --frames 269 --to here.save --map map rules.yaml', RIVER, 0),
     ('docs/DESYNC.md', '../../lockstep compare --file here.save --with there.save --map map rules.yaml', RIVER, 7),
     ('docs/DESYNC.md', '../../lockstep worlds --file river.replay --from 268 --to 268 --map map rules.yaml', RIVER, 0),
     ('docs/DESYNC.md', '../../lockstep drill --script battle.drill --map map rules.yaml', BATTLE, 0),
-    ('docs/DESYNC.md', '../../lockstep replay --file battle.replay --map map rules.yaml', BATTLE, 0),
-    ('docs/DESYNC.md', DIFFERS, BATTLE, 7),
     ('docs/DESYNC.md', '../../lockstep worlds --file battle.replay --from 1 --to 2 --map map rules.yaml', BATTLE, 0),
     ('docs/FORMATS.md', './lockstep drill --script examples/one_frame.drill --record new.replay', '.', 0),
     ('docs/FORMATS.md', './lockstep replay --file examples/one_frame.replay', '.', 0),
@@ -50,7 +48,10 @@ TRIED = {THERE, '../../lockstep migrate --file differs.replay --to new.replay --
          '../../lockstep serve --at 127.0.0.1:7070 --clients 3 --seed 9 $files </dev/null &',
          '../../lockstep play --at 127.0.0.1:7070 --script drive.script $files & sleep 1',
          '../../lockstep play --at 127.0.0.1:7070 --script five.script $files; wait',
-         '../../lockstep local --script all.script $files'}
+         '../../lockstep local --script all.script $files',
+         # These by tests/hosting.py.
+         '../../lockstep serve --at 127.0.0.1:7070 --clients 3 --seed 9 --record match.replay $files </dev/null &',
+         '../../lockstep replay --file match.replay $files'}
 PATTERNS = re.compile(r' FILE|FILES|RULES|lockstep --')
 
 
@@ -171,11 +172,10 @@ class Pages:
             self.tally.same('docs/FORMATS.md: a refused drill', ran, Ran(3, f'{told[2]}\n'.encode()))
 
     def of_refused_migration(self):
-        """What DESYNC says of a replay that differs: the line `mark` as above, `end`, and no file."""
-        lines = lines_of('docs/DESYNC.md')
+        """What DESYNC says of a replay that differs: the line `mark` of README, `end`, and no file."""
+        lines = lines_of('README.md')
         command = next(it for it in TRIED if ' migrate ' in it)
-        places = dict(reversed(list(commands_of(lines))))
-        above = block_after(lines, places[DIFFERS])
+        above = block_after(lines, dict(commands_of(lines))[DIFFERS])
         ran = self.bash(command, 'examples/battle')
         self.tally.same(f'docs/DESYNC.md: {command}', ran, Ran(7, f'{above[0]}\nend\n'.encode()))
         self.tally.check('docs/DESYNC.md: no file', not os.path.exists(f'{self.top}/examples/battle/new.replay'), 'it is there')

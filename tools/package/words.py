@@ -12,8 +12,8 @@ class Entry:
     def __init__(self, line):
         self.line, self.name, self.text = line, line.split()[0], ''
         # Each option with the name of its value, if it has one, and whether it is required.
-        self.options = [(name, value, not before) for before, name, value in re.findall(r'(\[?)(--[a-z]+)(?: ([A-Z,]+))?', line)]
-        rest = re.sub(r'\[?--[a-z]+(?: [A-Z,]+)?\]?', '', line).split()[1:]
+        self.options = [(name, value, not before) for before, name, value in re.findall(r'(\[?)(--[a-z-]+)(?: ([A-Z][A-Z,-]*))?', line)]
+        rest = re.sub(r'\[?--[a-z-]+(?: [A-Z][A-Z,-]*)?\]?', '', line).split()[1:]
         # What stands alone: nothing, or files, of which one is required where they have no brackets.
         self.files = ' '.join(rest)
 
@@ -56,8 +56,8 @@ def roff(text):
 def usage_roff(line):
     """A usage line: names of options bold, names of values in italics."""
     text = roff(line)
-    text = re.sub(r'(\\-\\-[a-z]+)', r'\\fB\1\\fR', text)
-    return re.sub(r'\b([A-Z]+(?:,[A-Z]+)*)\b(?!\\)', r'\\fI\1\\fR', text)
+    text = re.sub(r'(\\-\\-(?:[a-z]|\\-)+)', r'\\fB\1\\fR', text)
+    return re.sub(r'\b([A-Z]+(?:(?:,|\\-)[A-Z]+)*)\b(?!\\)', r'\\fI\1\\fR', text)
 
 
 def man_page(version, date):

@@ -1,5 +1,5 @@
--- Accepted words name a request, but for the number of positional arguments and for cells that are
--- none.
+-- Accepted words name a request, but for the number of positional arguments, and for cells, players and
+-- ports that are none.
 use Rattle.std.proofs.Common.{◌≡◌, ◌<◌, ◌≤◌, ◌⊎◌, ◌∙◌, ◌||◌, ◌&&◌, true≢false, ap, sym, subst, arith, inl, inr, ℕ, Bool, true, false, not, cond, List, [], ◌∷◌, Option, Some, None, is_some, codes, refl}
 use Rattle.std.specs.Prelude.{◌^◌, find, option_map, option_and_then, unwrap_or, pos}
 use Rattle.std.proofs.lemmas.Bool.{le-leb}
@@ -21,9 +21,12 @@ use Rattle.world_units.specs.declared.cell.CPos.{CPos}
 use Rattle.command_words.specs.RequestPlain.{Check, Compare, Continue, Datagrams, Drill, Local, Make, Migrate, Replay, RequestPlain, Save, Serve, View, Worlds, Yaml}
 use Rattle.command_words.specs.Player.{PlayerPlain, Script, Bot}
 use Rattle.command_words.specs.Commands.{option_named, required_option, flag_named, number_option, required_number, bare_app, lockstep_app}
-use Rattle.command_words.specs.Reading.{is_accepted, command_request, names_in, cell_in, number_of, number_in, up_to, count_in, count_or, from_one, step_or, at_most, bots_in, match_in, local_in, play_in, serve_in, migrate_in, route_in, save_in, continue_in, view_in, range_in, worlds_in, compare_in, has_flag, player_of, player_in, played_by, found_request, request_of, NamesRefused, CellRefused, PlayerRefused}
+use Rattle.command_words.specs.Reading.{is_accepted, command_request, names_in, cell_in, number_of, number_in, up_to, count_in, count_or, optional, seconds_in, ports_in, host_in, from_one, step_or, at_most, bots_in, match_in, local_in, play_in, serve_in, migrate_in, route_in, save_in, continue_in, view_in, range_in, worlds_in, compare_in, has_flag, player_of, player_in, played_by, found_request, request_of, NamesRefused, CellRefused, PlayerRefused, PortsRefused}
 use Rattle.game_orders.specs.declared.limits.TheConstants.{MAX_CLIENTS, MAX_FRAMES, MAX_LAG}
 use Rattle.command_words.specs.declared.TheConstants.{MAX_BOTS}
+use Rattle.command_words.specs.declared.host.HostOptions.{HostOptions}
+use Rattle.command_words.specs.declared.host.TheConstants.{MAX_SECONDS}
+use Rattle.command_words.specs.declared.port_range.PortRange.{PortRange}
 use Rattle.command_words.specs.declared.serve_query.TheConstants.{DEFAULT_LAG}
 use Rattle.command_words.specs.declared.world_range.TheConstants.{DEFAULT_EVERY}
 use Rattle.command_words.proofs.OnCommands.{all_commands}
@@ -68,13 +71,15 @@ serve_shape =
     shape_with (codes "serve")
     (wanted_rule (codes "at") ∷ with_index 1 (filled (required_number (codes "clients") 1 MAX_CLIENTS))
     ∷ with_index 1 (filled (number_option (codes "lag") 1 MAX_LAG)) ∷ with_index 1 (filled (number_option (codes "seed") 0 4294967295))
-    ∷ map_rule ∷ names_rule ∷ [])
+    ∷ with_index 1 (filled (number_option (codes "patience") 1 MAX_SECONDS)) ∷ with_index 1 (filled (number_option (codes "lobby") 1 MAX_SECONDS))
+    ∷ with_index 1 (filled (flag_named (codes "quiet"))) ∷ with_index 1 (filled (option_named (codes "udp-ports")))
+    ∷ record_rule ∷ map_rule ∷ names_rule ∷ [])
 
 abbrev play_shape : Shape
 play_shape =
     shape_with (codes "play")
     (wanted_rule (codes "at") ∷ with_index 1 (filled (option_named (codes "script"))) ∷ with_index 1 (filled (flag_named (codes "bot")))
-    ∷ with_index 1 (filled (number_option (codes "frames") 0 MAX_FRAMES)) ∷ map_rule ∷ names_rule ∷ [])
+    ∷ with_index 1 (filled (number_option (codes "frames") 0 MAX_FRAMES)) ∷ with_index 1 (filled (flag_named (codes "quiet"))) ∷ map_rule ∷ names_rule ∷ [])
 
 abbrev replay_shape : Shape
 replay_shape = shape_with (codes "replay") (wanted_rule (codes "file") ∷ map_rule ∷ names_rule ∷ [])
@@ -165,9 +170,9 @@ rows_found command rules words all shortless quiet =
     (first_none defaults checks (second_none settles (or_else defaults checks) later)))
     (none_missing (list_any (λ (a : Rule). a.required && not (is_given a.id rows)) rules) (second_none defaults checks (second_none settles (or_else defaults checks) later)))
 
--- A command has a request, or refuses the number of its names, a cell or a player.
+-- A command has a request, or refuses the number of its names, a cell, a player or ports.
 abbrev HasRequest : Option (Text × List Row) → Type 0
-HasRequest found = (is_some (found_request found) ≡ true) ⊎ (NamesRefused found ⊎ (CellRefused found ⊎ PlayerRefused found))
+HasRequest found = (is_some (found_request found) ≡ true) ⊎ (NamesRefused found ⊎ (CellRefused found ⊎ (PlayerRefused found ⊎ PortsRefused found)))
 
 -- The same of a command with these arguments, whatever was found of them.
 abbrev GivesRequest : Text → List Rule → Type 0
@@ -330,7 +335,7 @@ bot_frames (Some file) false None frames is = cc
 bot_frames (Some file) false (Some written) frames is = cc
 
 player_there : (rows : List Row) → Found play_shape.rules (codes "frames") rows → (at : Text) (rules : List Text) (player : PlayerPlain) → player_in rows ≡ Some player
-    → is_some (played_by at (first_of (codes "map") rows) rules player) ≡ true
+    → is_some (played_by at (has_flag (codes "quiet") rows) (first_of (codes "map") rows) rules player) ≡ true
 unfolding player_in
 player_there rows found at rules (Script file) is = refl
 player_there rows found at rules (Bot frames) is =
@@ -340,11 +345,11 @@ player_there rows found at rules (Bot frames) is =
 -- A match over a link is played, or there is no one player, or the number of its rule files is not allowed.
 play_is : (rows : List Row) (at : Option Text) (player : Option PlayerPlain) (names : Option (List Text))
     → first_of (codes "at") rows ≡ at → player_in rows ≡ player → names_in 0 rows ≡ names → is_some at ≡ true
-    → ((at : Text) (rules : List Text) (player : PlayerPlain) → player_in rows ≡ Some player → is_some (played_by at (first_of (codes "map") rows) rules player) ≡ true)
+    → ((at : Text) (rules : List Text) (player : PlayerPlain) → player_in rows ≡ Some player → is_some (played_by at (has_flag (codes "quiet") rows) (first_of (codes "map") rows) rules player) ≡ true)
     → HasRequest (Some (codes "play", rows))
 unfolding command_request play_in
 play_is rows None player names a b c there each = cc
-play_is rows (Some at) None names a b c there each = inr (inr (inr (refl, b)))
+play_is rows (Some at) None names a b c there each = inr (inr (inr (inl (refl, b))))
 play_is rows (Some at) (Some player) None a b c there each = inr (inl c)
 play_is rows (Some at) (Some player) (Some names) a b c there each = inl (rw (a, b, c) (each at names player b))
 
@@ -453,25 +458,71 @@ lag_there rows (something has) =
     (row_number serve_shape.rules (codes "lag") rows 1 MAX_LAG has (omega arith)
     (both (is_signed_in (pos 1) (pos MAX_LAG) has.first) _ has.passes).0 refl)
 
--- A match to be served is named, or the number of its rule files is not allowed.
+-- Seconds within the bounds of a clock are some.
+seconds_are : (most : ℕ) (number : Option ℕ) → Written 1 most number → is_some (optional (up_to most) number) ≡ true
+seconds_are most number written =
+    rw (written.is, le-leb 1 written.value written.above, le-leb written.value most written.below) refl
+
+patience_there : (rows : List Row) → Found serve_shape.rules (codes "patience") rows → is_some (seconds_in (codes "patience") rows) ≡ true
+unfolding seconds_in number_in
+patience_there rows (nothing none) = rw none refl
+patience_there rows (something has) =
+    seconds_are MAX_SECONDS (number_in (codes "patience") rows)
+    (row_number serve_shape.rules (codes "patience") rows 1 MAX_SECONDS has (omega arith)
+    (both (is_signed_in (pos 1) (pos MAX_SECONDS) has.first) _ has.passes).0 refl)
+
+lobby_there : (rows : List Row) → Found serve_shape.rules (codes "lobby") rows → is_some (seconds_in (codes "lobby") rows) ≡ true
+unfolding seconds_in number_in
+lobby_there rows (nothing none) = rw none refl
+lobby_there rows (something has) =
+    seconds_are MAX_SECONDS (number_in (codes "lobby") rows)
+    (row_number serve_shape.rules (codes "lobby") rows 1 MAX_SECONDS has (omega arith)
+    (both (is_signed_in (pos 1) (pos MAX_SECONDS) has.first) _ has.passes).0 refl)
+
+-- What is said of log, clocks and ports is there, where the ports are.
+host_is : (rows : List Row) (clients : ℕ) (patience lobby : Option (Option ℕ)) (ports : Option (Option PortRange))
+    → seconds_in (codes "patience") rows ≡ patience → seconds_in (codes "lobby") rows ≡ lobby → ports_in clients rows ≡ ports
+    → is_some patience ≡ true → is_some lobby ≡ true → (is_some (host_in clients rows) ≡ true) ⊎ (ports_in clients rows ≡ None)
+unfolding host_in
+host_is rows clients None lobby ports a b c there there' = cc
+host_is rows clients (Some patience) None ports a b c there there' = cc
+host_is rows clients (Some patience) (Some lobby) None a b c there there' = inr c
+host_is rows clients (Some patience) (Some lobby) (Some ports) a b c there there' = inl (rw (a, b, c) refl)
+
+host_there : (rows : List Row) (clients : ℕ) → Found serve_shape.rules (codes "patience") rows → Found serve_shape.rules (codes "lobby") rows
+    → (is_some (host_in clients rows) ≡ true) ⊎ (ports_in clients rows ≡ None)
+host_there rows clients patience lobby =
+    host_is rows clients (seconds_in (codes "patience") rows) (seconds_in (codes "lobby") rows) (ports_in clients rows) refl refl refl
+    (patience_there rows patience) (lobby_there rows lobby)
+
+-- The ports of a match are refused.
+ports_refused : (rows : List Row) (clients : ℕ) → count_in MAX_CLIENTS (codes "clients") rows ≡ Some clients → ports_in clients rows ≡ None → PortsRefused (Some (codes "serve", rows))
+ports_refused rows clients is none = rw is (refl, none)
+
+-- A match to be served is named, or the number of its rule files is not allowed, or its ports are not.
 serve_is : (rows : List Row) (at : Option Text) (clients lag : Option ℕ) (names : Option (List Text))
-    → first_of (codes "at") rows ≡ at → count_in MAX_CLIENTS (codes "clients") rows ≡ clients → count_or DEFAULT_LAG MAX_LAG (codes "lag") rows ≡ lag → names_in 0 rows ≡ names
-    → is_some at ≡ true → is_some clients ≡ true → is_some lag ≡ true → (is_some (option_map Serve (serve_in rows)) ≡ true) ⊎ (names_in 0 rows ≡ None)
-unfolding serve_in
-serve_is rows None clients lag names a b c d there there' there'' = cc
-serve_is rows (Some at) None lag names a b c d there there' there'' = cc
-serve_is rows (Some at) (Some clients) None names a b c d there there' there'' = cc
-serve_is rows (Some at) (Some clients) (Some lag) None a b c d there there' there'' = inr d
-serve_is rows (Some at) (Some clients) (Some lag) (Some names) a b c d there there' there'' = inl (rw (a, b, c, d) refl)
+    → first_of (codes "at") rows ≡ at → count_in MAX_CLIENTS (codes "clients") rows ≡ clients → count_or DEFAULT_LAG MAX_LAG (codes "lag") rows ≡ lag
+    → names_in 0 rows ≡ names → is_some at ≡ true → is_some clients ≡ true → is_some lag ≡ true
+    → ((clients : ℕ) → (is_some (host_in clients rows) ≡ true) ⊎ (ports_in clients rows ≡ None))
+    → HasRequest (Some (codes "serve", rows))
+unfolding command_request serve_in
+serve_is rows None clients lag names a b c d there there' there'' each = cc
+serve_is rows (Some at) None lag names a b c d there there' there'' each = cc
+serve_is rows (Some at) (Some clients) None names a b c d there there' there'' each = cc
+serve_is rows (Some at) (Some clients) (Some lag) None a b c d there there' there'' each = inr (inl d)
+serve_is rows (Some at) (Some clients) (Some lag) (Some names) a b c d there there' there'' each =
+    go (host_in clients rows) refl (each clients)
+  where
+    go : (host : Option HostOptions) → host_in clients rows ≡ host → (is_some host ≡ true) ⊎ (ports_in clients rows ≡ None) → HasRequest (Some (codes "serve", rows))
+    go (Some host) e is = inl (rw (a, b, c, d, e) refl)
+    go None e (inl is) = cc
+    go None e (inr none) = inr (inr (inr (inr (ports_refused rows clients b none))))
 
 serve_request : GivesRequest (codes "serve") serve_shape.rules
-unfolding command_request
 serve_request rows found =
-    elim (serve_is rows (first_of (codes "at") rows) (count_in MAX_CLIENTS (codes "clients") rows) (count_or DEFAULT_LAG MAX_LAG (codes "lag") rows) (names_in 0 rows)
-    refl refl refl refl (given_first serve_shape.rules (codes "at") rows found.0) (clients_there rows found.1.0) (lag_there rows found.1.1.0)) [
-      | inl named ↦ inl named
-      | inr none ↦ inr (inl none)
-    ]
+    serve_is rows (first_of (codes "at") rows) (count_in MAX_CLIENTS (codes "clients") rows) (count_or DEFAULT_LAG MAX_LAG (codes "lag") rows) (names_in 0 rows)
+    refl refl refl refl (given_first serve_shape.rules (codes "at") rows found.0) (clients_there rows found.1.0) (lag_there rows found.1.1.0)
+    (λ clients. host_there rows clients found.1.1.1.1.0 found.1.1.1.1.1.0)
 
 -- Each of the commands, where its words have no fault.
 abbrev AsksBy : Shape → Type 0
@@ -496,8 +547,8 @@ all_ask =
     (also (asks_by (codes "route") route_shape.rules ((refl, refl), ((refl, refl), ((refl, refl), ((refl, refl), ((refl, refl), tt))))) (λ x. refl) route_request)
     (also (asks_by (codes "make") make_shape.rules ((refl, refl), tt) (λ x. refl) make_request)
     (also (asks_by (codes "local") local_shape.rules ((refl, refl), ((refl, refl), ((refl, refl), ((refl, refl), tt)))) (λ x. refl) local_request)
-    (also (asks_by (codes "serve") serve_shape.rules ((refl, refl), ((refl, refl), ((refl, refl), ((refl, refl), ((refl, refl), ((refl, refl), tt)))))) (λ x. refl) serve_request)
-    (also (asks_by (codes "play") play_shape.rules ((refl, refl), ((refl, refl), ((refl, refl), ((refl, refl), ((refl, refl), ((refl, refl), tt)))))) (λ x. refl) play_request)
+    (also (asks_by (codes "serve") serve_shape.rules ((refl, refl), ((refl, refl), ((refl, refl), ((refl, refl), ((refl, refl), ((refl, refl), ((refl, refl), ((refl, refl), ((refl, refl), ((refl, refl), ((refl, refl), tt))))))))))) (λ x. refl) serve_request)
+    (also (asks_by (codes "play") play_shape.rules ((refl, refl), ((refl, refl), ((refl, refl), ((refl, refl), ((refl, refl), ((refl, refl), ((refl, refl), tt))))))) (λ x. refl) play_request)
     (also (asks_by (codes "replay") replay_shape.rules ((refl, refl), ((refl, refl), ((refl, refl), tt))) (λ x. refl) replay_request)
     (also (asks_by (codes "migrate") migrate_shape.rules ((refl, refl), ((refl, refl), ((refl, refl), ((refl, refl), tt)))) (λ x. refl) migrate_request)
     (also (asks_by (codes "save") save_shape.rules ((refl, refl), ((refl, refl), ((refl, refl), ((refl, refl), ((refl, refl), tt))))) (λ x. refl) save_request)
@@ -562,10 +613,12 @@ no_fault words accepted = is_nil (fault_of lockstep_app words) accepted
 
 by_request : (words : List Text) → is_accepted words ≡ true → HasRequest (subcommand_of lockstep_app words)
     → (is_some (request_of words) ≡ true)
-    ⊎ (NamesRefused (subcommand_of lockstep_app words) ⊎ (CellRefused (subcommand_of lockstep_app words) ⊎ PlayerRefused (subcommand_of lockstep_app words)))
+    ⊎ (NamesRefused (subcommand_of lockstep_app words) ⊎ (CellRefused (subcommand_of lockstep_app words)
+    ⊎ (PlayerRefused (subcommand_of lockstep_app words) ⊎ PortsRefused (subcommand_of lockstep_app words))))
 unfolding request_of
 by_request words accepted found = rw accepted found
 
 pub accepted_request : (words : List Text) → is_accepted words ≡ true → (is_some (request_of words) ≡ true)
-    ⊎ (NamesRefused (subcommand_of lockstep_app words) ⊎ (CellRefused (subcommand_of lockstep_app words) ⊎ PlayerRefused (subcommand_of lockstep_app words)))
+    ⊎ (NamesRefused (subcommand_of lockstep_app words) ⊎ (CellRefused (subcommand_of lockstep_app words)
+    ⊎ (PlayerRefused (subcommand_of lockstep_app words) ⊎ PortsRefused (subcommand_of lockstep_app words))))
 accepted_request words accepted = by_request words accepted (quiet_request words (no_fault words accepted))

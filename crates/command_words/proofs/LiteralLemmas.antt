@@ -7,6 +7,7 @@ use Rattle.command_words.specs.RequestPlain.{Drill, Replay, Migrate, Save, Conti
 use Rattle.base.specs.Numbers.{number_of}
 use Rattle.rule_values.specs.Cells.{cell_of, coordinate_of}
 use Rattle.rule_values.specs.Parts.{parts_at}
+use Rattle.command_words.specs.HostOptions.{no_options}
 use Rattle.command_words.specs.Reading.{request_of, is_plain}
 use Rattle.command_words.proofs.OnCommands.{all_commands, request_on_literals}
 
@@ -73,13 +74,23 @@ unfolding request_on_literals all_commands clap_on_literals
 datagrams_after_equals program script = refl
 
 pub play_after_equals : (program at script : Text)
-    → request_of (program ∷ codes "play" ∷ (codes "--at=" ++ at) ∷ (codes "--script=" ++ script) ∷ []) ≡ Some (Play (match_alone script) at)
+    → request_of (program ∷ codes "play" ∷ (codes "--at=" ++ at) ∷ (codes "--script=" ++ script) ∷ []) ≡ Some (Play (match_alone script) at false)
 unfolding request_on_literals all_commands clap_on_literals
 play_after_equals program at script = refl
 
+pub play_quietly : (program at script : Text)
+    → request_of (program ∷ codes "play" ∷ codes "--quiet" ∷ (codes "--at=" ++ at) ∷ (codes "--script=" ++ script) ∷ []) ≡ Some (Play (match_alone script) at true)
+unfolding request_on_literals all_commands clap_on_literals
+play_quietly program at script = refl
+
+pub play_quietly_twice : (program at script : Text)
+    → request_of (program ∷ codes "play" ∷ codes "--quiet" ∷ (codes "--at=" ++ at) ∷ codes "--quiet" ∷ (codes "--script=" ++ script) ∷ []) ≡ None
+unfolding request_on_literals all_commands clap_on_literals
+play_quietly_twice program at script = refl
+
 pub play_by_a_bot : (program at : Text)
     → request_of (program ∷ codes "play" ∷ codes "--bot" ∷ codes "--frames=262144" ∷ (codes "--at=" ++ at) ∷ [])
-    ≡ Some (PlayBot (record { at = at; frames = 262144; map_file = None; rules = [] }))
+    ≡ Some (PlayBot (record { at = at; frames = 262144; is_quiet = false; map_file = None; rules = [] }))
 unfolding request_on_literals all_commands clap_on_literals
 play_by_a_bot program at = refl
 
@@ -94,16 +105,40 @@ play_without_frames program at = refl
 
 pub serve_without_options : (program at : Text)
     → request_of (program ∷ codes "serve" ∷ (codes "--at=" ++ at) ∷ codes "--clients=16" ∷ [])
-    ≡ Some (Serve (record { at = at; clients = 16; lag = 2; seed = 1; map_file = None; rules = [] }))
+    ≡ Some (Serve (record { at = at; clients = 16; lag = 2; seed = 1; host = no_options; record_file = None; map_file = None; rules = [] }))
 unfolding request_on_literals all_commands clap_on_literals
 serve_without_options program at = refl
 
-pub serve_with_options : (program at map_file : Text)
-    → request_of (program ∷ codes "serve" ∷ (codes "--map=" ++ map_file) ∷ codes "--seed=4294967295" ∷ codes "--lag=64" ∷ codes "--clients=3"
-    ∷ (codes "--at=" ++ at) ∷ [])
-    ≡ Some (Serve (record { at = at; clients = 3; lag = 64; seed = 4294967295; map_file = Some map_file; rules = [] }))
+pub serve_with_options : (program at written map_file : Text)
+    → request_of (program ∷ codes "serve" ∷ (codes "--map=" ++ map_file) ∷ codes "--lobby=86400" ∷ codes "--seed=4294967295" ∷ codes "--udp-ports=7071-7073" ∷ codes "--lag=64"
+    ∷ codes "--quiet" ∷ codes "--clients=3" ∷ (codes "--record=" ++ written) ∷ codes "--patience=1" ∷ (codes "--at=" ++ at) ∷ [])
+    ≡ Some (Serve (record {
+      at = at;
+      clients = 3;
+      lag = 64;
+      seed = 4294967295;
+      host = record { is_quiet = true; patience = Some 1; lobby = Some 86400; udp_ports = Some (record { first = 7071; last = 7073 }) };
+      record_file = Some written;
+      map_file = Some map_file;
+      rules = [];
+    }))
+unfolding request_on_literals all_commands clap_on_literals number_of parts_at
+serve_with_options program at written map_file = refl
+
+pub serve_without_room : (program at : Text)
+    → request_of (program ∷ codes "serve" ∷ (codes "--at=" ++ at) ∷ codes "--clients=3" ∷ codes "--udp-ports=7071-7072" ∷ []) ≡ None
+unfolding request_on_literals all_commands clap_on_literals number_of parts_at
+serve_without_room program at = refl
+
+pub serve_without_patience : (program at : Text)
+    → request_of (program ∷ codes "serve" ∷ (codes "--at=" ++ at) ∷ codes "--clients=3" ∷ codes "--patience=0" ∷ []) ≡ None
 unfolding request_on_literals all_commands clap_on_literals
-serve_with_options program at map_file = refl
+serve_without_patience program at = refl
+
+pub serve_for_ever : (program at : Text)
+    → request_of (program ∷ codes "serve" ∷ (codes "--at=" ++ at) ∷ codes "--clients=3" ∷ codes "--lobby=86401" ∷ []) ≡ None
+unfolding request_on_literals all_commands clap_on_literals
+serve_for_ever program at = refl
 
 pub route_with_options : (program map_file kind : Text)
     → request_of (program ∷ codes "route" ∷ codes "r" ∷ (codes "--kind=" ++ kind) ∷ codes "--to=3,4" ∷ codes "--from=1,2"

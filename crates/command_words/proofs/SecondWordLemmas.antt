@@ -20,7 +20,7 @@ use Rattle.command_words.specs.Commands.{lockstep_app}
 use Rattle.command_words.specs.RequestPlain.{RequestPlain, Drill, Yaml, Check, Route, Make, Local, Serve, Replay, Migrate, Save, Continue, View, Worlds, Compare, Datagrams, PlayBot}
 use Rattle.command_words.specs.Player.{PlayerPlain, Script, Bot}
 use Rattle.game_orders.specs.declared.limits.TheConstants.{MAX_FRAMES}
-use Rattle.command_words.specs.Reading.{at_most, player_in, played_by, is_accepted, command_request, names_in, number_in, bots_in, match_in, local_in, play_in, serve_in, migrate_in, route_in, save_in, continue_in, view_in, range_in, worlds_in, compare_in, found_request, request_of}
+use Rattle.command_words.specs.Reading.{at_most, has_flag, player_in, played_by, is_accepted, command_request, names_in, number_in, bots_in, match_in, local_in, play_in, serve_in, migrate_in, route_in, save_in, continue_in, view_in, range_in, worlds_in, compare_in, found_request, request_of}
 use Rattle.command_words.proofs.OnCommands.{all_commands}
 use Rattle.command_words.proofs.LiteralLemmas.{no_words, alone}
 use Rattle.command_words.proofs.FoundValuesLemmas.{first_none, some_kind}
@@ -52,16 +52,16 @@ unfolding local_in
 local_of found =
     then_of _ (codes "local") (λ bots. made_of (λ query. Local query bots) (codes "local") (λ query. refl) (match_in (codes "script") found)) (bots_in found)
 
-played_of : (at : Text) (map_file : Option Text) (rules : List Text) (player : PlayerPlain) → IsOf (codes "play") (played_by at map_file rules player)
-played_of at map_file rules (Script file) = refl
-played_of at map_file rules (Bot frames) =
-    made_of (λ frames. PlayBot (record { at = at; frames = frames; map_file = map_file; rules = rules })) (codes "play") (λ frames. refl) (at_most MAX_FRAMES frames)
+played_of : (at : Text) (is_quiet : Bool) (map_file : Option Text) (rules : List Text) (player : PlayerPlain) → IsOf (codes "play") (played_by at is_quiet map_file rules player)
+played_of at is_quiet map_file rules (Script file) = refl
+played_of at is_quiet map_file rules (Bot frames) =
+    made_of (λ frames. PlayBot (record { at = at; frames = frames; is_quiet = is_quiet; map_file = map_file; rules = rules })) (codes "play") (λ frames. refl) (at_most MAX_FRAMES frames)
 
 play_of : (found : List Row) → IsOf (codes "play") (play_in found)
 unfolding play_in
 play_of found =
     then_of _ (codes "play") (λ at. then_of _ (codes "play") (λ player. then_of _ (codes "play")
-    (λ rules. played_of at (first_of (codes "map") found) rules player) (names_in 0 found)) (player_in found)) (first_of (codes "at") found)
+    (λ rules. played_of at (has_flag (codes "quiet") found) (first_of (codes "map") found) rules player) (names_in 0 found)) (player_in found)) (first_of (codes "at") found)
 
 migrate_of : (found : List Row) → IsOf (codes "migrate") (migrate_in found)
 unfolding migrate_in

@@ -7,6 +7,7 @@ use Rattle.clap.specs.declared.builder.action.ArgAction.TheVariants.{Append, Set
 use Rattle.clap.specs.declared.builder.value_parser.ValueParser.TheVariants.{Signed}
 use Rattle.game_orders.specs.declared.limits.TheConstants.{MAX_CLIENTS, MAX_FRAMES, MAX_LAG}
 use Rattle.command_words.specs.declared.TheConstants.{MAX_BOTS}
+use Rattle.command_words.specs.declared.host.TheConstants.{MAX_SECONDS}
 
 -- `--NAME VALUE`, which may be left out.
 abbrev pub option_named : Text → Rule
@@ -105,10 +106,31 @@ timed_app =
     (with_rule hosted_app (number_option (codes "lag") 1 MAX_LAG))
     (number_option (codes "seed") 0 4294967295)
 
--- `serve --at ADDRESS --clients N --lag N --seed N --map FILE RULES`, where the lag, the seed and
--- the map may be left out.
+-- The same with `--patience SECONDS --lobby SECONDS`, which may be left out.
+unfoldable pub clocked_app : App
+clocked_app =
+    with_rule
+    (with_rule timed_app (number_option (codes "patience") 1 MAX_SECONDS))
+    (number_option (codes "lobby") 1 MAX_SECONDS)
+
+-- The same with `--quiet --udp-ports A-B`, which may be left out. That A and B are ports, with room
+-- for the clients, is tested beside `clap`.
+unfoldable pub bound_app : App
+bound_app =
+    with_rule
+    (with_rule clocked_app (flag_named (codes "quiet")))
+    (option_named (codes "udp-ports"))
+
+-- The same with `--record FILE --map FILE`, which may be left out.
+unfoldable pub recorded_app : App
+recorded_app =
+    with_rule
+    (with_rule bound_app (option_named (codes "record")))
+    (option_named (codes "map"))
+
+-- `serve` with all its options, and RULES.
 unfoldable pub serve_app : App
-serve_app = with_rule (with_rule timed_app (option_named (codes "map"))) file_names
+serve_app = with_rule recorded_app file_names
 
 -- `play --at ADDRESS --script FILE`, so far.
 unfoldable pub dialed_app : App
@@ -124,11 +146,16 @@ manned_app =
     (with_rule dialed_app (flag_named (codes "bot")))
     (number_option (codes "frames") 0 MAX_FRAMES)
 
--- `play --at ADDRESS --script FILE --bot --frames N --map FILE RULES`, where all but the address
--- may be left out. That `--script` stands alone, or `--bot` and `--frames` without it, is tested
--- beside `clap`.
+-- The same with `--quiet --map FILE`.
+unfoldable pub quiet_app : App
+quiet_app =
+    with_rule (with_rule manned_app (flag_named (codes "quiet"))) (option_named (codes "map"))
+
+-- `play --at ADDRESS --script FILE --bot --frames N --quiet --map FILE RULES`, where all but the
+-- address may be left out. That `--script` stands alone, or `--bot` and `--frames` without it, is
+-- tested beside `clap`.
 unfoldable pub play_app : App
-play_app = with_rule (with_rule manned_app (option_named (codes "map"))) file_names
+play_app = with_rule quiet_app file_names
 
 -- `replay --file FILE --map FILE RULES`, where the map may be left out.
 unfoldable pub replay_app : App

@@ -4,3 +4,4 @@ pub mod RequestPlain
 pub mod Player
 pub mod Reading
 pub mod CommandNames
+pub mod HostOptions

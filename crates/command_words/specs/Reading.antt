@@ -1,5 +1,5 @@
 -- The request that the words of a command line name.
-use Rattle.std.specs.Prelude.{◌≡◌, ◌⊎◌, ℕ, ◌&&◌, ◌==◌, Bool, true, not, nat_le}
+use Rattle.std.specs.Prelude.{◌≡◌, ◌⊎◌, ℕ, ◌+◌, ◌-◌, ◌&&◌, ◌==◌, Bool, true, not, nat_le}
 use Rattle.std.specs.Prelude.{if◌then◌else◌, List, [], ◌∷◌, length, Option, None, Some, codes}
 use Rattle.std.specs.Prelude.{false, option_map, option_and_then, unwrap_or}
 use Rattle.std.specs.Option.{IsSomeAnd, option_map_or}
@@ -11,9 +11,15 @@ use Rattle.clap.specs.ValueTests.{is_unsigned_in}
 use Rattle.clap.specs.Faults.{fault_of}
 use Rattle.game_orders.specs.declared.limits.TheConstants.{MAX_CLIENTS, MAX_FRAMES, MAX_LAG}
 use Rattle.command_words.specs.declared.TheConstants.{MAX_BOTS, MAX_FILES}
+use Rattle.command_words.specs.declared.host.HostOptions.{HostOptions}
+use Rattle.command_words.specs.declared.host.TheConstants.{MAX_SECONDS}
+use Rattle.command_words.specs.declared.port_range.PortRange.{PortRange}
+use Rattle.command_words.specs.declared.port_range.TheConstants.{MAX_PORT}
 use Rattle.command_words.specs.declared.serve_query.TheConstants.{DEFAULT_LAG, DEFAULT_SEED}
 use Rattle.command_words.specs.declared.world_range.TheConstants.{DEFAULT_EVERY, DEFAULT_FROM}
+use Rattle.base.specs.Numbers.{number_of as digits_of}
 use Rattle.rule_values.specs.Cells.{cell_of}
+use Rattle.rule_values.specs.Parts.{parts_at}
 use Rattle.world_units.specs.declared.cell.CPos.{CPos}
 use Rattle.command_words.specs.RequestPlain.{RequestPlain, Drill, Yaml, Check, Route, Make}
 use Rattle.command_words.specs.RequestPlain.{Local, Serve, Play, Replay, Migrate}
@@ -177,16 +183,17 @@ player_in found =
     player_of (first_of (codes "script") found) (has_flag (codes "bot") found)
     (number_in (codes "frames") found)
 
--- The request of a player at a server: over which map and rules.
+-- The request of a player at a server: with a log or without one, over which map and rules.
 abbrev pub played_by :
-    (at : Text) → (map_file : Option Text) → (rules : List Text) → PlayerPlain →
-    Option RequestPlain
-played_by at map_file rules (Script file) =
-    Some (Play (record { file = file; map_file = map_file; rules = rules }) at)
-played_by at map_file rules (Bot frames) =
+    (at : Text) → (is_quiet : Bool) → (map_file : Option Text) → (rules : List Text) →
+    PlayerPlain → Option RequestPlain
+played_by at is_quiet map_file rules (Script file) =
+    Some (Play (record { file = file; map_file = map_file; rules = rules }) at is_quiet)
+played_by at is_quiet map_file rules (Bot frames) =
     option_map (λ frames. PlayBot (record {
       at = at;
       frames = frames;
+      is_quiet = is_quiet;
       map_file = map_file;
       rules = rules;
     }))
@@ -197,10 +204,58 @@ unfoldable pub play_in : List Row → Option RequestPlain
 play_in found =
     option_and_then (λ at.
     option_and_then (λ player.
-    option_and_then (λ rules. played_by at (first_of (codes "map") found) rules player)
+    option_and_then (λ rules.
+    played_by at (has_flag (codes "quiet") found) (first_of (codes "map") found) rules player)
     (names_in 0 found))
     (player_in found))
     (first_of (codes "at") found)
+
+-- What the value of an option makes, which may be left out: then there is nothing, else it has to
+-- make something.
+abbrev pub optional : {S T : Type 0} → (S → Option T) → Option S → Option (Option T)
+optional make None = Some None
+optional make (Some value) = option_map (λ made. Some made) (make value)
+
+-- The seconds that an option writes, 1 to MAX_SECONDS, if it is given.
+unfoldable pub seconds_in : Text → List Row → Option (Option ℕ)
+seconds_in name found = optional (up_to MAX_SECONDS) (number_in name found)
+
+-- The ports from one number to another, both from 1 to MAX_PORT: as many as there are clients, or
+-- more.
+abbrev pub range_of : (clients first last : ℕ) → Option PortRange
+range_of clients first last =
+    if nat_le 1 first && (nat_le first last && (nat_le last MAX_PORT
+    && nat_le clients (last - first + 1)))
+    then Some (record { first = first; last = last }) else None
+
+-- The same of two numbers in digits, with a minus (45) between them.
+unfoldable pub ports_of : (clients : ℕ) → Text → Option PortRange
+ports_of clients text =
+    option_and_then (λ parts.
+    option_and_then (λ first.
+    option_and_then (λ last. range_of clients first last)
+    (digits_of parts.1))
+    (digits_of parts.0))
+    (parts_at 45 text)
+
+-- The ports of so many clients, if they are given.
+unfoldable pub ports_in : (clients : ℕ) → List Row → Option (Option PortRange)
+ports_in clients found = optional (ports_of clients) (first_of (codes "udp-ports") found)
+
+-- What is said of the log, the clocks and the ports of a match of so many clients.
+unfoldable pub host_in : (clients : ℕ) → List Row → Option HostOptions
+host_in clients found =
+    option_and_then (λ patience.
+    option_and_then (λ lobby.
+    option_map (λ ports. record {
+      is_quiet = has_flag (codes "quiet") found;
+      patience = patience;
+      lobby = lobby;
+      udp_ports = ports;
+    })
+    (ports_in clients found))
+    (seconds_in (codes "lobby") found))
+    (seconds_in (codes "patience") found)
 
 -- The match that is to be served.
 unfoldable pub serve_in : List Row → Option ServePlain
@@ -208,15 +263,19 @@ serve_in found =
     option_and_then (λ at.
     option_and_then (λ clients.
     option_and_then (λ lag.
+    option_and_then (λ host.
     option_map (λ rules. record {
       at = at;
       clients = clients;
       lag = lag;
       seed = unwrap_or (number_in (codes "seed") found) DEFAULT_SEED;
+      host = host;
+      record_file = first_of (codes "record") found;
       map_file = first_of (codes "map") found;
       rules = rules;
     })
     (names_in 0 found))
+    (host_in clients found))
     (count_or DEFAULT_LAG MAX_LAG (codes "lag") found))
     (count_in MAX_CLIENTS (codes "clients") found))
     (first_of (codes "at") found)
@@ -274,8 +333,8 @@ found_request = option_and_then (λ command. command_request command.0 command.1
 
 -- The request that the words name; the first of them is the program's name. Words name none where
 -- `clap`'s definition of the command line does not accept them, where the number of positional
--- arguments is not allowed, where a cell of `route` is none, and where `play` has no player, or
--- two.
+-- arguments is not allowed, where a cell of `route` is none, where `play` has no player, or two, and
+-- where the ports of `serve` are none, or fewer than its clients.
 unfoldable pub request_of : List Text → Option RequestPlain
 request_of words =
     if is_accepted words then found_request (subcommand_of lockstep_app words) else None
@@ -317,6 +376,14 @@ CellRefused (Some command) =
 abbrev pub PlayerRefused : Option (Text × List Row) → Type 0
 PlayerRefused None = ⊥
 PlayerRefused (Some command) = (command.0 ≡ codes "play") × (player_in command.1 ≡ None)
+
+-- The command is `serve`, and `--udp-ports` writes no ports, or fewer than there are clients.
+abbrev pub PortsRefused : Option (Text × List Row) → Type 0
+PortsRefused None = ⊥
+PortsRefused (Some command) =
+    (command.0 ≡ codes "serve")
+    × IsSomeAnd (count_in MAX_CLIENTS (codes "clients") command.1)
+    (λ clients. ports_in clients command.1 ≡ None)
 
 -- A word that is a value as it stands: it does not begin with `-` (45), or it is `-` alone.
 abbrev pub is_plain : Text → Bool

@@ -1,11 +1,15 @@
 -- A request as plain data: names are lists of bytes.
-use Rattle.std.specs.Prelude.{◌≡◌, ℕ, ◌≤◌, List, [], length, Option, None, Some, option_map}
+use Rattle.std.specs.Prelude.{◌≡◌, ℕ, ◌≤◌, Bool, List, [], length, Option, None, Some, option_map}
+use Rattle.std.specs.Prelude.{IfSome}
 use Rattle.std.specs.Borrow.{Bor}
 use Rattle.world_units.specs.declared.cell.CPos.{CPos}
 use Rattle.game_orders.specs.declared.limits.TheConstants.{MAX_CLIENTS, MAX_FRAMES}
 use Rattle.command_words.specs.declared.TheConstants.{MAX_BOTS, MAX_FILES}
 use Rattle.command_words.specs.declared.bot_query.BotQuery.{BotQuery}
+use Rattle.command_words.specs.declared.host.HostOptions.{HostOptions}
+use Rattle.command_words.specs.declared.host.TheConstants.{MAX_SECONDS}
 use Rattle.command_words.specs.declared.match_query.MatchQuery.{MatchQuery}
+use Rattle.command_words.specs.declared.port_range.PortRange.{PortRange}
 use Rattle.command_words.specs.declared.route_query.RouteQuery.{RouteQuery}
 use Rattle.command_words.specs.declared.serve_query.ServeQuery.{ServeQuery}
 use Rattle.command_words.specs.declared.world_range.WorldRange.{WorldRange}
@@ -30,13 +34,15 @@ pub record RoutePlain : Type 0 where
   pub to : CPos
   pub rules : List (List ℕ)
 
--- A match that is served: where, to how many clients, by which lag and seed, over which map and
--- rules.
+-- A match that is served: where, to how many clients, by which lag and seed, by which clocks and
+-- ports, to which file its replay is written, if to one, and over which map and rules.
 pub record ServePlain : Type 0 where
   pub at : List ℕ
   pub clients : ℕ
   pub lag : ℕ
   pub seed : ℕ
+  pub host : HostOptions
+  pub record_file : Option (List ℕ)
   pub map_file : Option (List ℕ)
   pub rules : List (List ℕ)
 
@@ -47,10 +53,12 @@ pub record RangePlain : Type 0 where
   pub to : Option ℕ
   pub every : ℕ
 
--- A match over a link that a bot plays: at which server, how many frames, over which map and rules.
+-- A match over a link that a bot plays: at which server, how many frames, with a log or without one,
+-- over which map and rules.
 pub record BotPlain : Type 0 where
   pub at : List ℕ
   pub frames : ℕ
+  pub is_quiet : Bool
   pub map_file : Option (List ℕ)
   pub rules : List (List ℕ)
 
@@ -62,7 +70,7 @@ pub data RequestPlain : Type 0 where
   Make : (number : ℕ) → RequestPlain
   Local : MatchPlain → (bots : ℕ) → RequestPlain
   Serve : ServePlain → RequestPlain
-  Play : MatchPlain → (at : List ℕ) → RequestPlain
+  Play : MatchPlain → (at : List ℕ) → (is_quiet : Bool) → RequestPlain
   PlayBot : BotPlain → RequestPlain
   Replay : MatchPlain → RequestPlain
   Migrate : MatchPlain → (to : List ℕ) → RequestPlain
@@ -101,6 +109,8 @@ plain_serve query =
       clients = query.clients;
       lag = query.lag;
       seed = query.seed;
+      host = query.host;
+      record_file = plain_name query.record_file;
       map_file = plain_name query.map_file;
       rules = query.rules;
     }
@@ -110,6 +120,7 @@ plain_bot query =
     record {
       at = query.at.now;
       frames = query.frames;
+      is_quiet = query.is_quiet;
       map_file = plain_name query.map_file;
       rules = query.rules;
     }
@@ -126,7 +137,7 @@ plain_of (request.Route query) = Route (plain_route query)
 plain_of (request.Make number) = Make number
 plain_of (request.Local query bots) = Local (plain_match query) bots
 plain_of (request.Serve query) = Serve (plain_serve query)
-plain_of (request.Play query at) = Play (plain_match query) at.now
+plain_of (request.Play query at is_quiet) = Play (plain_match query) at.now is_quiet
 plain_of (request.PlayBot query) = PlayBot (plain_bot query)
 plain_of (request.Replay query) = Replay (plain_match query)
 plain_of (request.Migrate query to) = Migrate (plain_match query) to.now
@@ -145,6 +156,20 @@ HasFewFiles query = length query.rules ≤ MAX_FILES
 abbrev pub IsCount : ℕ → Type 0
 IsCount clients = (1 ≤ clients) × (clients ≤ MAX_CLIENTS)
 
+-- So many seconds a clock may have.
+abbrev pub AreSeconds : ℕ → Type 0
+AreSeconds seconds = (1 ≤ seconds) × (seconds ≤ MAX_SECONDS)
+
+-- The ports are in order, and none of them is 0.
+abbrev pub IsInOrder : PortRange → Type 0
+IsInOrder ports = (1 ≤ ports.first) × (ports.first ≤ ports.last)
+
+-- The numbers of the clocks and of the ports are within their bounds.
+pub record FitsHost (host : HostOptions) : Type 0 where
+  pub patience : IfSome host.patience AreSeconds
+  pub lobby : IfSome host.lobby AreSeconds
+  pub ports : IfSome host.udp_ports IsInOrder
+
 -- The request has at most `MAX_FILES` positional arguments, and its numbers are within their
 -- bounds.
 abbrev pub IsWithinBounds : Request → Type 0
@@ -154,8 +179,9 @@ IsWithinBounds (request.Check map_file rules) = length rules ≤ MAX_FILES
 IsWithinBounds (request.Route query) = length query.rules ≤ MAX_FILES
 IsWithinBounds (request.Make number) = Unit {0}
 IsWithinBounds (request.Local query bots) = HasFewFiles query × (bots ≤ MAX_BOTS)
-IsWithinBounds (request.Serve query) = (length query.rules ≤ MAX_FILES) × IsCount query.clients
-IsWithinBounds (request.Play query at) = HasFewFiles query
+IsWithinBounds (request.Serve query) =
+    (length query.rules ≤ MAX_FILES) × IsCount query.clients × FitsHost query.host
+IsWithinBounds (request.Play query at is_quiet) = HasFewFiles query
 IsWithinBounds (request.PlayBot query) =
     (length query.rules ≤ MAX_FILES) × (query.frames ≤ MAX_FRAMES)
 IsWithinBounds (request.Replay query) = HasFewFiles query

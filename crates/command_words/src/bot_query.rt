@@ -9,6 +9,9 @@ pub struct BotQuery<'a> {
     /// How many frames the bot plays, at most `MAX_FRAMES`.
     pub frames: u32,
 
+    /// Whether nothing is logged.
+    pub is_quiet: bool,
+
     /// The name of the map's file, if one is given.
     pub map_file: Option<&'a str>,
 

@@ -2,8 +2,9 @@ ghost use Rattle.std.specs.Prelude.{◌≡◌, IfOk, false};
 ghost use Rattle.command_words.specs.Commands.{bare_app, played_app, drill_app, yaml_app};
 ghost use Rattle.command_words.specs.Commands.{check_app, routed_app, ends_app, route_app};
 ghost use Rattle.command_words.specs.Commands.{make_app, local_app, replay_app, migrate_app};
-ghost use Rattle.command_words.specs.Commands.{hosted_app, timed_app, serve_app, play_app};
-ghost use Rattle.command_words.specs.Commands.{dialed_app, manned_app, flag_named};
+ghost use Rattle.command_words.specs.Commands.{hosted_app, timed_app, clocked_app, bound_app};
+ghost use Rattle.command_words.specs.Commands.{recorded_app, serve_app, play_app};
+ghost use Rattle.command_words.specs.Commands.{dialed_app, manned_app, quiet_app, flag_named};
 ghost use Rattle.command_words.specs.Commands.{first_app, asking_app, playing_app, linked_app};
 ghost use Rattle.command_words.specs.Commands.{framed_app, save_app, continue_app, view_app};
 ghost use Rattle.command_words.specs.Commands.{ranged_app, worlds_app, compare_app, datagrams_app};
@@ -14,7 +15,7 @@ ghost use Rattle.command_words.specs.Follows.{Follows};
 ghost use Rattle.clap.specs.Simple.{app_of};
 ghost use Rattle.clap.specs.Walk.{rule_of};
 
-use crate::MAX_BOTS;
+use crate::{MAX_BOTS, MAX_SECONDS};
 use base::NoMemory;
 use clap::builder::ValueParser;
 use clap::{Arg, ArgAction, Command};
@@ -192,12 +193,40 @@ fn local_command<'a>(alloc: Global) -> Result<Command<'a>, NoMemory>
 fn serve_command<'a>(alloc: Global) -> Result<Command<'a>, NoMemory>
     ensures { IfOk result (Follows serve_app) }
 {
-    timed_command(alloc)?
-        .arg(option_named(alloc, "map"))?
-        .arg(file_names(alloc))
+    recorded_command(alloc)?.arg(file_names(alloc))
+}
+
+/// `serve` with all its options.
+#[tactic(auto, unfolding(crate::specs::Commands::recorded_app))]
+fn recorded_command<'a>(alloc: Global) -> Result<Command<'a>, NoMemory>
+    ensures { IfOk result (Follows recorded_app) }
+{
+    bound_command(alloc)?
+        .arg(option_named(alloc, "record"))?
+        .arg(option_named(alloc, "map"))
+}
+
+/// `serve` without the files that it names.
+#[tactic(auto, unfolding(crate::specs::Commands::bound_app))]
+fn bound_command<'a>(alloc: Global) -> Result<Command<'a>, NoMemory>
+    ensures { IfOk result (Follows bound_app) }
+{
+    clocked_command(alloc)?
+        .arg(flag_named(alloc, "quiet"))?
+        .arg(option_named(alloc, "udp-ports"))
 }
 
 /// `serve` with all its numbers.
+#[tactic(auto, unfolding(crate::specs::Commands::clocked_app))]
+fn clocked_command<'a>(alloc: Global) -> Result<Command<'a>, NoMemory>
+    ensures { IfOk result (Follows clocked_app) }
+{
+    timed_command(alloc)?
+        .arg(number_option(alloc, "patience", 1, MAX_SECONDS))?
+        .arg(number_option(alloc, "lobby", 1, MAX_SECONDS))
+}
+
+/// `serve` with the numbers of the match.
 #[tactic(auto, unfolding(crate::specs::Commands::timed_app))]
 fn timed_command<'a>(alloc: Global) -> Result<Command<'a>, NoMemory>
     ensures { IfOk result (Follows timed_app) }
@@ -221,9 +250,17 @@ fn hosted_command<'a>(alloc: Global) -> Result<Command<'a>, NoMemory>
 fn play_command<'a>(alloc: Global) -> Result<Command<'a>, NoMemory>
     ensures { IfOk result (Follows play_app) }
 {
+    quiet_command(alloc)?.arg(file_names(alloc))
+}
+
+/// `play` with all its options.
+#[tactic(auto, unfolding(crate::specs::Commands::quiet_app))]
+fn quiet_command<'a>(alloc: Global) -> Result<Command<'a>, NoMemory>
+    ensures { IfOk result (Follows quiet_app) }
+{
     manned_command(alloc)?
-        .arg(option_named(alloc, "map"))?
-        .arg(file_names(alloc))
+        .arg(flag_named(alloc, "quiet"))?
+        .arg(option_named(alloc, "map"))
 }
 
 /// `play` with all that says where and who plays.

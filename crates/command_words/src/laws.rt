@@ -1,5 +1,5 @@
 ghost use Rattle.std.specs.Prelude.{◌≡◌, ◌∷◌, ◌++◌, [], ℕ, List, Some, None, true, codes};
-ghost use Rattle.std.specs.Prelude.{option_map, is_some, slice_get, ◌⊎◌};
+ghost use Rattle.std.specs.Prelude.{option_map, is_some, slice_get, ◌⊎◌, false};
 ghost use Rattle.std.specs.List.{All};
 ghost use Rattle.clap.specs.Simple.{subcommand_of};
 ghost use Rattle.command_words.specs.CommandNames.{command_of};
@@ -9,7 +9,9 @@ ghost use Rattle.command_words.specs.RequestPlain.{Migrate, Route, Make, Local, 
 ghost use Rattle.command_words.specs.RequestPlain.{Save, Continue, View, Worlds, Compare, Datagrams, PlayBot};
 ghost use Rattle.command_words.specs.RequestPlain.{match_alone};
 ghost use Rattle.command_words.specs.Reading.{request_of, is_accepted, is_plain, allowed};
+ghost use Rattle.command_words.specs.HostOptions.{no_options};
 ghost use Rattle.command_words.specs.Reading.{NamesRefused, CellRefused, PlayerRefused};
+ghost use Rattle.command_words.specs.Reading.{PortsRefused};
 
 /// A law of the definition: no words, and the program's name alone, are refused.
 #[tactic(auto, using(crate::proofs::LiteralLemmas::no_words, crate::proofs::LiteralLemmas::alone))]
@@ -147,13 +149,21 @@ pub fn local_with_bots()
 {}
 
 /// A law of the definition: `play --at=ADDRESS --script=FILE` names the server's address and the
-/// script, whatever they are.
-#[tactic(auto, using(crate::proofs::LiteralLemmas::play_after_equals))]
+/// script, whatever they are. `--quiet` leaves out the log, at most once.
+#[tactic(auto, using(crate::proofs::LiteralLemmas::play_after_equals, crate::proofs::LiteralLemmas::play_quietly, crate::proofs::LiteralLemmas::play_quietly_twice,))]
 pub fn play_after_equals()
-    ensures { (program at script : List ℕ) →
+    ensures script { (program at script : List ℕ) →
         request_of (program ∷ codes "play" ∷ (codes "--at=" ++ at)
         ∷ (codes "--script=" ++ script) ∷ [])
-        ≡ Some (Play (match_alone script) at) }
+        ≡ Some (Play (match_alone script) at false) }
+    ensures quiet { (program at script : List ℕ) →
+        request_of (program ∷ codes "play" ∷ codes "--quiet" ∷ (codes "--at=" ++ at)
+        ∷ (codes "--script=" ++ script) ∷ [])
+        ≡ Some (Play (match_alone script) at true) }
+    ensures twice { (program at script : List ℕ) →
+        request_of (program ∷ codes "play" ∷ codes "--quiet" ∷ (codes "--at=" ++ at)
+        ∷ codes "--quiet" ∷ (codes "--script=" ++ script) ∷ [])
+        ≡ None }
 {}
 
 /// A law of the definition: `play --bot --frames=N --at=ADDRESS` names the server's address,
@@ -164,7 +174,13 @@ pub fn play_by_a_bot()
     ensures bot { (program at : List ℕ) →
         request_of (program ∷ codes "play" ∷ codes "--bot" ∷ codes "--frames=262144"
         ∷ (codes "--at=" ++ at) ∷ [])
-        ≡ Some (PlayBot (record { at = at; frames = 262144; map_file = None; rules = [] })) }
+        ≡ Some (PlayBot (record {
+          at = at;
+          frames = 262144;
+          is_quiet = false;
+          map_file = None;
+          rules = [];
+        })) }
     ensures both { (program at script : List ℕ) →
         request_of (program ∷ codes "play" ∷ codes "--bot" ∷ codes "--frames=1"
         ∷ (codes "--script=" ++ script) ∷ (codes "--at=" ++ at) ∷ [])
@@ -174,7 +190,8 @@ pub fn play_by_a_bot()
 {}
 
 /// A law of the definition: `serve --at=ADDRESS --clients=16` names the address, whatever it is.
-/// The lag of the match is 2 and its seed 1, and it is over no map and no rules.
+/// The lag of the match is 2 and its seed 1, it has no clocks and no ports, is logged and not
+/// recorded, and is over no map and no rules.
 #[tactic(auto, using(crate::proofs::LiteralLemmas::serve_without_options))]
 pub fn serve_without_options()
     ensures { (program at : List ℕ) →
@@ -184,6 +201,8 @@ pub fn serve_without_options()
           clients = 16;
           lag = 2;
           seed = 1;
+          host = no_options;
+          record_file = None;
           map_file = None;
           rules = [];
         })) }
@@ -192,18 +211,44 @@ pub fn serve_without_options()
 /// A law of the definition: each option of `serve` names what it is called by.
 #[tactic(auto, using(crate::proofs::LiteralLemmas::serve_with_options))]
 pub fn serve_with_options()
-    ensures { (program at map_file : List ℕ) →
-        request_of (program ∷ codes "serve" ∷ (codes "--map=" ++ map_file)
-        ∷ codes "--seed=4294967295" ∷ codes "--lag=64" ∷ codes "--clients=3"
-        ∷ (codes "--at=" ++ at) ∷ [])
+    ensures { (program at written map_file : List ℕ) →
+        request_of (program ∷ codes "serve" ∷ (codes "--map=" ++ map_file) ∷ codes "--lobby=86400"
+        ∷ codes "--seed=4294967295" ∷ codes "--udp-ports=7071-7073" ∷ codes "--lag=64"
+        ∷ codes "--quiet" ∷ codes "--clients=3" ∷ (codes "--record=" ++ written)
+        ∷ codes "--patience=1" ∷ (codes "--at=" ++ at) ∷ [])
         ≡ Some (Serve (record {
           at = at;
           clients = 3;
           lag = 64;
           seed = 4294967295;
+          host = record {
+            is_quiet = true;
+            patience = Some 1;
+            lobby = Some 86400;
+            udp_ports = Some (record { first = 7071; last = 7073 });
+          };
+          record_file = Some written;
           map_file = Some map_file;
           rules = [];
         })) }
+{}
+
+/// A law of the definition: `serve` refuses ports with less room than its clients, at every address,
+/// a patience of 0 seconds, and a lobby of more than a day.
+#[tactic(auto, using(crate::proofs::LiteralLemmas::serve_without_room, crate::proofs::LiteralLemmas::serve_without_patience, crate::proofs::LiteralLemmas::serve_for_ever,))]
+pub fn serve_refuses_clocks_and_ports()
+    ensures room { (program at : List ℕ) →
+        request_of (program ∷ codes "serve" ∷ (codes "--at=" ++ at) ∷ codes "--clients=3"
+        ∷ codes "--udp-ports=7071-7072" ∷ [])
+        ≡ None }
+    ensures patience { (program at : List ℕ) →
+        request_of (program ∷ codes "serve" ∷ (codes "--at=" ++ at) ∷ codes "--clients=3"
+        ∷ codes "--patience=0" ∷ [])
+        ≡ None }
+    ensures lobby { (program at : List ℕ) →
+        request_of (program ∷ codes "serve" ∷ (codes "--at=" ++ at) ∷ codes "--clients=3"
+        ∷ codes "--lobby=86401" ∷ [])
+        ≡ None }
 {}
 
 /// A law of the definition: each option of `route` names what it is called by.
@@ -267,12 +312,13 @@ pub fn check_names()
 
 /// A law of the definition: words that `clap` accepts name a request, unless a command that takes
 /// positional arguments has too many of them, or too few, or a cell of `route` is none, or `play`
-/// has no player, or two.
+/// has no player, or two, or the ports of `serve` are none, or fewer than its clients.
 #[tactic(auto, using(crate::proofs::AcceptedLemmas::accepted_request))]
 pub fn accepted_words_name_a_request()
     ensures { (words : List (List ℕ)) → is_accepted words ≡ true →
         (is_some (request_of words) ≡ true)
         ⊎ (NamesRefused (subcommand_of lockstep_app words)
         ⊎ (CellRefused (subcommand_of lockstep_app words)
-        ⊎ PlayerRefused (subcommand_of lockstep_app words))) }
+        ⊎ (PlayerRefused (subcommand_of lockstep_app words)
+        ⊎ PortsRefused (subcommand_of lockstep_app words)))) }
 {}

@@ -2,16 +2,22 @@
 //!
 //! `read_words` returns the request that they name. A list of words is accepted exactly where
 //! `clap`'s own definition of such a command line accepts it, the number of files that it names is
-//! allowed, and the cells of a route are cells; the definition stands in `specs/Commands.antt`, one
-//! entry a command. It is a crate of its own so that only this one is proved together with `clap`.
+//! allowed, the cells of a route are cells, a player is one, and ports are ports; the definition stands
+//! in `specs/Commands.antt`, one entry a command. [`host_options`] has what the words say of the log,
+//! the clocks and the ports, before a match begins. It is a crate of its own so that only this one is
+//! proved together with `clap`.
 #![tactic(auto)]
 
 mod bot_query;
 mod command;
 mod file_names;
+mod host;
+mod host_reading;
+mod host_words;
 mod laws;
 mod match_query;
 mod player;
+mod port_range;
 mod reading;
 mod request;
 mod route_query;
@@ -21,15 +27,19 @@ mod world_range;
 
 pub use bot_query::BotQuery;
 pub use file_names::FileNames;
+pub use host::{HostOptions, MAX_SECONDS};
+pub use host_words::host_options;
 pub use laws::{
     accepted_words_name_a_request, check_names, command_comes_second, compare_after_equals,
     continue_after_equals, datagrams_after_equals, local_after_equals, local_with_bots,
     make_of_a_number, map_after_equals, migrated_files_after_equals, no_command, play_after_equals,
     play_by_a_bot, record_after_equals, replay_after_equals, route_with_options, save_with_options,
-    script_after_equals, script_in_a_word, serve_with_options, serve_without_options,
-    view_of_a_client, worlds_with_options, worlds_without_options, yaml_names,
+    script_after_equals, script_in_a_word, serve_refuses_clocks_and_ports, serve_with_options,
+    serve_without_options, view_of_a_client, worlds_with_options, worlds_without_options,
+    yaml_names,
 };
 pub use match_query::MatchQuery;
+pub use port_range::{MAX_PORT, PortRange};
 pub use reading::read_words;
 pub use request::Request;
 pub use route_query::RouteQuery;

@@ -7,6 +7,7 @@ ghost use Rattle.clap.specs.Simple.{subcommand_of, subcommand_rows_of};
 ghost use Rattle.command_words.specs.Commands.{lockstep_app};
 ghost use Rattle.command_words.specs.RequestPlain.{plain_of, plain_match, plain_route, plain_serve};
 ghost use Rattle.command_words.specs.RequestPlain.{plain_name, plain_range, HasFewFiles, IsCount};
+ghost use Rattle.command_words.specs.RequestPlain.{FitsHost};
 ghost use Rattle.command_words.specs.RequestPlain.{IsRead, IsWithinBounds};
 ghost use Rattle.command_words.specs.Reading.{is_accepted, is_allowed, command_request};
 ghost use Rattle.command_words.specs.Reading.{found_request, request_of, names_in, number_in};
@@ -19,6 +20,7 @@ ghost use Rattle.command_words.specs.Reading.{player_in};
 ghost use Rattle.command_words.specs.Player.{plain_player};
 
 use crate::command::lockstep_command;
+use crate::host_reading::host_in;
 use crate::player::Player;
 use crate::{
     BotQuery, DEFAULT_EVERY, DEFAULT_FROM, DEFAULT_LAG, DEFAULT_SEED, FileNames, MAX_BOTS,
@@ -197,21 +199,23 @@ fn play_in<'a>(alloc: Global, found: &ArgMatches<'a>) -> Result<Request<'a>, Wor
 {
     let at = value_in(found, "at").ok_or(WordsFault::Refused)?;
     let player = player_in(found).ok_or(WordsFault::Refused)?;
+    let is_quiet = has_flag(found, "quiet");
     let map_file = value_in(found, "map");
     let rules = names_in(alloc, found, 0)?;
-    played_by(at, map_file, rules, player).ok_or(WordsFault::Refused)
+    played_by(at, is_quiet, map_file, rules, player).ok_or(WordsFault::Refused)
 }
 
-/// The request of a player at a server, over this map and these rules.
+/// The request of a player at a server, with a log or without one, over this map and these rules.
 fn played_by<'a>(
     at: &'a str,
+    is_quiet: bool,
     map_file: Option<&'a str>,
     rules: FileNames<'a>,
     player: Player<'a>,
 ) -> Option<Request<'a>>
     requires { length rules ≤ MAX_FILES }
     ensures request { option_map plain_of result
-        ≡ played_by at.entry.now (plain_name map_file.entry) rules.entry
+        ≡ played_by at.entry.now is_quiet (plain_name map_file.entry) rules.entry
         (plain_player player.entry) }
     ensures bounds { IfSome result IsWithinBounds }
 {
@@ -222,13 +226,18 @@ fn played_by<'a>(
                 map_file,
                 rules,
             };
-            Some(Request::Play { query, at })
+            Some(Request::Play {
+                query,
+                at,
+                is_quiet,
+            })
         }
         Player::Bot { frames } => {
             let frames = at_most(MAX_FRAMES, frames)?;
             Some(Request::PlayBot(BotQuery {
                 at,
                 frames,
+                is_quiet,
                 map_file,
                 rules,
             }))
@@ -252,7 +261,7 @@ fn player_in<'a>(found: &ArgMatches<'a>) -> Option<Player<'a>>
 
 /// Whether the option without a value is given.
 #[tactic(auto, unfolding(crate::specs::Reading::has_flag))]
-fn has_flag(found: &ArgMatches<'_>, option: &str) -> bool
+pub(crate) fn has_flag(found: &ArgMatches<'_>, option: &str) -> bool
     ensures { result ≡ has_flag option.now (rows_of (found_of found.now)) }
 {
     match value_in(found, option) {
@@ -341,6 +350,7 @@ fn serve_in<'a>(alloc: Global, found: &ArgMatches<'a>) -> Result<ServeQuery<'a>,
         (λ query. serve_in (rows_of (found_of found.now)) ≡ Some (plain_serve query)) }
     ensures few { IfOk result (λ query. length query.rules ≤ MAX_FILES) }
     ensures clients { IfOk result (λ query. IsCount query.clients) }
+    ensures host { IfOk result (λ query. FitsHost query.host) }
     ensures refused { result ≡ Err WordsFault.Refused →
         serve_in (rows_of (found_of found.now)) ≡ None }
 {
@@ -348,6 +358,8 @@ fn serve_in<'a>(alloc: Global, found: &ArgMatches<'a>) -> Result<ServeQuery<'a>,
     let clients = count_in(found, "clients", MAX_CLIENTS).ok_or(WordsFault::Refused)?;
     let lag = count_or(found, "lag", DEFAULT_LAG, MAX_LAG).ok_or(WordsFault::Refused)?;
     let seed = number_in(found, "seed").unwrap_or(DEFAULT_SEED);
+    let host = host_in(found, clients).ok_or(WordsFault::Refused)?;
+    let record_file = value_in(found, "record");
     let map_file = value_in(found, "map");
     let rules = names_in(alloc, found, 0)?;
     Ok(ServeQuery {
@@ -355,6 +367,8 @@ fn serve_in<'a>(alloc: Global, found: &ArgMatches<'a>) -> Result<ServeQuery<'a>,
         clients,
         lag,
         seed,
+        host,
+        record_file,
         map_file,
         rules,
     })
@@ -384,7 +398,7 @@ fn route_in<'a>(alloc: Global, found: &ArgMatches<'a>) -> Result<RouteQuery<'a>,
 }
 
 /// The value of an option, where it is given.
-fn value_in<'a>(found: &ArgMatches<'a>, option: &str) -> Option<&'a str>
+pub(crate) fn value_in<'a>(found: &ArgMatches<'a>, option: &str) -> Option<&'a str>
     ensures { option_map (λ value. value.now) result
         ≡ first_of option.now (rows_of (found_of found.now)) }
 {
@@ -402,7 +416,7 @@ fn cell_in(found: &ArgMatches<'_>, option: &str) -> Option<CPos>
 
 /// The number that an option writes, where it is given and writes one.
 #[tactic(auto, unfolding(crate::specs::Reading::number_in))]
-fn number_in(found: &ArgMatches<'_>, option: &str) -> Option<u32>
+pub(crate) fn number_in(found: &ArgMatches<'_>, option: &str) -> Option<u32>
     ensures { result ≡ number_in option.now (rows_of (found_of found.now)) }
 {
     found.get_one(option)

@@ -51,21 +51,24 @@ pub enum Request<'a> {
         bots: u8,
     },
 
-    /// `serve --at ADDRESS --clients N --lag N --seed N --map FILE RULES`: serve a match to clients
-    /// over links, over the map and the rules.
+    /// `serve --at ADDRESS --clients N --lag N --seed N --patience SECONDS --lobby SECONDS
+    /// --udp-ports A-B --quiet --record FILE --map FILE RULES`: serve a match to clients over links,
+    /// over the map and the rules, and write its replay, if a file is named for it.
     Serve(ServeQuery<'a>),
 
-    /// `play --at ADDRESS --script FILE --map FILE RULES`: play the script that the file holds over
-    /// a link to a server, over the map and the rules.
+    /// `play --at ADDRESS --script FILE --quiet --map FILE RULES`: play the script that the file
+    /// holds over a link to a server, over the map and the rules.
     Play {
         /// The script.
         query: MatchQuery<'a>,
         /// The address of the server.
         at: &'a str,
+        /// Whether nothing is logged.
+        is_quiet: bool,
     },
 
-    /// `play --at ADDRESS --bot --frames N --map FILE RULES`: let a bot play over a link to a
-    /// server, over the map and the rules.
+    /// `play --at ADDRESS --bot --frames N --quiet --map FILE RULES`: let a bot play over a link to
+    /// a server, over the map and the rules.
     PlayBot(BotQuery<'a>),
 
     /// `replay --file FILE --map FILE RULES`: run the replay that the file holds, over the map and

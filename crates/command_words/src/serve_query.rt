@@ -1,4 +1,5 @@
 use crate::file_names::FileNames;
+use crate::host::HostOptions;
 
 /// The lag of a served match where none is given.
 pub const DEFAULT_LAG: u8 = 2;
@@ -20,6 +21,12 @@ pub struct ServeQuery<'a> {
 
     /// The seed of the match.
     pub seed: u32,
+
+    /// What is said of the log, the clocks and the ports.
+    pub host: HostOptions,
+
+    /// The name of the file that the replay is written to, if one is given.
+    pub record_file: Option<&'a str>,
 
     /// The name of the map's file, if one is given.
     pub map_file: Option<&'a str>,

@@ -9,4 +9,6 @@ pub mod MadeLemmas
 pub mod SampleLemmas
 pub mod CommandLemmas
 pub mod RunLemmas
+pub mod RecordedLemmas
+pub mod ServedReplaysLemmas
 pub mod WaitingLemmas

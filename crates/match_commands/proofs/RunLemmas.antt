@@ -116,7 +116,7 @@ given_done (Route query) contents ok = text_done (route_step query contents) ok
 given_done (Make number) contents ok = text_done (make_step number) ok
 given_done (Local query bots) contents ok = text_done (local_match_step query bots contents) ok
 given_done (Serve query) contents ok = refl
-given_done (Play query at) contents ok = refl
+given_done (Play query at is_quiet) contents ok = refl
 given_done (PlayBot query) contents ok = refl
 given_done (Replay query) contents ok =
     replayed_done (numbered_setup_step query.rules query.map_file contents) _ IsReplayDone
@@ -221,7 +221,7 @@ request_sound (Check map_file names) status causes old new runs = tt
 request_sound (Route query) status causes old new runs = tt
 request_sound (Local query bots) status causes old new runs = tt
 request_sound (Serve query) status causes old new runs = tt
-request_sound (Play query at) status causes old new runs = tt
+request_sound (Play query at is_quiet) status causes old new runs = tt
 request_sound (PlayBot query) status causes old new runs = tt
 request_sound (Replay query) status causes old new runs = tt
 request_sound (Migrate query to) status causes old new runs = tt

@@ -27,9 +27,10 @@ use Rattle.match_commands.specs.Plays.{PlayMeans, bot_means, bot_step, play_step
 use Rattle.serve_command.specs.Serves.{NetFailed, IsServeDone}
 use Rattle.serve_command.specs.ServeLemmas.{serves_caused}
 use Rattle.match_commands.specs.Run.{Runs}
-use Rattle.match_commands.specs.Serves.{served_match, invite_of, serve_step, ServesFrom, ServesOver}
+use Rattle.match_commands.specs.Serves.{served_match, invite_of, serve_step, RunsServing, ServesFrom, ServesOver}
 use Rattle.match_commands.specs.TopCalls.{waiting}
 use Rattle.match_commands.specs.Waiting.{RunsWaiting}
+use Rattle.match_commands.proofs.RecordedLemmas.{recorded_stopped}
 use Rattle.match_commands.proofs.RequestLemmas.{request_stopped}
 use Rattle.match_commands.proofs.RunLemmas.{request_runs}
 
@@ -115,6 +116,17 @@ none_waits : (d : DiskState) (s : SinkState) (net : NetState) (console : SourceS
     RunsWaiting None OUT_OF_MEMORY (with_links d s net console) (with_links d s net console)
 none_waits d s net console = (none_runs d s _, (refl, refl))
 
+serve_waits : (record_file : Option (List ℕ)) (query : ServePlain) (d : DiskState) (s : SinkState) (net : NetState) (console : SourceState) →
+    RunsServing record_file query OUT_OF_MEMORY (with_links d s net console) (with_links d s net console)
+serve_waits None query d s net console =
+    let all = rules_and_map query.rules query.map_file in
+    let old = with_links d s net console in
+    linked_stopped all all (serve_step query) (ServesOver query OUT_OF_MEMORY old old) IsServeDone NoMemory OUT_OF_MEMORY (NetFailed net net) old old
+    refl refl (omega arith) (omega arith) (unread_told d.files _ (λ files. tt)) (unread_untold d.files _ tt) (refl, refl) (refl, refl)
+serve_waits (Some name) query d s net console =
+    recorded_stopped query name (rules_and_map query.rules query.map_file) NoMemory OUT_OF_MEMORY d d s s net console
+    refl refl (omega arith) (omega arith) (unread_told d.files _ (λ files. tt)) (unread_untold d.files _ tt) (refl, refl)
+
 request_waits : (request : RequestPlain) (d : DiskState) (s : SinkState) (net : NetState) (console : SourceState) →
     RunsWaiting (waiting request) OUT_OF_MEMORY (with_links d s net console) (with_links d s net console)
 request_waits (Drill query written) d s net console = none_waits d s net console
@@ -130,11 +142,7 @@ request_waits (View query client) d s net console = none_waits d s net console
 request_waits (Worlds query range) d s net console = none_waits d s net console
 request_waits (Compare query second) d s net console = none_waits d s net console
 request_waits (Datagrams script) d s net console = none_waits d s net console
-request_waits (Serve query) d s net console =
-    let all = rules_and_map query.rules query.map_file in
-    let old = with_links d s net console in
-    linked_stopped all all (serve_step query) (ServesOver query OUT_OF_MEMORY old old) IsServeDone NoMemory OUT_OF_MEMORY (NetFailed net net) old old
-    refl refl (omega arith) (omega arith) (unread_told d.files _ (λ files. tt)) (unread_untold d.files _ tt) (refl, refl) (refl, refl)
+request_waits (Serve query) d s net console = serve_waits query.record_file query d s net console
 request_waits (Local query bots) d s net console = (
   request_runs (Local query bots) OUT_OF_MEMORY _ (environment d s) (environment d s)
       (request_stopped (Local query bots) NoMemory OUT_OF_MEMORY d d s s refl (omega arith) (omega arith)
@@ -146,7 +154,7 @@ request_waits (PlayBot query) d s net console =
     let old = with_links d s net console in
     linked_stopped all all (bot_step query) (PlaysOver OUT_OF_MEMORY old old) IsPlayDone NoMemory OUT_OF_MEMORY (LinkFailed net net) old old
     refl refl (omega arith) (omega arith) (unread_told d.files _ (λ files. tt)) (unread_untold d.files _ tt) (refl, refl) (refl, refl)
-request_waits (Play query at) d s net console =
+request_waits (Play query at is_quiet) d s net console =
     let all = with_script query.file (rules_and_map query.rules query.map_file) in
     let old = with_links d s net console in
     linked_stopped all all (play_step query) (PlaysOver OUT_OF_MEMORY old old) IsPlayDone NoMemory OUT_OF_MEMORY (LinkFailed net net) old old

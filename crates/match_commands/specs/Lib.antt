@@ -12,4 +12,5 @@ pub mod Run
 pub mod TopCalls
 pub mod Plays
 pub mod Serves
+pub mod ServedReplays
 pub mod Waiting

@@ -1,5 +1,6 @@
 -- The answer to the command `serve`.
-use Rattle.std.specs.Prelude.{ℕ, Result, Ok, Err}
+use Rattle.std.specs.Prelude.{◌≡◌, ℕ, ◌⊎◌, List, Option, None, Some, Result, Ok, Err}
+use Rattle.game_io.specs.DiskState.{DiskState}
 use Rattle.frame_core.specs.Match.{Match}
 use Rattle.game_model.specs.Setup.{Setup}
 use Rattle.match_net.specs.declared.invite.Invite.{Invite}
@@ -7,10 +8,13 @@ use Rattle.tick_core.specs.Game.{GameState, game_start, game_after, game_hash, g
 use Rattle.command_words.specs.RequestPlain.{ServePlain}
 use Rattle.command_answers.specs.declared.stop.Stop.{Stop}
 use Rattle.command_answers.specs.Contents.{Contents}
+use Rattle.command_answers.specs.Environment.{IsLater}
+use Rattle.command_answers.specs.FileWrite.{OnlyChanges}
 use Rattle.command_answers.specs.Step.{Step}
 use Rattle.command_answers.specs.Stop.{PrintsStop}
 use Rattle.command_answers.specs.WantedFiles.{rules_and_map}
-use Rattle.link_commands.specs.Links.{WithLinks, RunsLinked, IsApart, causes_by}
+use Rattle.link_commands.specs.Links.{WithLinks, RunsLinked, IsApart, causes_by, environment_of}
+use Rattle.serve_command.specs.Records.{RecordsBy, RecordsOut, recording_causes}
 use Rattle.serve_command.specs.Serves.{ServesBy, NetFailed, IsServeDone}
 use Rattle.rule_commands.specs.Numbers.{numbered_setup_step}
 
@@ -54,9 +58,54 @@ ServesFrom query (Ok made) status old new = ServesOver query status old new made
 ServesFrom query (Err stop) status old new =
     PrintsStop stop status old.sink new.sink × IsApart old new
 
--- A run of `serve`.
-abbrev pub RunsServe : ServePlain → ℕ → (old new : WithLinks) → Type 0
-RunsServe query status old new =
+-- The match was served over that, and recorded in the file of this name.
+abbrev pub RecordsOver :
+    ServePlain → (name : List ℕ) → ℕ → (old new : WithLinks) → Setup × ℕ → Type 0
+RecordsOver query name status old new made =
+    RecordsBy (served_match query made.0) (invite_of query made.1) name status old.net new.net
+    old.console new.console old.disk new.disk old.sink new.sink
+
+-- The same, or why the command ended before is printed: net, console and files are as they were.
+abbrev pub RecordsFrom :
+    ServePlain → (name : List ℕ) → Result (Setup × ℕ) Stop → ℕ → (old new : WithLinks) → Type 0
+RecordsFrom query name (Ok made) status old new = RecordsOver query name status old new made
+RecordsFrom query name (Err stop) status old new =
+    PrintsStop stop status old.sink new.sink
+    × IsApart old new
+    × (new.disk.files ≡ old.disk.files)
+
+-- A match was served to its end over some rules and a map, and recorded.
+abbrev pub HasRecorded :
+    ServePlain → (name : List ℕ) → ℕ → (old new : WithLinks) → Type 0
+HasRecorded query name status old new =
+    (made : Setup × ℕ)
+    × RecordsOut (served_match query made.0) (invite_of query made.1) name status old.net new.net
+    old.console new.console old.disk new.disk old.sink new.sink
+
+-- A run of `serve` that records its match in the file of this name. `read` is the disk once the
+-- rules and the map were read, and before that file is written.
+pub record RunsRecorded (query : ServePlain) (name : List ℕ) (status : ℕ) (old new : WithLinks)
+    : Type 0 where
+  pub read : DiskState
+  pub runs :
+      RunsLinked (rules_and_map query.rules query.map_file) (serve_step query)
+      (RecordsOver query name status (record old { disk = read }) new) IsServeDone status
+      (recording_causes name (NetFailed old.net new.net) old new) old (record new { disk = read })
+  -- No other file changed, and that one only where a match was served to its end.
+  pub files : OnlyChanges (Some name) old.disk.files new.disk.files
+  pub ended :
+      (new.disk.files ≡ old.disk.files)
+      ⊎ HasRecorded query name status (record old { disk = read }) new
+  pub later : IsLater (environment_of old) (environment_of new)
+
+-- A run of `serve`, by the file that its match is recorded in, if one is named.
+abbrev pub RunsServing : Option (List ℕ) → ServePlain → ℕ → (old new : WithLinks) → Type 0
+RunsServing None query status old new =
     RunsLinked (rules_and_map query.rules query.map_file) (serve_step query)
     (ServesOver query status old new) IsServeDone status
     (causes_by (NetFailed old.net new.net) old new) old new
+RunsServing (Some name) query status old new = RunsRecorded query name status old new
+
+-- A run of `serve`.
+abbrev pub RunsServe : ServePlain → ℕ → (old new : WithLinks) → Type 0
+RunsServe query status old new = RunsServing query.record_file query status old new

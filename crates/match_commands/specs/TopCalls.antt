@@ -7,7 +7,7 @@ use Rattle.command_words.specs.RequestPlain.{RequestPlain, Local, Serve, Play, P
 abbrev pub returning : RequestPlain → Option RequestPlain
 returning (Local query bots) = None
 returning (Serve query) = None
-returning (Play query at) = None
+returning (Play query at is_quiet) = None
 returning (PlayBot query) = None
 returning request = Some request
 
@@ -15,7 +15,7 @@ returning request = Some request
 abbrev pub waiting : RequestPlain → Option RequestPlain
 waiting (Local query bots) = Some (Local query bots)
 waiting (Serve query) = Some (Serve query)
-waiting (Play query at) = Some (Play query at)
+waiting (Play query at is_quiet) = Some (Play query at is_quiet)
 waiting (PlayBot query) = Some (PlayBot query)
 waiting request = None
 

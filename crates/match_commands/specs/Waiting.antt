@@ -19,6 +19,6 @@ RunsAlone request status old new =
 -- A run of the request that the words name, if they name one.
 abbrev pub RunsWaiting : Option RequestPlain → ℕ → (old new : WithLinks) → Type 0
 RunsWaiting (Some (Serve query)) status old new = RunsServe query status old new
-RunsWaiting (Some (Play query at)) status old new = RunsPlay query status old new
+RunsWaiting (Some (Play query at is_quiet)) status old new = RunsPlay query status old new
 RunsWaiting (Some (PlayBot query)) status old new = RunsBot query status old new
 RunsWaiting request status old new = RunsAlone request status old new

@@ -1,23 +1,32 @@
 //! The command `serve`.
-ghost use Rattle.std.specs.Prelude.{◌≡◌, ◌≤◌, [], length};
+ghost use Rattle.std.specs.Prelude.{◌≡◌, ◌≤◌, [], None, Some, length};
 ghost use Rattle.command_words.specs.RequestPlain.{IsCount, plain_serve};
 ghost use Rattle.game_io.specs.DiskState.{DiskState};
 ghost use Rattle.link_commands.specs.Links.{with_links};
-ghost use Rattle.match_commands.specs.Serves.{RunsServe, ServesFrom};
+ghost use Rattle.game_orders.specs.declared.limits.TheConstants.{MAX_CLIENTS};
+ghost use Rattle.match_commands.specs.Serves.{RecordsFrom, RunsServe, RunsServing, ServesFrom};
+ghost use Rattle.match_commands.specs.Serves.{invite_of};
 
 use command_answers::{Stop, print_stop, read_files};
 use command_words::{MAX_FILES, ServeQuery};
-use game_io::{Disk, Net, Sink, Source};
+use game_io::{Disk, Net, Sink, Source, Watch};
 use match_net::Invite;
 use rule_commands::read_numbered_maker;
-use serve_command::serve_over;
+use serve_command::{serve_over, serve_recorded};
 use std::alloc::Global;
 use std::sync::Wait;
 use std::thread::Threads;
 use tick_core::GameMaker;
 
-/// The command `serve`: reads rule files and a map, if one is named, and serves a match over them.
-pub(crate) fn run_serve<D: Disk, K: Sink, N: Net, C: Source + Send, R: Threads + Wait + Sync>(
+/// The command `serve`, which records its match, if a file is named for that.
+pub(crate) fn run_serve<
+    D: Disk,
+    K: Sink,
+    N: Net,
+    C: Source + Send,
+    W: Watch + Sync,
+    R: Threads + Wait + Sync,
+>(
     rt: &R,
     alloc: Global,
     query: &ServeQuery<'_>,
@@ -25,6 +34,7 @@ pub(crate) fn run_serve<D: Disk, K: Sink, N: Net, C: Source + Send, R: Threads +
     out: &mut K,
     net: &mut N,
     console: &mut C,
+    watch: &W,
 ) -> u8
     requires few { length query.now.rules ≤ MAX_FILES }
     requires clients { IsCount query.now.clients }
@@ -33,18 +43,144 @@ pub(crate) fn run_serve<D: Disk, K: Sink, N: Net, C: Source + Send, R: Threads +
         (with_links (D.state disk.old) (K.state out.old) (N.state net.old) (C.state console.old))
         (with_links (D.state disk.new) (K.state out.new) (N.state net.new) (C.state console.new)) }
 {
+    match query.record_file {
+        Some(name) => run_recorded_serve(rt, alloc, query, name, disk, out, net, console, watch),
+        None => run_plain_serve(rt, alloc, query, disk, out, net, console, watch),
+    }
+}
+
+/// The command `serve` without `--record`: reads rule files and a map, if one is named, and serves a
+/// match over them.
+fn run_plain_serve<
+    D: Disk,
+    K: Sink,
+    N: Net,
+    C: Source + Send,
+    W: Watch + Sync,
+    R: Threads + Wait + Sync,
+>(
+    rt: &R,
+    alloc: Global,
+    query: &ServeQuery<'_>,
+    disk: &mut D,
+    out: &mut K,
+    net: &mut N,
+    console: &mut C,
+    watch: &W,
+) -> u8
+    requires few { length query.now.rules ≤ MAX_FILES }
+    requires clients { IsCount query.now.clients }
+    requires links { (N.state net.old).given ≡ [] }
+    ensures { RunsServing None (plain_serve query.now) result
+        (with_links (D.state disk.old) (K.state out.old) (N.state net.old) (C.state console.old))
+        (with_links (D.state disk.new) (K.state out.new) (N.state net.new) (C.state console.new)) }
+{
     let names = query.rules.as_slice();
     match read_files(alloc, disk, names, query.map_file) {
         Ok(given) => {
             let made = read_numbered_maker(alloc, names, query.map_file, &given);
-            serve_made(rt, alloc, query, made, out, net, console)
+            serve_made(rt, alloc, query, made, out, net, console, watch)
+        }
+        Err(stop) => print_stop(alloc, stop, out),
+    }
+}
+
+/// The command `serve` with `--record`: the same, and the replay of the match is written to the file
+/// `name`, after its text.
+fn run_recorded_serve<
+    D: Disk,
+    K: Sink,
+    N: Net,
+    C: Source + Send,
+    W: Watch + Sync,
+    R: Threads + Wait + Sync,
+>(
+    rt: &R,
+    alloc: Global,
+    query: &ServeQuery<'_>,
+    name: &str,
+    disk: &mut D,
+    out: &mut K,
+    net: &mut N,
+    console: &mut C,
+    watch: &W,
+) -> u8
+    requires few { length query.now.rules ≤ MAX_FILES }
+    requires clients { IsCount query.now.clients }
+    requires links { (N.state net.old).given ≡ [] }
+    ensures { RunsServing (Some name.now) (plain_serve query.now) result
+        (with_links (D.state disk.old) (K.state out.old) (N.state net.old) (C.state console.old))
+        (with_links (D.state disk.new) (K.state out.new) (N.state net.new) (C.state console.new)) }
+{
+    let names = query.rules.as_slice();
+    match read_files(alloc, disk, names, query.map_file) {
+        Ok(given) => {
+            let made = read_numbered_maker(alloc, names, query.map_file, &given);
+            record_made(rt, alloc, query, name, made, disk, out, net, console, watch)
+        }
+        Err(stop) => print_stop(alloc, stop, out),
+    }
+}
+
+/// What each link of the match is told, but for its client.
+fn invite_to(query: &ServeQuery<'_>, rules: u64) -> Invite
+    requires { IsCount query.now.clients }
+    ensures value { result ≡ invite_of (plain_serve query.now) rules }
+    ensures least { 1 ≤ result.clients }
+    ensures most { result.clients ≤ MAX_CLIENTS }
+{
+    Invite {
+        client: 0,
+        clients: query.clients,
+        lag: query.lag,
+        seed: query.seed,
+        rules,
+    }
+}
+
+/// Serves the match, prints its answer and records it in the file of this name; or prints why the
+/// command ended before it.
+fn record_made<
+    D: Disk,
+    K: Sink,
+    N: Net,
+    C: Source + Send,
+    W: Watch + Sync,
+    R: Threads + Wait + Sync,
+>(
+    rt: &R,
+    alloc: Global,
+    query: &ServeQuery<'_>,
+    name: &str,
+    made: Result<(GameMaker, u64), Stop<'_>>,
+    disk: &mut D,
+    out: &mut K,
+    net: &mut N,
+    console: &mut C,
+    watch: &W,
+) -> u8
+    requires clients { IsCount query.now.clients }
+    requires links { (N.state net.old).given ≡ [] }
+    ensures records { RecordsFrom (plain_serve query.now) name.now made.entry result
+        (with_links (D.state disk.old) (K.state out.old) (N.state net.old) (C.state console.old))
+        (with_links (D.state disk.new) (K.state out.new) (N.state net.new) (C.state console.new)) }
+    ensures disk { (D.state disk.old).faults ≤ (D.state disk.new).faults }
+    ensures later { (K.state out.old).faults ≤ (K.state out.new).faults }
+{
+    match made {
+        Ok((maker, rules)) => {
+            let invite = invite_to(query, rules);
+            let at = query.at;
+            serve_recorded(
+                rt, alloc, at, &invite, &maker, name, disk, out, net, console, watch,
+            )
         }
         Err(stop) => print_stop(alloc, stop, out),
     }
 }
 
 /// Serves the match, and prints its answer; or prints why the command ended before it.
-fn serve_made<K: Sink, N: Net, C: Source + Send, R: Threads + Wait + Sync>(
+fn serve_made<K: Sink, N: Net, C: Source + Send, W: Watch + Sync, R: Threads + Wait + Sync>(
     rt: &R,
     alloc: Global,
     query: &ServeQuery<'_>,
@@ -52,6 +188,7 @@ fn serve_made<K: Sink, N: Net, C: Source + Send, R: Threads + Wait + Sync>(
     out: &mut K,
     net: &mut N,
     console: &mut C,
+    watch: &W,
 ) -> u8
     requires clients { IsCount query.now.clients }
     requires links { (N.state net.old).given ≡ [] }
@@ -62,14 +199,10 @@ fn serve_made<K: Sink, N: Net, C: Source + Send, R: Threads + Wait + Sync>(
 {
     match made {
         Ok((maker, rules)) => {
-            let invite = Invite {
-                client: 0,
-                clients: query.clients,
-                lag: query.lag,
-                seed: query.seed,
-                rules,
-            };
-            serve_over(rt, alloc, query.at, &invite, &maker, out, net, console)
+            let invite = invite_to(query, rules);
+            serve_over(
+                rt, alloc, query.at, &invite, &maker, out, net, console, watch,
+            )
         }
         Err(stop) => print_stop(alloc, stop, out),
     }

@@ -5,7 +5,7 @@
 //! links; each refuses the other's. Both are the whole program over any disk and any sink, and
 //! `run_waiting` also over any net and console. Their clauses say what is printed and which status is
 //! answered, for every list of words and every content of the files. The program hands them the real
-//! ones.
+//! ones, made by what [`host_options`] says of the words.
 #![tactic(auto)]
 
 mod command;
@@ -20,10 +20,13 @@ mod refusing;
 mod replaying;
 mod reporting;
 mod saving;
+mod served_replays;
 mod viewing;
 mod waiting;
 
 pub use command::run;
+pub use command_words::{HostOptions, PortRange, host_options};
 pub use making::made_matches_are_accepted;
 pub use refusing::refusals_are_exact;
+pub use served_replays::served_records_are_replayed;
 pub use waiting::{may_wait, run_waiting};

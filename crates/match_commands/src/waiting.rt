@@ -59,7 +59,8 @@ fn is_waiting(command: &str) -> bool
 
 /// Runs the command that the words name, where it is one that may wait for threads or links; the
 /// first word is the program's name. All other commands are those of [`run`](crate::run), and are
-/// refused here as words. It changes no file. A local match uses neither the net, which has given no
+/// refused here as words. It changes no file but the one that `serve --record` names. A local match
+/// uses neither the net, which has given no
 /// link yet, nor the console. A player uses the net's first link; a server uses as many as it has
 /// clients, and the console. They hand the links back. Where it returns, it returns:
 ///
@@ -69,11 +70,15 @@ fn is_waiting(command: &str) -> bool
 ///   bots beside them are more than `MAX_CLIENTS`; or the server or the bytes of the link refused a
 ///   player, whose text was written;
 /// - 4, a read, the net or a player's link failed: a count of faults rose;
-/// - 5, a write failed: the sink's count of faults rose, and a prefix of the text was written;
+/// - 5, a write failed: a count of faults rose, and a prefix of the text was written;
 /// - 6, out of memory, and a prefix of the text was written.
 ///
+/// The file that `serve --record` names is written after the whole text of a match that was served to
+/// its end, also where the status is 6 because memory ran out for a link. What else is in it after a
+/// failed write is as [`run`](crate::run) says of its files.
+///
 /// It returns only if its threads do, and what its links are to give comes. The gate is asked before
-/// and after each play that a local match puts.
+/// and after each play that a local match puts; its watch is told what happens in a served match.
 pub fn run_waiting<
     D: Disk,
     K: Sink,
@@ -132,9 +137,9 @@ fn run_request<
         Request::Local { query, bots } => {
             run_local_match(rt, alloc, query, *bots, disk, out, gate)
         }
-        Request::Play { query, at } => run_play(alloc, query, at, disk, out, net),
+        Request::Play { query, at, .. } => run_play(alloc, query, at, disk, out, net),
         Request::PlayBot(query) => run_bot(alloc, query, disk, out, net),
-        Request::Serve(query) => run_serve(rt, alloc, query, disk, out, net, console),
+        Request::Serve(query) => run_serve(rt, alloc, query, disk, out, net, console, gate.watch()),
         Request::Drill { .. }
         | Request::Yaml { .. }
         | Request::Check { .. }

@@ -1,6 +1,7 @@
 pub mod TakingLemmas
 pub mod GreetingLemmas
 pub mod PutLemmas
+pub mod AheadLemmas
 pub mod ReadingLemmas
 pub mod TurnLemmas
 pub mod SessionLemmas

@@ -26,7 +26,7 @@ use Rattle.match_net.specs.Plays.{Plays}
 use Rattle.match_net.specs.Playing.{Course, Player, Stage, round, is_over}
 use Rattle.match_net.specs.Stages.{Terms, after_first}
 use Rattle.match_net.specs.Stages.{stop_of, stop_in}
-use Rattle.match_net.specs.Stages.{is_match, welcomed, greeting_bytes}
+use Rattle.match_net.specs.Stages.{is_match, greeting_bytes}
 use Rattle.match_net.specs.Downward.{InStream, Finds, NextMeans, Spills}
 use Rattle.match_net.specs.PlayMatch.{HasSaid, FailsWithin, FailsAfter, EndsBy, PlaysTo, PlaysAs}
 use Rattle.match_net.specs.PlayMatch.{PlaysPartly, PutMeans}

@@ -28,7 +28,7 @@ learned old new before after free same is =
     let made : old.made + (one_if after.left - one_if before.left) ≡ old.made = omega (arith, zero) in
     is ∙ ap (λ (m : ℕ). record old { reach = whole_of after; known = after; made = m; held = [] }) made
     ∙ ap (λ (h : List Column). record old { reach = whole_of after; known = after; held = h }) (sym free)
-    ∙ ap (λ (p : Part). record old { reach = p.reach; known = p.known }) (sym is)
+    ∙ ap (λ (p : Part). record old { reach = p.reach; known = p.known; loads = p.loads }) (sym is)
   where
     none_of : (n : ℕ) → n - n ≡ 0
     none_of n = omega arith
@@ -73,7 +73,7 @@ pub puts_nothing :
 puts_nothing c n orders old new long same =
     record {
       others = (same.share, long, λ d other. same.parts d);
-      learns = subst (λ (p : Part). p ≡ record (part_of c old) { reach = p.reach; known = p.known }) (sym (same.parts c)) refl;
+      learns = subst (λ (p : Part). p ≡ record (part_of c old) { reach = p.reach; known = p.known; loads = p.loads }) (sym (same.parts c)) refl;
       knows = tt;
       means = λ session plays.
           ap (λ (xs : List (List Order)). record session { plays = xs }) (ap (λ (p : Part). p.known.plays) (same.parts c) ∙ sym plays);

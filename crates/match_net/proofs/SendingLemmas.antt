@@ -153,7 +153,7 @@ next_departure c entries known K count e so_far grows playing all left has =
         }
 
 -- What a look at a column's word and the taking of an entry leave of a pass.
-looks_seen : (old new : Part) (seen : Seen) → new ≡ loaded old seen → GrowsTo old.known new.known → Looks old new
+pub looks_seen : (old new : Part) (seen : Seen) → new ≡ loaded old seen → GrowsTo old.known new.known → Looks old new
 looks_seen old new seen is grows =
     record { only = is ∙ ap (λ (p : Part). record old { reach = p.reach; known = p.known; loads = p.loads }) (sym is); known = grows }
 

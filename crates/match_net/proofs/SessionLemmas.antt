@@ -7,7 +7,7 @@ use Rattle.frame_core.specs.declared.leaving.Leaving.{Leaving}
 use Rattle.frame_core.specs.declared.leaving.Leaving.TheVariants as leaving
 use Rattle.frame_table.specs.declared.planned.Planned.TheVariants.{Free}
 use Rattle.frame_table.specs.declared.view.View.{View}
-use Rattle.frame_table.specs.Part.{Part, part_of, OthersStay}
+use Rattle.frame_table.specs.Part.{Part, part_of}
 use Rattle.frame_table.specs.Word.{one_if, whole_of}
 use Rattle.frame_table.specs.Steps.{IsFound, published}
 use Rattle.frame_table.specs.Calls.{LeavesSo}
@@ -21,7 +21,8 @@ use Rattle.match_net.specs.Greeting.{hello_bytes}
 use Rattle.match_net.specs.Handling.{IsLeftIf}
 use Rattle.match_net.specs.Reading.{MayPlay, OnlyLearns, EndMeans, ReadsTo}
 use Rattle.match_net.specs.Sessions.{LeavesColumn, FixedIt, FoundIt, SessionEnds, ReadsLink, GreetingEnds, ReadsNothing, ReadsAs, CountsAs, Untouched, ReadBy, after_leaving}
-use Rattle.match_net.proofs.TurnLemmas.{others_stay}
+use Rattle.match_net.specs.Ahead.{LooksAtOthers}
+use Rattle.match_net.proofs.AheadLemmas.{others_still, others_stay_on}
 
 -- What the answer to a departure says of who fixed it, after these plays.
 abbrev pub LeftBy : ℕ → List (List Order) → View → View → Leaving → Type 0
@@ -49,7 +50,7 @@ gone_by c K before mid after false is same made = rw is (made ∙ more K.left is
 
 pub gone :
     (c : ℕ) (plays : List (List Order)) (before mid after : View) (answer : Leaving) → (part_of c before).held ≡ [] → (part_of c mid).feeds ≡ true →
-    OthersStay c before mid → OnlyLearns (part_of c before) (part_of c mid) → (part_of c mid).known.plays ≡ plays →
+    LooksAtOthers c before mid → OnlyLearns (part_of c before) (part_of c mid) → (part_of c mid).known.plays ≡ plays →
     LeavesSo c mid after answer → Gone c plays before mid after answer
 gone c plays before mid after answer free feeds others learns known leaves =
     let K = leaves.0 in
@@ -62,7 +63,7 @@ gone c plays before mid after answer free feeds others learns known leaves =
     (subst (λ (a : Leaving). LeftBy c K.plays before after a) (sym leaves.2) (gone_by c K before mid after K.left refl made_mid made)) in
     record {
       column = record {
-        others = others_stay c before mid after others acted.others;
+        others = others_stay_on c before mid after others acted.others;
         part = column_is K acted.part same;
       };
       by = by;
@@ -73,15 +74,18 @@ gone c plays before mid after answer free feeds others learns known leaves =
         part_of c after ≡ record (part_of c before) {
           reach = record { plays = length plays; left = true };
           known = record { plays = plays; left = true };
+          loads = (part_of c after).loads;
           made = (part_of c after).made;
         }
     column_is K is same =
         let made : (part_of c after).made ≡ (part_of c mid).made + (1 - one_if K.left) = ap (λ (p : Part). p.made) is in
+        let loads : (part_of c after).loads ≡ (part_of c mid).loads = ap (λ (p : Part). p.loads) is in
         is
         ∙ ap (λ (m : ℕ). record (part_of c mid) { reach = whole_of (left_column K); known = left_column K; made = m; held = [] }) (sym made)
         ∙ ap (λ (p : Part). record p { reach = whole_of (left_column K); known = left_column K; made = (part_of c after).made; held = [] }) learns
-        ∙ ap (λ (h : List Column). record (part_of c before) { reach = whole_of (left_column K); known = left_column K; made = (part_of c after).made; held = h }) (sym free)
-        ∙ ap (λ (xs : List (List Order)). record (part_of c before) { reach = record { plays = length xs; left = true }; known = record { plays = xs; left = true }; made = (part_of c after).made }) (sym same)
+        ∙ ap (λ (h : List Column). record (part_of c before) { reach = whole_of (left_column K); known = left_column K; loads = (part_of c mid).loads; made = (part_of c after).made; held = h }) (sym free)
+        ∙ ap (λ (n : ℕ). record (part_of c before) { reach = whole_of (left_column K); known = left_column K; loads = n; made = (part_of c after).made }) (sym loads)
+        ∙ ap (λ (xs : List (List Order)). record (part_of c before) { reach = record { plays = length xs; left = true }; known = record { plays = xs; left = true }; loads = (part_of c after).loads; made = (part_of c after).made }) (sym same)
 
     found_it : (K : Column) → (part_of c mid).known.left ≡ true → IsFound (part_of c mid) K → plays ≡ K.plays →
         (part_of c mid).made ≡ (part_of c before).made → (part_of c after).made ≡ (part_of c mid).made + (1 - one_if K.left) →
@@ -145,7 +149,7 @@ gone_unread :
 gone_unread c old new from count before mid after first pushed left may free unplayed untouched leaves =
     gone c [] before mid after left free
     (ap (λ (v : View). (part_of c v).feeds) untouched.view ∙ may.feeds)
-    (subst (λ (v : View). OthersStay c before v) (sym untouched.view) (refl, refl, λ d other. refl))
+    (subst (λ (v : View). LooksAtOthers c before v) (sym untouched.view) (others_still c before))
     (subst (λ (v : View). OnlyLearns (part_of c before) (part_of c v)) (sym untouched.view) refl)
     (ap (λ (v : View). (part_of c v).known.plays) untouched.view ∙ unplayed) leaves
 

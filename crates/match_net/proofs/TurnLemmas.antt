@@ -16,6 +16,7 @@ use Rattle.order_packets.specs.PacketLemmas.{up_again}
 use Rattle.order_packets.specs.Feed.{Fed, more_fed, Answer, answer_of, next_answer, ReadsAll, HasGiven, given_by}
 use Rattle.order_packets.specs.FeedLemmas.{given_fed_if}
 use Rattle.order_packets.specs.StreamLemmas.{all_stay}
+use Rattle.frame_core.specs.Column.{Column}
 use Rattle.frame_table.specs.declared.view.View.{View}
 use Rattle.frame_table.specs.Part.{Part, part_of, OthersStay}
 use Rattle.match_net.specs.declared.limits.TheConstants.{VERSION, MAX_LINK_BYTES}
@@ -30,10 +31,12 @@ use Rattle.match_net.specs.Taking.{Took, Counts}
 use Rattle.match_net.specs.Greeting.{hello_bytes}
 use Rattle.match_net.specs.Session.{Session, no_session, After, after_up, after_packet, after_packet_if, after_all, end_by, end_at, limited}
 use Rattle.match_net.specs.Handling.{HandlingMeans, IsLeftIf}
+use Rattle.match_net.specs.Ahead.{LooksAround}
 use Rattle.match_net.specs.Reading.{OnlyLearns, IsStanding, HandlesPacket, EndMeans, ReadsTo}
 use Rattle.match_net.specs.ReadSoFar.{ReadSoFar, AfterTurn, TakesMore}
 use Rattle.match_net.proofs.TakingLemmas.{took_nothing, took_more, counts_more}
 use Rattle.match_net.proofs.GreetingLemmas.{hello_length}
+use Rattle.match_net.proofs.AheadLemmas.{others_still, others_stay_on, others_look_on}
 
 -- What a feeder's answer says of its rest.
 next_gave : (fed after : Fed) (packet : Up) (first : FirstPacket Up) → (Ok (Some packet), after) ≡ answer_of fed first →
@@ -93,12 +96,35 @@ after_more_packets c here (first ∷ packets) session mid next packet so_far is 
     by_first (Ok after) goes rest = rest after goes
     by_first (Err end) goes rest = absurd cc
 
-pub others_stay : (c : ℕ) (old mid new : View) → OthersStay c old mid → OthersStay c mid new → OthersStay c old new
-others_stay c old mid new first second = (second.0 ∙ first.0, second.1 ∙ first.1, λ d other. second.2 d other ∙ first.2 d other)
-
 learns_more : (old mid new : Part) → OnlyLearns old mid → OnlyLearns mid new → OnlyLearns old new
 learns_more old mid new first second =
-    second ∙ ap (λ (p : Part). record p { reach = new.reach; known = new.known }) first
+    second ∙ ap (λ (p : Part). record p { reach = new.reach; known = new.known; loads = new.loads }) first
+
+-- After a look at the columns.
+pub looked_around :
+    (c here : ℕ) (given : List ℕ) (old now : SourceState) (from count : ℕ) (before view after : View) (start pushed : List Heard) (fed : Fed) →
+    ReadSoFar c here given old now from count before view start pushed fed → LooksAround c view after →
+    ReadSoFar c here given old now from count before after start pushed fed
+looked_around c here given old now from count before view after start pushed fed so_far around =
+    record {
+      session = so_far.session;
+      packets = so_far.packets;
+      taken = so_far.taken;
+      few = so_far.few;
+      took = so_far.took;
+      counted = so_far.counted;
+      later = so_far.later;
+      stream = so_far.stream;
+      whole = so_far.whole;
+      follows = so_far.follows;
+      standing = record {
+        welcomed = so_far.standing.welcomed;
+        plays = ap (λ (k : Column). k.plays) around.own ∙ so_far.standing.plays;
+        reports = so_far.standing.reports;
+      };
+      others = others_look_on c before view after so_far.others around.all;
+      learns = learns_more (part_of c before) (part_of c view) (part_of c after) so_far.learns (around.all.parts c).only;
+    }
 
 -- A packet of a client that was welcomed.
 welcomed_packet : (c here : ℕ) (session : Session) (packet : Up) → session.welcomed ≡ true → after_packet c here session packet ≡ after_up c session packet
@@ -132,7 +158,7 @@ goes_on c here given old now from count before view after start pushed more fed 
       follows = after_more_packets c here so_far.packets no_session so_far.session session packet so_far.follows
           (welcomed_packet c here so_far.session packet so_far.standing.welcomed ∙ is);
       standing = standing;
-      others = others_stay c before view after so_far.others others;
+      others = others_stay_on c before view after so_far.others others;
       learns = learns_more (part_of c before) (part_of c view) (part_of c after) so_far.learns learns;
     }
 
@@ -157,7 +183,7 @@ ends_with c here given old now from count before view after start pushed more fe
       at = fed.at;
       place = sym (size_so_far (given ++ so_far.taken) so_far.packets fed so_far.stream so_far.whole);
       standing = subst (λ (s : Session). IsStanding c s start after more) same standing;
-      others = others_stay c before view after so_far.others others;
+      others = others_stay_on c before view after so_far.others others;
       learns = learns_more (part_of c before) (part_of c view) (part_of c after) so_far.learns learns;
       knows = knows;
       ends = ends;
@@ -355,7 +381,7 @@ begun c here state count view pushed fed range at none few unplayed =
       whole = none;
       follows = let same : (here == here) ≡ true = eq-eqb here here refl in rw same refl;
       standing = record { welcomed = refl; plays = unplayed; reports = sym (append-nil pushed) };
-      others = (refl, refl, λ d other. refl);
+      others = others_still c view;
       learns = refl;
     }
   where

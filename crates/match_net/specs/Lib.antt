@@ -2,6 +2,7 @@ pub mod Taking
 pub mod Greeting
 pub mod Session
 pub mod Handling
+pub mod Ahead
 pub mod Reading
 pub mod ReadSoFar
 pub mod Sessions

@@ -8,7 +8,7 @@ use Rattle.order_packets.specs.PacketBytes.{up_payload}
 use Rattle.order_packets.specs.PacketReading.{up_at}
 use Rattle.order_packets.specs.Feed.{Fed, more_fed, HasGiven}
 use Rattle.frame_table.specs.declared.view.View.{View}
-use Rattle.frame_table.specs.Part.{part_of, OthersStay}
+use Rattle.frame_table.specs.Part.{part_of}
 use Rattle.match_net.specs.declared.limits.TheConstants.{MAX_LINK_BYTES}
 use Rattle.report_line.specs.declared.heard.Heard.{Heard}
 use Rattle.match_net.specs.declared.read_cause.ReadCause.TheVariants as cause
@@ -16,6 +16,7 @@ use Rattle.match_net.specs.declared.reader_end.ReaderEnd.{ReaderEnd}
 use Rattle.match_net.specs.declared.reader_end.ReaderEnd.TheVariants as end
 use Rattle.match_net.specs.Taking.{Took, Counts, NoneLeft}
 use Rattle.match_net.specs.Session.{Session, no_session, after_all}
+use Rattle.match_net.specs.Ahead.{LooksAtOthers}
 use Rattle.match_net.specs.Reading.{OnlyLearns, IsStanding, ReadsTo}
 
 -- These bytes were there before and taken, the feeder has given these packets of them, and the
@@ -33,7 +34,7 @@ pub record ReadSoFar (c here : ℕ) (given : List ℕ) (old now : SourceState) (
   pub whole : fed.fault ≡ None
   pub follows : after_all c here no_session packets ≡ Ok session
   pub standing : IsStanding c session first view pushed
-  pub others : OthersStay c before view
+  pub others : LooksAtOthers c before view
   pub learns : OnlyLearns (part_of c before) (part_of c view)
 
 -- After one turn more the reading goes on, or has ended.

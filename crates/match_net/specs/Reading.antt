@@ -19,6 +19,7 @@ use Rattle.match_net.specs.declared.reader_end.ReaderEnd.TheVariants as end
 use Rattle.match_net.specs.Taking.{Took, Counts, NoneLeft}
 use Rattle.match_net.specs.Session.{Session, Makes, end_at, limited}
 use Rattle.match_net.specs.Handling.{IsLate, IsLeftIf, HandlingMeans}
+use Rattle.match_net.specs.Ahead.{LooksAtOthers}
 
 -- The pass may add plays to the client's column, which is free.
 pub record MayPlay (part : Part) : Type 0 where
@@ -28,7 +29,7 @@ pub record MayPlay (part : Part) : Type 0 where
 -- The pass may have seen and learned more of a column. Nothing else has changed: it fixed no
 -- departure.
 abbrev pub OnlyLearns : Part → Part → Type 0
-OnlyLearns old new = new ≡ record old { reach = new.reach; known = new.known }
+OnlyLearns old new = new ≡ record old { reach = new.reach; known = new.known; loads = new.loads }
 
 -- Where a session stands: the column has its plays, and its reports were pushed after those that
 -- were there before it.
@@ -102,7 +103,7 @@ pub record ReadsTo (c here : ℕ) (given : List ℕ) (old new : SourceState) (fr
   pub at : ℕ
   pub place : at + length rest ≡ length (given ++ taken)
   pub standing : IsStanding c session first after pushed
-  pub others : OthersStay c before after
+  pub others : LooksAtOthers c before after
   pub learns : OnlyLearns (part_of c before) (part_of c after)
   pub knows : IsLeftIf (part_of c after).known.left (Some answer)
   pub ends : EndMeans c here (given ++ taken) session rest old new answer

@@ -5,7 +5,7 @@ use Rattle.game_orders.specs.declared.order.Order.{Order}
 use Rattle.frame_core.specs.declared.leaving.Leaving.{Leaving}
 use Rattle.frame_core.specs.declared.leaving.Leaving.TheVariants as leaving
 use Rattle.frame_table.specs.declared.view.View.{View}
-use Rattle.frame_table.specs.Part.{part_of, OthersStay}
+use Rattle.frame_table.specs.Part.{part_of}
 use Rattle.match_net.specs.declared.limits.TheConstants.{MAX_LINK_BYTES}
 use Rattle.report_line.specs.declared.heard.Heard.{Heard}
 use Rattle.match_net.specs.declared.greeting.Greeting.{Greeting}
@@ -18,15 +18,18 @@ use Rattle.match_net.specs.declared.reader_end.ReaderEnd.TheVariants as end
 use Rattle.match_net.specs.Taking.{Took, Counts}
 use Rattle.match_net.specs.Greeting.{hello_bytes}
 use Rattle.match_net.specs.Session.{Session, Makes, IsSession, cause_of}
+use Rattle.match_net.specs.Ahead.{LooksAtOthers}
 use Rattle.match_net.specs.Reading.{EndMeans, ReadsTo}
 
--- The client has left after these plays, and the pass knows it. No other column was touched.
+-- The client has left after these plays, and the pass knows it. Of the other columns it may have seen
+-- more; it has changed none.
 pub record LeavesColumn (c : ℕ) (plays : List (List Order)) (before after : View) : Type 0 where
-  pub others : OthersStay c before after
+  pub others : LooksAtOthers c before after
   pub part : part_of c after ≡
       record (part_of c before) {
         reach = record { plays = length plays; left = true };
         known = record { plays = plays; left = true };
+        loads = (part_of c after).loads;
         made = (part_of c after).made;
       }
 

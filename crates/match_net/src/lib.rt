@@ -24,6 +24,7 @@ mod greeting;
 mod invite;
 mod law;
 mod limits;
+mod link_reading;
 mod next;
 mod order_source;
 mod piece;
@@ -44,7 +45,7 @@ mod sender_end;
 mod sending;
 mod stop_reason;
 mod taking;
-mod turns;
+mod waiting;
 
 pub use bot::Bot;
 pub use first_packet::{greet, greet_counted};

@@ -1,6 +1,7 @@
-ghost use Rattle.std.specs.Prelude.{◌≡◌, ◌<◌, ◌≤◌, [], length};
+ghost use Rattle.std.specs.Prelude.{◌≡◌, ◌+◌, ◌<◌, ◌≤◌, [], length};
 ghost use Rattle.frame_table.specs.Calls.{plan_of, view_of, standing, IsPassOf};
 ghost use Rattle.report_line.specs.Reports.{pushed, StaysOf};
+ghost use Rattle.match_net.specs.Ahead.{IsWithin};
 ghost use Rattle.match_net.specs.Greeting.{IsGreeted};
 ghost use Rattle.match_net.specs.Session.{cause_of};
 ghost use Rattle.match_net.specs.Reading.{MayPlay};
@@ -10,9 +11,9 @@ ghost use Rattle.match_net.specs.declared.limits.TheConstants.{MAX_LINK_BYTES};
 use crate::greeting::Greeting;
 use crate::invite::Invite;
 use crate::limits::{OTHER_RULES, OTHER_VERSION};
+use crate::link_reading::read_packets;
 use crate::read_cause::ReadCause;
 use crate::reader_end::ReaderEnd;
-use crate::turns::read_packets;
 use frame_core::Leaving;
 use frame_table::{FrameTable, Pass};
 use game_io::Source;
@@ -26,6 +27,10 @@ use std::sync::Wait;
 /// Orders go to the client's column, reports to the queue. The column is free, and the pass feeds it
 /// and knows no play of it; the feeder and the link are as [`crate::greet`] left them. After any
 /// other greeting than `Welcome` nothing is taken.
+///
+/// It puts no packet, also of bytes that it has taken, while the column has more than the invite's
+/// `lag` frames above the ready ones and is not left. So the column never gets further ahead of the
+/// match than one frame more than the lag.
 ///
 /// The first applicable case decides:
 ///
@@ -54,6 +59,7 @@ pub fn reader_session<I: Source, R: Wait>(
     requires unplayed { (standing pass.old invite.now.client).known.plays ≡ [] }
     requires greeted { IsGreeted greeting feeder.old (I.state link.old).left }
     ensures pass { IsPassOf table.now pass.new }
+    ensures near { IsWithin (invite.now.lag + 1) invite.now.client (view_of pass.new) }
     ensures reads { ReadsAs greeting invite.now.client invite.now.rules feeder.old.rest
         (I.state link.old) (I.state link.new) (view_of pass.old) (view_of pass.new)
         (pushed reports.old) (pushed reports.new) result }
@@ -86,6 +92,7 @@ pub fn reader_session_counted<I: Source, R: Wait>(
     requires greeted { IsGreeted greeting feeder.old (I.state link.old).left }
     requires few { taken.old ≤ MAX_LINK_BYTES }
     ensures pass { IsPassOf table.now pass.new }
+    ensures near { IsWithin (invite.now.lag + 1) invite.now.client (view_of pass.new) }
     ensures reads { CountsAs greeting invite.now.client invite.now.rules feeder.old.rest
         (I.state link.old) (I.state link.new) taken.old taken.new (view_of pass.old)
         (view_of pass.new) (pushed reports.old) (pushed reports.new) result }
@@ -117,6 +124,8 @@ fn read_as_greeted<I: Source, R: Wait>(
     requires greeted { IsGreeted greeting feeder.old (I.state link.old).left }
     requires few { taken.old ≤ MAX_LINK_BYTES }
     ensures pass { IsPassOf table.now pass.new }
+    ensures may { MayPlay (standing pass.new invite.now.client) }
+    ensures near { IsWithin (invite.now.lag + 1) invite.now.client (view_of pass.new) }
     ensures reads { ReadBy greeting invite.now.client invite.now.rules feeder.old.rest
         (I.state link.old) (I.state link.new) taken.old taken.new (view_of pass.old)
         (view_of pass.new) (pushed reports.old) (pushed reports.new) result }

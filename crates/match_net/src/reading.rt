@@ -2,9 +2,11 @@
 ghost use Rattle.std.specs.Prelude.{◌≡◌, ◌<◌, ◌∷◌, [], length, Some};
 ghost use Rattle.frame_table.specs.Calls.{plan_of, view_of, standing, IsPassOf};
 ghost use Rattle.report_line.specs.Reports.{pushed, StaysOf};
+ghost use Rattle.match_net.specs.Ahead.{IsInStep, MayGoOn};
 ghost use Rattle.match_net.specs.Handling.{end_by_put};
 ghost use Rattle.match_net.specs.Reading.{MayPlay, PutsOrders, HandlesPacket, PushMeans};
 
+use crate::invite::Invite;
 use crate::read_cause::ReadCause;
 use crate::reader_end::ReaderEnd;
 use frame_core::Put;
@@ -14,34 +16,38 @@ use order_packets::Up;
 use report_line::{Heard, Reports};
 use std::sync::Wait;
 
-/// Does what a packet of client `c` asks, and answers how the reading ends with it, if it does.
+/// Does what a packet of the client asks, and answers how the reading ends with it, if it does. The
+/// client's column is not too far ahead.
 pub(crate) fn handle_packet<R: Wait>(
     rt: &R,
     table: &FrameTable,
     pass: &mut Pass,
-    c: u8,
+    invite: &Invite,
     packet: Up,
     reports: &mut Reports,
 ) -> Option<ReaderEnd>
     requires pass { IsPassOf table.now pass.old }
-    requires client { c < length (plan_of table.now) }
-    requires may { MayPlay (standing pass.old c) }
+    requires client { invite.now.client < length (plan_of table.now) }
+    requires may { MayPlay (standing pass.old invite.now.client) }
+    requires goes { MayGoOn invite.now.lag invite.now.client (view_of pass.old) }
+    requires step { IsInStep invite.now.lag invite.now.client (view_of pass.old) }
     ensures pass { IsPassOf table.now pass.new }
-    ensures handles { HandlesPacket c (view_of pass.old) (view_of pass.new) (pushed reports.old)
-        (pushed reports.new) packet result }
-    ensures end { StaysOf c reports.old reports.new }
+    ensures step { IsInStep invite.now.lag invite.now.client (view_of pass.new) }
+    ensures handles { HandlesPacket invite.now.client (view_of pass.old) (view_of pass.new)
+        (pushed reports.old) (pushed reports.new) packet result }
+    ensures end { StaysOf invite.now.client reports.old reports.new }
 {
     match packet {
         Up::Hello {
             version: _,
             rules: _,
         } => Some(ReaderEnd::Refused(ReadCause::SecondHello)),
-        Up::Orders { frame, orders } => put_orders(rt, table, pass, c, frame, orders),
+        Up::Orders { frame, orders } => put_orders(rt, table, pass, invite, frame, orders),
         Up::Sync { frame, hash } => push_report(
             rt,
             reports,
             Heard {
-                client: c,
+                client: invite.client,
                 frame,
                 hash,
             },
@@ -61,22 +67,26 @@ fn push_report<R: Wait>(rt: &R, reports: &mut Reports, heard: Heard) -> Option<R
     }
 }
 
-/// Puts the orders of client `c` at a frame, and answers how the reading ends by that, if it does.
+/// Puts the orders of the client at a frame, and answers how the reading ends by that, if it does.
 fn put_orders<R: Wait>(
     rt: &R,
     table: &FrameTable,
     pass: &mut Pass,
-    c: u8,
+    invite: &Invite,
     frame: u32,
     orders: Orders,
 ) -> Option<ReaderEnd>
     requires pass { IsPassOf table.now pass.old }
-    requires client { c < length (plan_of table.now) }
-    requires may { MayPlay (standing pass.old c) }
+    requires client { invite.now.client < length (plan_of table.now) }
+    requires may { MayPlay (standing pass.old invite.now.client) }
+    requires goes { MayGoOn invite.now.lag invite.now.client (view_of pass.old) }
+    requires step { IsInStep invite.now.lag invite.now.client (view_of pass.old) }
     ensures pass { IsPassOf table.now pass.new }
-    ensures puts { PutsOrders c (view_of pass.old) (view_of pass.new) frame orders result }
+    ensures step { IsInStep invite.now.lag invite.now.client (view_of pass.new) }
+    ensures puts { PutsOrders invite.now.client (view_of pass.old) (view_of pass.new) frame orders
+        result }
 {
-    match table.put(rt, pass, c, frame, Entry::Play(orders)) {
+    match table.put(rt, pass, invite.client, frame, Entry::Play(orders)) {
         Ok(answer) => end_by_put(answer, frame),
         Err(_) => Some(ReaderEnd::NoMemory),
     }

@@ -111,7 +111,7 @@ module _ (clients : ℕ) (table : FrameTable) (invite : Invite) (receiver : Repo
   made_no_other : (d : ℕ) → d ≢ c → made_by piece.seat d ≡ 0
   made_no_other d apart =
       let elsewhere : d ≢ done.before.seat.invite.client = λ same. apart (same ∙ is_own) in
-      let read : (standing piece.seat.reading.pass d).made ≡ 0 = ap (λ (r : Part). r.made) (done.serves.reads.column.others.2 d elsewhere) ∙ done.is_new.seat.fixed_none d in
+      let read : (standing piece.seat.reading.pass d).made ≡ 0 = ap (λ (r : Part). r.made) (done.serves.reads.column.others.parts d elsewhere).only ∙ done.is_new.seat.fixed_none d in
       let sent : (standing piece.seat.sending d).made ≡ 0 = so_others _ _ _ _ _ _ _ piece.seat.ends.sender done.serves.sends d elsewhere ∙ done.is_new.seat.sender_fixed_none d in
       omega arith
 

@@ -35,6 +35,7 @@ use Rattle.match_net.specs.Reading.{MayPlay}
 use Rattle.match_net.specs.Sessions.{CountsAs, LeavesColumn, SessionEnds}
 use Rattle.match_net.specs.Sending.{LooksAtAll}
 use Rattle.match_net.specs.SenderSession.{SendsAs, SentBy, LeavesIf}
+use Rattle.match_net.proofs.AheadLemmas.{others_still, others_stay_on}
 use Rattle.match_serve.specs.declared.link_seat.LinkSeat.{LinkSeat}
 use Rattle.match_serve.specs.Passes.{IsServePass, Learns, IsTakenOut}
 use Rattle.match_serve.specs.Seats.{IsNewSeat, MayRead, HasRead, MaySend, HasSent, ServesSeat}
@@ -113,10 +114,10 @@ sender_keeps why invite old new before after answer sends =
 -- A reader.
 pub reader_keeps : (c : ℕ) (plays : List (List Order)) (before after : View) → LeavesColumn c plays before after → (share : after.share ≡ before.share) × ((d : ℕ) → (part_of d after).planned ≡ (part_of d before).planned)
 reader_keeps c plays before after leaves = (
-  leaves.others.0,
+  leaves.others.share,
   λ d. dite (ℕ_discrete d c)
       (λ same. subst (λ e. (part_of e after).planned ≡ (part_of e before).planned) (sym same) (ap (λ (r : Part). r.planned) leaves.part))
-      (λ apart. ap (λ (r : Part). r.planned) (leaves.others.2 d apart)),
+      (λ apart. ap (λ (r : Part). r.planned) (leaves.others.parts d apart).only),
 )
 
 -- The client left with no play.
@@ -125,10 +126,11 @@ taken_empty c before after free may none (answer, (K, acted, said)) =
     let p = part_of c before in
     let plays : K.plays ≡ [] = sym (acted.found.fed may.feeds).1 ∙ none in
     record {
-      others = acted.others;
+      others = others_stay_on c before before after (others_still c before) acted.others;
       part = acted.part ∙ (λ i. record p {
         reach = record { plays = length (plays i); left = true };
         known = record { plays = plays i; left = true };
+        loads = (sym (ap (λ (r : Part). r.loads) acted.part)) i;
         made = (sym (ap (λ (r : Part). r.made) acted.part)) i;
         held = (sym free) i;
       });

@@ -4,7 +4,8 @@
 //! by the two sessions of `match_net` beside each other, while the calling thread ticks every frame
 //! that is ready and a console may kick clients. What it hands back is in `specs/Serve.antt`: the
 //! columns that the links' bytes made, the world and the wanted hashes that these columns make, how
-//! each link ended and how many bytes were taken from it, and which reports the board has. What
+//! each link ended and how many bytes were taken from it, and which reports the board has.
+//! [`serve_watched`] does the same, and tells a watch what happens. What
 //! threads know of the columns meanwhile is in `specs/Passes.antt`, what serves a link in
 //! `specs/Seats.antt`. The crate stands on `match_net` for the sessions and the queue of reports, on
 //! `frame_table` for the columns, on `server_core` for the board, and on `game_io` for links and
@@ -20,6 +21,7 @@ mod kicks;
 mod leaving;
 mod link_end;
 mod link_seat;
+mod logging;
 mod opening;
 mod running;
 mod serve;
@@ -30,6 +32,6 @@ mod serving;
 mod ticking;
 
 pub use link_end::LinkEnd;
-pub use serve::serve_match;
+pub use serve::{serve_match, serve_watched};
 pub use serve_fault::ServeFault;
 pub use served::Served;

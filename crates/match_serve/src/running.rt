@@ -19,7 +19,7 @@ use crate::ticking::tick_all;
 use base::NoMemory;
 use frame_core::Sim;
 use frame_table::{FrameTable, Pass};
-use game_io::{Sink, Source};
+use game_io::{Sink, Source, Watch};
 use match_net::ReportReceiver;
 use server_core::Board;
 use std::alloc::Global;
@@ -27,7 +27,7 @@ use std::sync::Wait;
 use std::thread::{Threads, join_mut};
 
 /// Reads the console and ticks all frames, at once.
-fn watch_and_tick<S: Sim, C: Source + Send, R: Threads + Wait + Sync>(
+fn watch_and_tick<S: Sim, C: Source + Send, W: Watch, R: Threads + Wait + Sync>(
     rt: &R,
     table: &FrameTable,
     clients: u8,
@@ -38,6 +38,7 @@ fn watch_and_tick<S: Sim, C: Source + Send, R: Threads + Wait + Sync>(
     receiver: &mut ReportReceiver,
     board: &mut Board,
     sim: &mut S,
+    watch: &W,
 ) -> Result<(), NoMemory>
     requires watching { IsServePass clients table.now watching.old }
     requires kicks { AreNewKicks clients kicks.old }
@@ -67,15 +68,15 @@ fn watch_and_tick<S: Sim, C: Source + Send, R: Threads + Wait + Sync>(
     ensures watches { WatchesConsole clients table.now (C.state console.old) (C.state console.new)
         watching.old watching.new kicks.new.kicked.items }
 {
-    let mut watch = ||
+    let mut read = ||
         requires { IsServePass clients table.now watching.now × (clients ≤ MAX_CLIENTS)
             × AreNewKicks clients kicks.now }
         ensures { WatchesConsole clients table.entry.now (C.state console.entry.now)
             (C.state console.exit.now) watching.entry.now watching.exit.now
             kicks.exit.now.kicked.items }
     { watch_console(rt, table, watching, clients, console, kicks) };
-    let mut tick = || tick_all(rt, table, pass, clients, receiver, board, sim);
-    let (_watched, ticked) = join_mut(rt, &mut watch, &mut tick);
+    let mut tick = || tick_all(rt, table, pass, clients, receiver, board, sim, watch);
+    let (_watched, ticked) = join_mut(rt, &mut read, &mut tick);
     ticked
 }
 
@@ -83,6 +84,7 @@ fn watch_and_tick<S: Sim, C: Source + Send, R: Threads + Wait + Sync>(
 pub(crate) fn run_threads<
     S: Sim,
     C: Source + Send,
+    W: Watch + Sync,
     R: Threads + Wait + Sync,
     I: Source + Send + Drop,
     O: Sink + Send + Drop,
@@ -99,6 +101,7 @@ pub(crate) fn run_threads<
     receiver: &mut ReportReceiver,
     board: &mut Board,
     sim: &mut S,
+    watch: &W,
 ) -> Result<(), NoMemory>
     requires pieces { All (λ piece. IsNewSeat piece.seat.invite.clients table.now piece.seat)
         pieces.old }
@@ -132,10 +135,10 @@ pub(crate) fn run_threads<
         watching.old watching.new kicks.new.kicked.items }
 {
     let mut serve = ||
-        requires { IsSync R.row × All (λ piece. IsNewSeat piece.seat.invite.clients table.now
+        requires { IsSync R.row × IsSync W.row × All (λ piece. IsNewSeat piece.seat.invite.clients table.now
             piece.seat) pieces.now }
         ensures { AreServed table.entry.now pieces.entry.now pieces.exit.now }
-    { serve_links(rt, alloc, table, pieces) };
+    { serve_links(rt, alloc, table, pieces, watch) };
     let mut run = || -> Result<(), NoMemory>
         requires { IsSync R.row × IsSend C.row × IsServePass clients table.now watching.now
             × AreNewKicks clients kicks.now × IsServePass clients table.now pass.now
@@ -164,7 +167,7 @@ pub(crate) fn run_threads<
             kicks.exit.now.kicked.items }
     {
         watch_and_tick(
-            rt, table, clients, watching, console, kicks, pass, receiver, board, sim,
+            rt, table, clients, watching, console, kicks, pass, receiver, board, sim, watch,
         )
     };
     let (_served, ticked) = join_mut(rt, &mut serve, &mut run);

@@ -27,7 +27,7 @@ use arrayvec::ArrayVec;
 use base::{List, NoMemory};
 use frame_core::Sim;
 use frame_table::{FrameTable, Pass};
-use game_io::{Net, Source};
+use game_io::{MatchEvent, Net, NoWatch, Source, Watch};
 use match_net::{
     Invite, ReportEnds, ReportReceiver, report_queue, reports_of_each_client_are_heard,
 };
@@ -89,6 +89,43 @@ pub fn serve_match<S: Sim, N: Net, C: Source + Send, R: Threads + Wait + Sync>(
     ensures net { IfErr result (λ fault. fault ≡ ServeFault.Net →
         Increased (N.state net.old).faults (N.state net.new).faults) }
 {
+    let watch = NoWatch::lent();
+    serve_watched(rt, alloc, invite, at, sim, net, console, watch)
+}
+
+/// Serves a match over links as [`serve_match`] does, and tells the watch what happens: where the
+/// server listens, each link that comes and how it greets, each frame that is ticked and each
+/// departure before its frame, for whom the match waits, and its end. Several threads tell it at once.
+pub fn serve_watched<S: Sim, N: Net, C: Source + Send, W: Watch + Sync, R: Threads + Wait + Sync>(
+    rt: &R,
+    alloc: Global,
+    invite: &Invite,
+    at: &str,
+    sim: S,
+    net: &mut N,
+    console: &mut C,
+    watch: &W,
+) -> Result<Served<S>, ServeFault>
+    requires least { 1 ≤ invite.now.clients }
+    requires most { invite.now.clients ≤ MAX_CLIENTS }
+    requires clients { S.clients_of sim ≡ invite.now.clients }
+    requires fresh { S.steps sim ≡ 0 }
+    requires no_links { (N.state net.old).given ≡ [] }
+    ensures served { IfOk result (λ served. ServesMatch (record {
+      start = sim;
+      after = S.after;
+      hash = S.hash_of;
+      summary = S.summary_of;
+      clients = invite.now.clients;
+      lag = 0;
+    })
+        invite.now (N.state net.old).coming (C.state console.old) (C.state console.new)
+        (N.state net.new) served.sim (S.steps served.sim)
+        served.table served.pass served.board served.ends served.taken) }
+    ensures clients { IfOk result (λ served. S.clients_of served.sim ≡ S.clients_of sim) }
+    ensures net { IfErr result (λ fault. fault ≡ ServeFault.Net →
+        Increased (N.state net.old).faults (N.state net.new).faults) }
+{
     let board = Board::create(alloc, invite.clients)?;
     let kicks = no_kicks(alloc, invite.clients)?;
     let ends = no_ends(alloc, invite.clients)?;
@@ -101,7 +138,17 @@ pub fn serve_match<S: Sim, N: Net, C: Source + Send, R: Threads + Wait + Sync>(
     if net.listen(at).is_err() {
         return Err(ServeFault::Net);
     }
-    let pieces = accept_links(alloc, net, &table, &mut pass, invite, reports.into_vec())?;
+    let place = net.listens_at();
+    watch.log(MatchEvent::Listens { at: place });
+    let pieces = accept_links(
+        alloc,
+        net,
+        &table,
+        &mut pass,
+        invite,
+        reports.into_vec(),
+        watch,
+    )?;
     let served = serve_opened(
         rt,
         alloc,
@@ -117,6 +164,7 @@ pub fn serve_match<S: Sim, N: Net, C: Source + Send, R: Threads + Wait + Sync>(
         sim,
         net,
         console,
+        watch,
     )?;
     Ok(served)
 }
@@ -158,7 +206,7 @@ fn none_taken(alloc: Global, clients: u8) -> Result<Vec<u64>, NoMemory>
 }
 
 /// Serves the accepted links of a match to its end, and hands them back.
-fn serve_opened<S: Sim, N: Net, C: Source + Send, R: Threads + Wait + Sync>(
+fn serve_opened<S: Sim, N: Net, C: Source + Send, W: Watch + Sync, R: Threads + Wait + Sync>(
     rt: &R,
     alloc: Global,
     invite: &Invite,
@@ -173,6 +221,7 @@ fn serve_opened<S: Sim, N: Net, C: Source + Send, R: Threads + Wait + Sync>(
     sim: S,
     net: &mut N,
     console: &mut C,
+    watch: &W,
 ) -> Result<Served<S>, NoMemory>
     requires most { invite.now.clients ≤ MAX_CLIENTS }
     requires opening { IsOpening invite.now.clients table invite.now.clients pass }
@@ -224,6 +273,7 @@ fn serve_opened<S: Sim, N: Net, C: Source + Send, R: Threads + Wait + Sync>(
         &mut receiver,
         &mut board,
         &mut sim,
+        watch,
     )?;
     table.join(&mut pass, watching);
     close_links(

@@ -7,9 +7,10 @@ ghost use Rattle.match_serve.specs.Seats.{IsNewSeat, MayRead, HasRead, MaySend, 
 ghost use Rattle.match_serve.specs.Seats.{ServesSeat, AreServed};
 
 use crate::link_seat::{LinkSeat, ReadSeat, SessionEnds};
+use crate::logging::greeting_event;
 use crate::served_link::ServedLink;
 use frame_table::{FrameTable, Pass};
-use game_io::{Sink, Source};
+use game_io::{MatchEvent, NoGreeting, Sink, Source, Watch};
 use game_orders::MAX_CLIENTS;
 use match_net::{
     Greeting, Invite, ReaderEnd, SenderEnd, greet_counted, reader_session_counted, sender_session,
@@ -149,32 +150,42 @@ fn give_up<R: Wait>(rt: &R, table: &FrameTable, seat: &mut LinkSeat)
 
 /// Greets a link and runs its two sessions. Where memory runs out for the greeting its client
 /// leaves.
-fn serve_seat<R: Threads + Wait + Sync, I: Source + Send, O: Sink + Send>(
+fn serve_seat<R: Threads + Wait + Sync, I: Source + Send, O: Sink + Send, W: Watch>(
     rt: &R,
     alloc: Global,
     table: &FrameTable,
     seat: &mut LinkSeat,
     input: &mut I,
     output: &mut O,
+    watch: &W,
 )
     requires { IsNewSeat seat.old.invite.clients table.now seat.old }
     ensures { ServesSeat seat.old.invite.clients table.now seat.old seat.new
         (I.state input.old) (I.state input.new) (O.state output.old) (O.state output.new) }
 {
     let _rules = seat.invite.rules;
+    let client = seat.invite.client;
     let reading = &mut seat.reading;
     match greet_counted(&seat.invite, &mut reading.feeder, input, &mut reading.taken) {
-        Ok(greeting) => serve_greeted(rt, alloc, table, &greeting, seat, input, output),
-        Err(_) => give_up(rt, table, seat),
+        Ok(greeting) => {
+            watch.log(greeting_event(client, &greeting));
+            serve_greeted(rt, alloc, table, &greeting, seat, input, output);
+        }
+        Err(_) => {
+            let why = NoGreeting::NoMemory;
+            watch.log(MatchEvent::GreetsNot { client, why });
+            give_up(rt, table, seat);
+        }
     }
 }
 
 /// Serves a link.
-fn serve_link<R: Threads + Wait + Sync, I: Source + Send + Drop, O: Sink + Send + Drop>(
+fn serve_link<R: Threads + Wait + Sync, I: Source + Send + Drop, O: Sink + Send + Drop, W: Watch>(
     rt: &R,
     alloc: Global,
     table: &FrameTable,
     piece: &mut ServedLink<I, O>,
+    watch: &W,
 )
     requires { IsNewSeat piece.old.seat.invite.clients table.now piece.old.seat }
     ensures { ServesSeat piece.old.seat.invite.clients table.now piece.old.seat piece.new.seat
@@ -185,16 +196,16 @@ fn serve_link<R: Threads + Wait + Sync, I: Source + Send + Drop, O: Sink + Send 
         output,
         seat,
     } = piece;
-    serve_seat(rt, alloc, table, seat, input, output);
+    serve_seat(rt, alloc, table, seat, input, output, watch);
 }
 
 /// Serves each of these links, in a thread of its own.
-pub(crate) fn serve_links<R: Threads + Wait + Sync, I: Source + Send + Drop, O: Sink + Send + Drop>(
-    rt: &R,
-    alloc: Global,
-    table: &FrameTable,
-    pieces: &mut [ServedLink<I, O>],
-)
+pub(crate) fn serve_links<
+    R: Threads + Wait + Sync,
+    I: Source + Send + Drop,
+    O: Sink + Send + Drop,
+    W: Watch + Sync,
+>(rt: &R, alloc: Global, table: &FrameTable, pieces: &mut [ServedLink<I, O>], watch: &W)
     requires { All (λ piece. IsNewSeat piece.seat.invite.clients table.now piece.seat)
         pieces.old }
     ensures { AreServed table.now pieces.old pieces.new }
@@ -204,6 +215,6 @@ pub(crate) fn serve_links<R: Threads + Wait + Sync, I: Source + Send + Drop, O: 
         ensures { ServesSeat piece.entry.now.seat.invite.clients table.entry.now
             piece.entry.now.seat piece.exit.now.seat piece.entry.now.input piece.exit.now.input
             piece.entry.now.output piece.exit.now.output }
-    { serve_link(rt, alloc, table, piece) };
+    { serve_link(rt, alloc, table, piece, watch) };
     thread::for_each_mut(rt, pieces, MAX_CLIENTS as usize, &each);
 }

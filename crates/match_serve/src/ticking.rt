@@ -11,9 +11,11 @@ ghost use Rattle.match_serve.specs.Ticks.{FrameTaken, TicksOnce, TicksAll};
 
 use crate::hearing::take_reports;
 use crate::leaving::leave_all;
+use crate::logging::TickLog;
 use base::NoMemory;
 use frame_core::{Ready, Sim};
 use frame_table::{FrameTable, Pass};
+use game_io::Watch;
 use game_orders::Frame;
 use idle_pause::Pause;
 use match_net::ReportReceiver;
@@ -22,7 +24,7 @@ use std::sync::Wait;
 
 /// Ticks each frame that is ready and takes the reports that have come, until the match is over. It
 /// fails only where it is out of memory; then every client has left.
-pub(crate) fn tick_all<S: Sim, R: Wait>(
+pub(crate) fn tick_all<S: Sim, W: Watch, R: Wait>(
     rt: &R,
     table: &FrameTable,
     pass: &mut Pass,
@@ -30,6 +32,7 @@ pub(crate) fn tick_all<S: Sim, R: Wait>(
     receiver: &mut ReportReceiver,
     board: &mut Board,
     sim: &mut S,
+    watch: &W,
 ) -> Result<(), NoMemory>
     requires pass { IsServePass clients table.now pass.old }
     requires unwanted { board.old.wanted ≡ [] }
@@ -57,7 +60,7 @@ pub(crate) fn tick_all<S: Sim, R: Wait>(
     ensures joined { joined receiver.new ≡ joined receiver.old }
     ensures same { IsSameReceiver receiver.old receiver.new }
 {
-    let ticked = tick_ready(rt, table, pass, clients, receiver, board, sim);
+    let ticked = tick_ready(rt, table, pass, clients, receiver, board, sim, watch);
     if ticked.is_err() {
         leave_all(rt, table, pass, clients);
     }
@@ -65,7 +68,7 @@ pub(crate) fn tick_all<S: Sim, R: Wait>(
 }
 
 /// Ticks each frame that is ready, until the match is over or memory runs out.
-fn tick_ready<S: Sim, R: Wait>(
+fn tick_ready<S: Sim, W: Watch, R: Wait>(
     rt: &R,
     table: &FrameTable,
     pass: &mut Pass,
@@ -73,6 +76,7 @@ fn tick_ready<S: Sim, R: Wait>(
     receiver: &mut ReportReceiver,
     board: &mut Board,
     sim: &mut S,
+    watch: &W,
 ) -> Result<(), NoMemory>
     requires pass { IsServePass clients table.now pass.old }
     requires unwanted { board.old.wanted ≡ [] }
@@ -100,17 +104,24 @@ fn tick_ready<S: Sim, R: Wait>(
 {
     let mut n: u32 = 0;
     let mut pause = Pause::new();
+    let mut log = TickLog::new(watch);
     for _turn in rt.forever() {
         take_reports(rt, receiver, board)?;
         match table.ready(pass, n) {
             Ready::Yes => {
-                tick(rt, table, pass, n, clients, board, sim)?;
+                tick(rt, table, pass, n, clients, board, sim, &mut log)?;
                 n += 1;
                 pause.end();
+                log.ticked(n);
             }
-            Ready::NotYet(_) => pause.rest(rt),
+            Ready::NotYet(client) => {
+                log.waits_for(n, client);
+                pause.rest(rt);
+            }
             Ready::Over => {
-                let _departures = take_frame(rt, table, pass, n, clients);
+                let departures = take_frame(rt, table, pass, n, clients);
+                log.departures(n, &departures);
+                log.over(n);
                 return Ok(());
             }
         }
@@ -119,7 +130,7 @@ fn tick_ready<S: Sim, R: Wait>(
 }
 
 /// Steps the world by frame `n`, which the pass has seen of each client, and notes its hash then.
-fn tick<S: Sim, R: Wait>(
+fn tick<S: Sim, W: Watch, R: Wait>(
     rt: &R,
     table: &FrameTable,
     pass: &mut Pass,
@@ -127,6 +138,7 @@ fn tick<S: Sim, R: Wait>(
     clients: u8,
     board: &mut Board,
     sim: &mut S,
+    log: &mut TickLog<'_, W>,
 ) -> Result<(), NoMemory>
     requires pass { IsServePass clients table.now pass.old }
     requires boards { length board.old.reports ≡ clients }
@@ -145,6 +157,7 @@ fn tick<S: Sim, R: Wait>(
     ensures steps { OnOk result (S.steps sim.new ≡ S.steps sim.old + 1) }
 {
     let frame = take_frame(rt, table, pass, n, clients);
+    log.departures(n, &frame);
     sim.step(&frame);
     board.wanted(sim.hash())?;
     Ok(())

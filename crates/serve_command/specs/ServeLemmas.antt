@@ -23,11 +23,11 @@ by_memory : (b : Bool) (status : ℕ) → status ≡ (if b then OUT_OF_MEMORY el
 by_memory true status e = inr e
 by_memory false status e = inl e
 
-two_causes : (status : ℕ) (R S : Type 0) → (status ≡ DONE) ⊎ (status ≡ OUT_OF_MEMORY) → HasCauses status R S
+pub two_causes : (status : ℕ) (R S : Type 0) → (status ≡ DONE) ⊎ (status ≡ OUT_OF_MEMORY) → HasCauses status R S
 two_causes status R S (inl e) = settled_causes status DONE R S done_settled e
 two_causes status R S (inr e) = at_memory status R S e
 
-served_of : (ends : List LinkEnd) (status : ℕ) → status ≡ served_status ends → (status ≡ DONE) ⊎ (status ≡ OUT_OF_MEMORY)
+pub served_of : (ends : List LinkEnd) (status : ℕ) → status ≡ served_status ends → (status ≡ DONE) ⊎ (status ≡ OUT_OF_MEMORY)
 served_of ends status e = by_memory (list_any is_memory ends) status e
 
 printed_of : (reply : Reply) (status : ℕ) (s s' : SinkState) → (Increased s.faults s'.faults → ⊥) →

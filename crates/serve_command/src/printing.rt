@@ -6,20 +6,27 @@ ghost use Rattle.serve_command.specs.Serves.{ServesBy};
 use crate::serve_text::served_answer;
 use command_answers::OUT_OF_MEMORY;
 use frame_core::{Maker, Sim};
-use game_io::{Net, Sink, Source};
+use game_io::{Net, Sink, Source, Watch};
 use game_orders::MAX_CLIENTS;
 use link_commands::{lost_answer, print_made};
 use match_net::Invite;
-use match_serve::{ServeFault, serve_match};
+use match_serve::{ServeFault, serve_watched};
 use std::alloc::Global;
 use std::sync::Wait;
 use std::thread::Threads;
 
 /// Serves a match over the links of a net that come to this address, and prints how it ended; the
 /// status is returned. The invite says of how many clients, by which lag, seed and rules number the
-/// match is, and its worlds are those of the maker, which ask no lag. The console may kick clients. It
-/// returns only if its threads do.
-pub fn serve_over<M: Maker, K: Sink, N: Net, C: Source + Send, R: Threads + Wait + Sync>(
+/// match is, and its worlds are those of the maker, which ask no lag. The console may kick clients, and
+/// the watch is told what happens. It returns only if its threads do.
+pub fn serve_over<
+    M: Maker,
+    K: Sink,
+    N: Net,
+    C: Source + Send,
+    W: Watch + Sync,
+    R: Threads + Wait + Sync,
+>(
     rt: &R,
     alloc: Global,
     at: &str,
@@ -28,6 +35,7 @@ pub fn serve_over<M: Maker, K: Sink, N: Net, C: Source + Send, R: Threads + Wait
     out: &mut K,
     net: &mut N,
     console: &mut C,
+    watch: &W,
 ) -> u8
     requires least { 1 ≤ invite.now.clients }
     requires most { invite.now.clients ≤ MAX_CLIENTS }
@@ -46,7 +54,7 @@ pub fn serve_over<M: Maker, K: Sink, N: Net, C: Source + Send, R: Threads + Wait
     let Ok(sim) = maker.make(alloc, invite.seed, invite.clients) else {
         return OUT_OF_MEMORY;
     };
-    match serve_match(rt, alloc, invite, at, sim, net, console) {
+    match serve_watched(rt, alloc, invite, at, sim, net, console, watch) {
         Ok(served) => print_made(served_answer(rt, alloc, served), out),
         Err(ServeFault::Net) => print_made(lost_answer(alloc), out),
         Err(ServeFault::NoMemory) => OUT_OF_MEMORY,

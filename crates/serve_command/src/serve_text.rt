@@ -45,9 +45,24 @@ pub(crate) fn served_answer<S: Sim, R: Wait>(
         taken: _,
     } = served;
     let columns = table.close(rt, pass);
-    let text = lines(alloc, &columns, ends.as_slice(), &sim, &board)?;
+    closed_answer(alloc, &columns, ends.as_slice(), &sim, &board)
+}
+
+/// The same, once the table is closed.
+pub(crate) fn closed_answer<S: Sim>(
+    alloc: Global,
+    columns: &Columns,
+    ends: &[LinkEnd],
+    sim: &S,
+    board: &Board,
+) -> Result<Answer<'static>, NoMemory>
+    requires { length ends.now ≤ MAX_CLIENTS }
+    ensures { IfOk result (λ answer. reply_of answer
+        ≡ served_reply S.hash_of S.summary_of columns.now ends.now sim.now board.now) }
+{
+    let text = lines(alloc, columns, ends, sim, board)?;
     Ok(Answer {
-        status: status(ends.as_slice()),
+        status: status(ends),
         text: text.into_bytes(),
         write: None,
     })

@@ -3,7 +3,7 @@
 ghost use Rattle.game_io.specs.PlannedBytes.{sink_state, source_state};
 ghost use Rattle.game_io.specs.PlannedLinks.{net_state};
 
-use crate::serving::{serve, serve_watched, two_links};
+use crate::serving::{serve, serve_by_console, two_links};
 use game_io::{
     Failed, FailingCall, MAX_HOLD_TURNS, MemNet, MemSink, MemSource, Net, Remains, Sink, Source,
 };
@@ -32,14 +32,14 @@ const BOTH_HAVE_LEFT: &[&[u8]] = &[FIRST_LEAVES_FIRST, SECOND_LEAVES_FIRST];
 /// What the halves of a held link share: with which bytes its sink is to end, whether it has ended so,
 /// and whether the turns have ended in which its source waits for that.
 #[derive(Drop)]
-struct Hold {
+pub(crate) struct Hold {
     until: &'static [&'static [u8]],
-    let_go: AtomicBool,
-    ended: AtomicBool,
+    pub let_go: AtomicBool,
+    pub ended: AtomicBool,
 }
 
 impl Hold {
-    fn new(until: &'static [&'static [u8]]) -> Hold {
+    pub fn new(until: &'static [&'static [u8]]) -> Hold {
         Hold {
             until,
             let_go: AtomicBool::new(false),
@@ -68,7 +68,7 @@ impl Hold {
 
 /// The source of a link. If the link is held, it does not end before the hold does.
 #[derive(Drop)]
-struct HeldSource<'a> {
+pub(crate) struct HeldSource<'a> {
     source: MemSource,
     hold: Option<&'a Hold>,
 }
@@ -90,11 +90,12 @@ impl<'a> Source for HeldSource<'a> {
     }
 }
 
-/// The sink of a link. If the link is held, its bytes end the hold.
+/// The sink of a link. If the link is held, its bytes end the hold, and another hold, if there is one.
 #[derive(Drop)]
-struct HeldSink<'a> {
+pub(crate) struct HeldSink<'a> {
     sink: MemSink,
     hold: Option<&'a Hold>,
+    other: Option<&'a Hold>,
 }
 
 impl<'a> Sink for HeldSink<'a> {
@@ -109,15 +110,19 @@ impl<'a> Sink for HeldSink<'a> {
         if let Some(hold) = self.hold {
             hold.look_at(self.sink.bytes());
         }
+        if let Some(other) = self.other {
+            other.look_at(self.sink.bytes());
+        }
         put
     }
 }
 
-/// Links in memory, of which link 1 is held.
+/// Links in memory, of which link 1 is held. What is sent over it ends the other hold too.
 #[derive(Drop)]
-struct HeldNet<'a> {
-    net: MemNet,
-    hold: &'a Hold,
+pub(crate) struct HeldNet<'a> {
+    pub net: MemNet,
+    pub hold: &'a Hold,
+    pub other: Option<&'a Hold>,
 }
 
 impl<'a> HeldNet<'a> {
@@ -125,6 +130,15 @@ impl<'a> HeldNet<'a> {
     fn next_hold(&self) -> Option<&'a Hold> {
         if self.net.links() == 1 {
             Some(self.hold)
+        } else {
+            None
+        }
+    }
+
+    /// The other hold of the next link, if it is held.
+    fn next_other(&self) -> Option<&'a Hold> {
+        if self.net.links() == 1 {
+            self.other
         } else {
             None
         }
@@ -152,14 +166,16 @@ impl<'a> Net for HeldNet<'a> {
 
     fn accept(&mut self) -> Result<(HeldSource<'a>, HeldSink<'a>), Failed> {
         let hold = self.next_hold();
+        let other = self.next_other();
         let (source, sink) = self.net.accept()?;
-        Ok((HeldSource { source, hold }, HeldSink { sink, hold }))
+        Ok((HeldSource { source, hold }, HeldSink { sink, hold, other }))
     }
 
     fn dial(&mut self, at: &str) -> Result<(HeldSource<'a>, HeldSink<'a>), Failed> {
         let hold = self.next_hold();
+        let other = self.next_other();
         let (source, sink) = self.net.dial(at)?;
-        Ok((HeldSource { source, hold }, HeldSink { sink, hold }))
+        Ok((HeldSource { source, hold }, HeldSink { sink, hold, other }))
     }
 
     fn take_back(&mut self, i: u32, input: HeldSource<'a>, output: HeldSink<'a>) {
@@ -172,10 +188,11 @@ impl<'a> Net for HeldNet<'a> {
 }
 
 /// The bytes of a link whose client greets.
-const HELLO: &[u8] = b"\x0b\x00\x01\x02\x00\xdf\xb7\x01\x86\x4c\xbd\x63\xaf";
+pub(crate) const HELLO: &[u8] = b"\x0b\x00\x01\x02\x00\xdf\xb7\x01\x86\x4c\xbd\x63\xaf";
 
 /// The bytes of a link whose client greets and says farewell.
-const HELLO_AND_BYE: &[u8] = b"\x0b\x00\x01\x02\x00\xdf\xb7\x01\x86\x4c\xbd\x63\xaf\x01\x00\x04";
+pub(crate) const HELLO_AND_BYE: &[u8] =
+    b"\x0b\x00\x01\x02\x00\xdf\xb7\x01\x86\x4c\xbd\x63\xaf\x01\x00\x04";
 
 /// Lines that kick nobody, more bytes than are taken at once, and then one that kicks client 1.
 const LINES: &[u8] =
@@ -197,6 +214,7 @@ fn a_held_link(rt: HostRuntime) -> Result<(), Fail> {
         let mut net = HeldNet {
             net: two_links(rt.alloc(), HELLO_AND_BYE, HELLO, puts)?,
             hold: &hold,
+            other: None,
         };
         let served = serve(&rt, rt.alloc(), &mut net, LINES)?;
         let ends = [LinkEnd::Ended, LinkEnd::Kicked(0)];
@@ -213,9 +231,9 @@ fn a_held_link(rt: HostRuntime) -> Result<(), Fail> {
 
 /// A console that gives nothing before the hold has ended.
 #[derive(Drop)]
-struct HeldConsole<'a> {
-    source: MemSource,
-    hold: &'a Hold,
+pub(crate) struct HeldConsole<'a> {
+    pub source: MemSource,
+    pub hold: &'a Hold,
 }
 
 impl<'a> Source for HeldConsole<'a> {
@@ -247,6 +265,7 @@ fn a_held_console(rt: HostRuntime) -> Result<(), Fail> {
             Vec::new(rt.alloc()),
         )?,
         hold: &hold,
+        other: None,
     };
     let mut console = HeldConsole {
         source: MemSource::new(
@@ -255,7 +274,7 @@ fn a_held_console(rt: HostRuntime) -> Result<(), Fail> {
         ),
         hold: &hold,
     };
-    let served = serve_watched(&rt, rt.alloc(), &mut net, &mut console)?;
+    let served = serve_by_console(&rt, rt.alloc(), &mut net, &mut console)?;
     let ends = [LinkEnd::Ended, LinkEnd::Ended];
     assert_eq!(rt; served.ends.as_slice(), ends.as_slice());
     assert_eq!(rt; console.source.left(), b"kick 0\n".as_slice());

@@ -9,4 +9,6 @@ mod kicked;
 #[cfg(test)]
 mod links;
 #[cfg(test)]
+mod logs;
+#[cfg(test)]
 mod serving;

@@ -3,9 +3,9 @@ ghost use Rattle.std.specs.Prelude.{◌≡◌, ◌^◌, IfOk, [], length};
 ghost use Rattle.frame_table.specs.Calls.{plan_of, view_of, IsPassOf};
 
 use frame_core::Tally;
-use game_io::{FailingCall, MemNet, MemSource, Net, Source};
+use game_io::{FailingCall, MemNet, MemSource, Net, Source, Watch};
 use match_net::Invite;
-use match_serve::{Served, serve_match};
+use match_serve::{Served, serve_match, serve_watched};
 use std::alloc::{AllocError, Global};
 use std::sync::Wait;
 use std::test::Fail;
@@ -60,11 +60,11 @@ pub fn serve<N: Net, R: Threads + Wait + Sync>(
     ensures whole { IfOk result (λ served. (view_of served.pass).share ≡ 2 ^ 62) }
 {
     let mut console = MemSource::new(Vec::from_slice(alloc, lines)?, Vec::new(alloc));
-    serve_watched(rt, alloc, net, &mut console)
+    serve_by_console(rt, alloc, net, &mut console)
 }
 
 /// Serves such a match over this console.
-pub fn serve_watched<N: Net, C: Source + Send, R: Threads + Wait + Sync>(
+pub fn serve_by_console<N: Net, C: Source + Send, R: Threads + Wait + Sync>(
     rt: &R,
     alloc: Global,
     net: &mut N,
@@ -76,6 +76,25 @@ pub fn serve_watched<N: Net, C: Source + Send, R: Threads + Wait + Sync>(
     ensures whole { IfOk result (λ served. (view_of served.pass).share ≡ 2 ^ 62) }
 {
     match serve_match(rt, alloc, &INVITE, "here", Tally::new(), net, console) {
+        Ok(served) => Ok(served),
+        Err(_) => Err(Fail::new("the match is not served")),
+    }
+}
+
+/// Serves such a match over this console, and tells this watch what happens.
+pub fn serve_logged<N: Net, C: Source + Send, W: Watch + Sync, R: Threads + Wait + Sync>(
+    rt: &R,
+    alloc: Global,
+    net: &mut N,
+    console: &mut C,
+    watch: &W,
+) -> Result<Served<Tally>, Fail>
+    requires no_links { (N.state net.old).given ≡ [] }
+    ensures pass { IfOk result (λ served. IsPassOf served.table served.pass) }
+    ensures clients { IfOk result (λ served. length (plan_of served.table) ≡ 2) }
+{
+    let world = Tally::new();
+    match serve_watched(rt, alloc, &INVITE, "here", world, net, console, watch) {
         Ok(served) => Ok(served),
         Err(_) => Err(Fail::new("the match is not served")),
     }

@@ -57,7 +57,7 @@ impl Model for Game {
 
 impl Game {
     /// The opening game of a match of any seed and 1 to `MAX_CLIENTS` clients, over valid rules and
-    /// a map that keeps what maps keep for these rules. All memory that its steps want is taken
+    /// a map that keeps what maps keep for these rules. All memory that its steps need is taken
     /// here; out of memory is the only error.
     pub fn create(
         alloc: Global,
@@ -81,7 +81,7 @@ impl Game {
     /// The game that goes on from a world that is valid after so many frames, over valid rules and
     /// a map that keeps what maps keep for these rules. It has made so many steps, and each later
     /// one, its hash and its summary are those of a game that came to this world by its frames. All
-    /// memory that its steps want is taken here; out of memory is the only error.
+    /// memory that its steps need is taken here; out of memory is the only error.
     pub fn resume(
         alloc: Global,
         rules: Rc<Rules>,

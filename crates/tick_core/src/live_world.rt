@@ -43,7 +43,7 @@ impl LiveWorld {
     ghost use Rattle.sync_hash.specs.Kept.{IsKeptOf};
     ghost use Rattle.sync_hash.specs.WorldHash.{hash_of, hash_of_1};
 
-    /// A valid world, with the memory for all that ticks want. Out of memory is the only error.
+    /// A valid world, with the memory for all that ticks need. Out of memory is the only error.
     pub(crate) fn of(
         alloc: Global,
         rules: Rc<Rules>,

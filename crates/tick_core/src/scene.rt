@@ -54,7 +54,7 @@ impl Scene {
     ghost use Rattle.tick_core.specs.Ordered.{IsReady};
     ghost use Rattle.game_tick.specs.Departures.{with_departures};
 
-    /// A valid world, with the memory for all that ticks want. Out of memory is the only error.
+    /// A valid world, with the memory for all that ticks need. Out of memory is the only error.
     pub(crate) fn of(
         alloc: Global,
         rules: Rc<Rules>,

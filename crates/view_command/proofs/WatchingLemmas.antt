@@ -131,3 +131,13 @@ watched_text setup r s client frames has known all =
     let on : IsOn width height (cell_at x y) = record { column = column; row = row } in
     (seen (cell_at x y) on, explored (cell_at x y) on)) in
     ap₂ (λ (n : ℕ) (lines : List ℕ). view_line client n ++ lines ++ end_line) all rows
+
+-- At the end of the replay.
+pub watch_ends :
+    (setup : Setup) (r : Replay) (start : GameState) (p : PlaybackState GameState) (s : ShroudState) →
+    IsPlayback game_after start r p → p.left ≡ [] → HasWatched setup r p.frames s →
+    HasWatched setup r (frame_count r) s
+watch_ends setup r start p s plays none has =
+    let empty : length p.left ≡ 0 = ap length none in
+    let count : p.frames ≡ frame_count r = omega (arith, plays.count, empty) in
+    subst (λ (n : ℕ). HasWatched setup r n s) count has

@@ -543,3 +543,108 @@ continue|--save|s|--file|f => continue from <s> <f> => continue from <s> <f>
 view|--file|f|--client|0 => view 0 <f> => view 0 <f>
 worlds|--file|f => worlds 0 end 1 <f> => worlds 0 end 1 <f>
 compare|--file|f|--with|g => compare with <g> <f> => compare with <g> <f>";
+
+/// The same of the log, the clocks, the ports and the record of `serve`, and of the log of `play`.
+pub(crate) const LINES_OF_SERVERS: &str = "\
+## Words that are refused.
+# Clocks of 1 to 86,400 seconds.
+serve|--at|a|--clients|1|--patience|0 => refused
+serve|--at|a|--clients|1|--patience|86401 => refused
+serve|--at|a|--clients|1|--patience=-1 => refused
+serve|--at|a|--clients|1|--patience => refused
+serve|--at|a|--clients|1|--patience|1.5 => refused
+serve|--at|a|--clients|1|--patience|2s => refused
+serve|--at|a|--clients|1|--patience|1|--patience|1 => refused
+serve|--at|a|--clients|1|--lobby|0 => refused
+serve|--at|a|--clients|1|--lobby|86401 => refused
+serve|--at|a|--clients|1|--lobby|4294967297 => refused
+serve|--at|a|--clients|1|--lobby= => refused
+serve|--at|a|--clients|1|--lobby|1|--lobby|2 => refused
+# Ports of 1 to 65,535, the lower one first, and room for the clients, at every address.
+serve|--at|udp:a|--clients|1|--udp-ports|7071 => refused
+serve|--at|udp:a|--clients|1|--udp-ports|7071- => refused
+serve|--at|udp:a|--clients|1|--udp-ports=-7071 => refused
+serve|--at|udp:a|--clients|1|--udp-ports|7071-7072-7073 => refused
+serve|--at|udp:a|--clients|1|--udp-ports|7071:7072 => refused
+serve|--at|udp:a|--clients|1|--udp-ports| 7071-7072 => refused
+serve|--at|udp:a|--clients|1|--udp-ports|7071 - 7072 => refused
+serve|--at|udp:a|--clients|1|--udp-ports|+7071-7072 => refused
+serve|--at|udp:a|--clients|1|--udp-ports|7072-7071 => refused
+serve|--at|udp:a|--clients|1|--udp-ports|0-7071 => refused
+serve|--at|udp:a|--clients|1|--udp-ports|0-0 => refused
+serve|--at|udp:a|--clients|1|--udp-ports|7071-65536 => refused
+serve|--at|udp:a|--clients|1|--udp-ports|7071-00000007072 => refused
+serve|--at|udp:a|--clients|1|--udp-ports|7071-4294974367 => refused
+serve|--at|udp:a|--clients|3|--udp-ports|7071-7072 => refused
+serve|--at|a:7070|--clients|3|--udp-ports|7071-7072 => refused
+serve|--at|a|--clients|16|--udp-ports|1-15 => refused
+serve|--at|a|--clients|1|--udp-ports|1-2|--udp-ports|1-2 => refused
+serve|--at|a|--clients|1|--udp-ports => refused
+serve|--at|a|--clients|1|--udp_ports|1-2 => refused
+# A flag once, and without a value.
+serve|--at|a|--clients|1|--quiet|--quiet => refused
+serve|--at|a|--clients|1|--quiet=true => refused
+serve|--at|a|--clients|1|--quiet= => refused
+serve|--at|a|--clients|1|-q => refused
+play|--at|a|--script|s|--quiet|--quiet => refused
+play|--at|a|--script|s|--quiet=true => refused
+play|--quiet|--at|a => refused
+drill|--script|d|--quiet => refused
+local|--script|s|--quiet => refused
+# A record once, with a value.
+serve|--at|a|--clients|1|--record => refused
+serve|--at|a|--clients|1|--record|-r => refused
+serve|--at|a|--clients|1|--record|r|--record|s => refused
+# No such option of `play`.
+play|--at|a|--script|s|--record|r => refused
+play|--at|a|--script|s|--patience|1 => refused
+play|--at|a|--script|s|--lobby|1 => refused
+play|--at|a|--script|s|--udp-ports|1-2 => refused
+## Words with the request that they name.
+serve|--at|a|--clients|1|--patience|1 => serve <a> 1 2 1 patience 1
+serve|--at|a|--clients|1|--patience|86400 => serve <a> 1 2 1 patience 86400
+serve|--at|a|--clients|1|--patience=+007 => serve <a> 1 2 1 patience 7
+serve|--at|a|--clients|1|--lobby|1 => serve <a> 1 2 1 lobby 1
+serve|--lobby=86400|--at|a|--clients|1 => serve <a> 1 2 1 lobby 86400
+serve|--at|a|--clients|1|--lobby|3|--patience|4 => serve <a> 1 2 1 patience 4 lobby 3
+serve|--at|udp:a|--clients|1|--udp-ports|7071-7071 => serve <udp:a> 1 2 1 ports 7071-7071
+serve|--at|udp:a|--clients|3|--udp-ports|7071-7073 => serve <udp:a> 3 2 1 ports 7071-7073
+serve|--at|a:1|--clients|3|--udp-ports=7071-7073 => serve <a:1> 3 2 1 ports 7071-7073
+serve|--at|a|--clients|16|--udp-ports|1-16 => serve <a> 16 2 1 ports 1-16
+serve|--at|a|--clients|16|--udp-ports|1-65535 => serve <a> 16 2 1 ports 1-65535
+serve|--at|a|--clients|1|--udp-ports|65535-65535 => serve <a> 1 2 1 ports 65535-65535
+serve|--at|a|--clients|1|--udp-ports|007-0000000008 => serve <a> 1 2 1 ports 7-8
+serve|--at|a|--clients|1|--quiet => serve <a> 1 2 1 quiet
+serve|--at|a|--clients|1|--quiet|r => serve <a> 1 2 1 quiet <r>
+serve|--at|a|--clients|1|--record|out => serve <a> 1 2 1 record <out>
+serve|--at|a|--clients|1|--record= => serve <a> 1 2 1 record <>
+serve|--at|a|--clients|1|--record=--quiet => serve <a> 1 2 1 record <--quiet>
+serve|--at|a|--clients|1|--|--record|--quiet => serve <a> 1 2 1 <--record> <--quiet>
+serve|r|--quiet|--record|f|--udp-ports|5-9|--patience|2|--map|m|--lobby|3|--seed|4|--lag|6\
+|--clients|5|--at|h \
+    => serve <h> 5 6 4 quiet patience 2 lobby 3 ports 5-9 record <f> map <m> <r>
+play|--at|a|--script|s|--quiet => play quiet at <a> <s>
+play|--quiet|--at|a|--script|s|r => play quiet at <a> <s> <r>
+play|--at|a|--bot|--quiet|--frames|3 => play quiet bot 3 at <a>
+play|--at|a|--script|s|--|--quiet => play at <a> <s> <--quiet>
+";
+
+/// Words, and what they say of the log, the clocks and the ports: nothing where they are refused, and
+/// nothing but that of `serve` and `play`.
+pub(crate) static OPTIONS: [(&str, &str); 12] = [
+    ("serve|--at|a|--clients|2", ""),
+    ("serve|--at|a|--clients|2|--quiet", " quiet"),
+    ("serve|--at|a|--clients|2|--patience|9", " patience 9"),
+    ("serve|--at|a|--clients|2|--lobby|9", " lobby 9"),
+    ("serve|--at|a|--clients|2|--udp-ports|8-9", " ports 8-9"),
+    (
+        "serve|--lobby|3|--at|a|--udp-ports|8-9|--quiet|--clients|2|--patience|7|--record|r",
+        " quiet patience 7 lobby 3 ports 8-9",
+    ),
+    ("serve|--at|a|--clients|3|--quiet|--udp-ports|8-9", ""),
+    ("serve|--at|a|--quiet", ""),
+    ("play|--at|a|--script|s", ""),
+    ("play|--at|a|--quiet|--script|s", " quiet"),
+    ("play|--at|a|--quiet|--bot|--frames|1", " quiet"),
+    ("drill|--script|d|r|--|--quiet", ""),
+];

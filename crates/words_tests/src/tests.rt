@@ -1,10 +1,12 @@
 //! Command lines with the request that they name, or that are refused.
 
-use crate::lines::{COMMANDS_OF_NAMES, LINES, LINES_OF_BOTS_AND_DATAGRAMS};
+use crate::lines::{
+    COMMANDS_OF_NAMES, LINES, LINES_OF_BOTS_AND_DATAGRAMS, LINES_OF_SERVERS, OPTIONS,
+};
 use base::NoMemory;
 use command_words::{
-    BotQuery, FileNames, MAX_FILES, MatchQuery, Request, RouteQuery, ServeQuery, WordsFault,
-    WorldRange, read_words,
+    BotQuery, FileNames, HostOptions, MAX_FILES, MatchQuery, Request, RouteQuery, ServeQuery,
+    WordsFault, WorldRange, host_options, read_words,
 };
 use std::alloc::{AllocError, Global};
 use std::fmt::Write;
@@ -71,13 +73,53 @@ fn put_route(text: &mut String, query: &RouteQuery<'_>) -> Result<(), NoMemory> 
     put_rules(text, None, &query.rules)
 }
 
+/// Adds these words and then the seconds, if some are given.
+fn put_seconds(text: &mut String, words: &str, seconds: Option<u32>) -> Result<(), NoMemory> {
+    if let Some(seconds) = seconds {
+        text.push_str(words)?;
+        put_number(text, ' ', seconds)?;
+    }
+    Ok(())
+}
+
+/// Adds what is said of the log, the clocks and the ports.
+fn put_host(text: &mut String, host: &HostOptions) -> Result<(), NoMemory> {
+    if host.is_quiet {
+        text.push_str(" quiet")?;
+    }
+    put_seconds(text, " patience", host.patience)?;
+    put_seconds(text, " lobby", host.lobby)?;
+    if let Some(ports) = host.udp_ports {
+        text.push_str(" ports")?;
+        put_number(text, ' ', u32::from(ports.first))?;
+        put_number(text, '-', u32::from(ports.last))?;
+    }
+    Ok(())
+}
+
 /// Adds a match that is served, and its options.
 fn put_serve(text: &mut String, query: &ServeQuery<'_>) -> Result<(), NoMemory> {
     put_name(text, "serve", query.at)?;
     put_number(text, ' ', u32::from(query.clients))?;
     put_number(text, ' ', u32::from(query.lag))?;
     put_number(text, ' ', query.seed)?;
+    put_host(text, &query.host)?;
+    if let Some(record) = query.record_file {
+        put_name(text, " record", record)?;
+    }
     put_rules(text, query.map_file, &query.rules)
+}
+
+/// Adds a match over a link that a script plays.
+fn put_play(
+    text: &mut String,
+    at: &str,
+    is_quiet: bool,
+    query: &MatchQuery<'_>,
+) -> Result<(), NoMemory> {
+    text.push_str(if is_quiet { "play quiet" } else { "play" })?;
+    put_name(text, " at", at)?;
+    put_match(text, "", query)
 }
 
 /// Adds a save of a replay, after its number of frames and the file that it is written to.
@@ -134,7 +176,11 @@ fn put_local(text: &mut String, bots: u8, query: &MatchQuery<'_>) -> Result<(), 
 
 /// Adds a match over a link that a bot plays.
 fn put_bot(text: &mut String, query: &BotQuery<'_>) -> Result<(), NoMemory> {
-    text.push_str("play bot")?;
+    text.push_str(if query.is_quiet {
+        "play quiet bot"
+    } else {
+        "play bot"
+    })?;
     put_number(text, ' ', query.frames)?;
     put_name(text, " at", query.at)?;
     put_rules(text, query.map_file, &query.rules)
@@ -146,10 +192,11 @@ fn put_request(text: &mut String, request: &Request<'_>) -> Result<(), NoMemory>
         Request::Drill { query, record } => put_drill(text, *record, query),
         Request::Local { query, bots } => put_local(text, *bots, query),
         Request::Serve(query) => put_serve(text, query),
-        Request::Play { query, at } => {
-            put_name(text, "play at", at)?;
-            put_match(text, "", query)
-        }
+        Request::Play {
+            query,
+            at,
+            is_quiet,
+        } => put_play(text, at, *is_quiet, query),
         Request::PlayBot(query) => put_bot(text, query),
         Request::Replay(query) => put_match(text, "replay", query),
         Request::Migrate { query, to } => {
@@ -219,6 +266,31 @@ fn wrong_line<'a>(alloc: Global, lines: &'a str) -> Result<Option<&'a str>, NoMe
 fn lines_name_their_requests(rt: HostRuntime) -> Result<(), Fail> {
     let alloc = rt.alloc();
     assert_eq!(rt; wrong_line(alloc, LINES)?, None);
+    Ok(())
+}
+
+/// What a list of words says of the log, the clocks and the ports.
+fn options_text(alloc: Global, words: &[String]) -> Result<String, NoMemory> {
+    let mut text = String::new(alloc);
+    put_host(&mut text, &host_options(alloc, words)?)?;
+    Ok(text)
+}
+
+#[test]
+fn words_say_their_options(rt: HostRuntime) -> Result<(), Fail> {
+    let alloc = rt.alloc();
+    for (words, want) in OPTIONS.iter() {
+        let line = command_line(alloc, words)?;
+        let got = options_text(alloc, &line)?;
+        assert_eq!(rt; got.as_str(), *want);
+    }
+    Ok(())
+}
+
+#[test]
+fn lines_of_servers_name_their_requests(rt: HostRuntime) -> Result<(), Fail> {
+    let alloc = rt.alloc();
+    assert_eq!(rt; wrong_line(alloc, LINES_OF_SERVERS)?, None);
     Ok(())
 }
 

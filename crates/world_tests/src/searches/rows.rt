@@ -89,7 +89,8 @@ pub(super) static ASKED_OFTEN: [Part; 3] = [
     },
 ];
 
-/// Goals of which the last 32 are kept, from cells that none of the walks to them enters.
+/// Goals of which the last four are kept at first, and one more whenever one comes back, at most 32: of
+/// the first 32 goals 28 are searched for twice. None of the walks to them enters the cells asked from.
 pub(super) static MANY_GOALS: [Part; 4] = [
     Part {
         building: None,
@@ -121,7 +122,7 @@ pub(super) static MANY_GOALS: [Part; 4] = [
             NOBODY,
         ),
         asked: 1,
-        computed: 32,
+        computed: 60,
     },
     Part {
         building: None,
@@ -137,7 +138,7 @@ pub(super) static MANY_GOALS: [Part; 4] = [
             NOBODY,
         ),
         asked: 1,
-        computed: 33,
+        computed: 61,
     },
     Part {
         building: None,
@@ -153,7 +154,7 @@ pub(super) static MANY_GOALS: [Part; 4] = [
             NOBODY,
         ),
         asked: 1,
-        computed: 34,
+        computed: 62,
     },
 ];
 

@@ -6,10 +6,10 @@ use Rattle.serve_command.specs.ServeText.{served_reply}
 use Rattle.serve_command.proofs.printing.serve_over.Goals as goal
 
 -- The match was served to its end.
-pub returns-in-Ok-serve_match-clause-serves : goal.returns-in-Ok-serve_match-clause-serves
-returns-in-Ok-serve_match-clause-serves g c =
-    let served = c.in-Ok-serve_match.served in
-    let serves = rw (c.in-Ok.ensures.world) at c.in-Ok-serve_match.ensures.served in
+pub returns-in-Ok-serve_watched-clause-serves : goal.returns-in-Ok-serve_watched-clause-serves
+returns-in-Ok-serve_watched-clause-serves g c =
+    let served = c.in-Ok-serve_watched.served in
+    let serves = rw (c.in-Ok.ensures.world) at c.in-Ok-serve_watched.ensures.served in
     inl (record {
       world = served.sim;
       steps = g.M.World.Sim.steps served.sim;

@@ -1,4 +1,4 @@
-use Rattle.std.proofs.Common.{◌≡◌, ℕ, true, sym, ap, subst, ◌∙◌}
+use Rattle.std.proofs.Common.{◌≡◌, ℕ, true, false, sym, ap, subst, ◌∙◌}
 use Rattle.game_model.specs.declared.world.World.{World}
 use Rattle.game_model.specs.Setup.{Setup}
 use Rattle.replay_file.specs.declared.replay.Replay.{Replay}
@@ -7,7 +7,7 @@ use Rattle.shroud.specs.ShroudState.{ShroudState, updated}
 use Rattle.tick_core.specs.Game.{GameState, game_after}
 use Rattle.view_command.specs.Views.{world_after}
 use Rattle.view_command.specs.Watching.{HasWatched}
-use Rattle.view_command.proofs.WatchingLemmas.{watch_begins, watch_goes_on, world_is, fewer_left, goes_further}
+use Rattle.view_command.proofs.WatchingLemmas.{watch_begins, watch_goes_on, watch_ends, world_is, fewer_left, goes_further}
 use Rattle.view_command.proofs.views.watch.Goals as goal
 
 pub loop-shroud-init : goal.loop-shroud-init
@@ -57,3 +57,10 @@ loop-shroud-preserved c =
 pub loop-shroud-smaller : goal.loop-shroud-smaller
 loop-shroud-smaller c =
     fewer_left c.loop-shroud.playback c.step.new.self c.loop-shroud-test.ensures.step
+
+pub returns-clause-watched : goal.returns-clause-watched
+returns-clause-watched c =
+    let old : PlaybackState GameState = c.loop-shroud.playback in
+    let on : PlaysOn game_after old c.step.new.self false = c.loop-shroud-test.ensures.step in
+    watch_ends c.args.game.setup c.args.r.now c.args.game old c.loop-shroud.shroud c.loop-shroud.invariant.0 on.0
+    c.loop-shroud.invariant.1

@@ -1,0 +1,323 @@
+/* The game of lockstep for engines: worlds in the caller's own process.
+ *
+ * docs/EMBEDDING.md says what each part is for. In short:
+ *
+ * Units. A cell is 1,024 units wide. A full turn is 1,024 angle units: 0 is north, and angles grow
+ * counter-clockwise. Directions are 0 to 7 for N, NE, E, SE, S, SW, W, NW. Columns grow to the
+ * east, rows to the south. Frames and clients are counted from 0. Owner 255 is nobody.
+ *
+ * Codes. A call returns one of the codes below. From LOCKSTEP_BAD_BYTES on nothing has changed but
+ * `at` and `needed`. Of several causes the first decides: WRONG_OBJECT, BAD_ARGUMENT, and then what
+ * the call names.
+ *
+ * Ownership. The caller owns an object's 16 bytes and all arrays, the library what the object
+ * holds, until lockstep_free. A call keeps no pointer. The pointers of one call must not overlap,
+ * and none is null: for no places or bytes pass LOCKSTEP_NIL, or any other pointer, and 0.
+ *
+ * Threads. A setup and all that was made from it are a group. A group is used by one thread at a
+ * time, also to read and to free; what moves it from thread to thread is the caller's lock. Groups
+ * share nothing: lockstep_setup_share makes a group for another thread. No call blocks, prints,
+ * or reads a clock, a file or a random number, and none may be made in a signal handler.
+ *
+ * Determinism. But for LOCKSTEP_NO_MEMORY, code, output and new state are functions of what the
+ * objects held and of the call's arguments.
+ *
+ * Memory comes from the C library's malloc, realloc and free. A call takes up to 64 KB of stack.
+ * The archive is made for Linux on x86-64. */
+#ifndef LOCKSTEP_H
+#define LOCKSTEP_H
+
+#include <stdbool.h>
+#include <stddef.h>
+#include <stdint.h>
+#include <string.h>
+
+#ifdef __cplusplus
+extern "C" {
+#endif
+
+/* Within one number calls are only added. Compare with lockstep_abi(). */
+#define LOCKSTEP_ABI 1u
+
+/* Numbers that are left out are for calls to come. */
+enum {
+  LOCKSTEP_OK = 0,
+  LOCKSTEP_NONE = 2,  /* there is no such thing */
+  LOCKSTEP_FULL = 12, /* no more files, or frames, fit */
+  LOCKSTEP_BAD_BYTES = 32,
+  LOCKSTEP_FAULT = 33, /* a fault of a rule file or the map */
+  LOCKSTEP_BAD_ARGUMENT = 34,
+  LOCKSTEP_WRONG_OBJECT = 35, /* of another kind, or empty; where one is made, not empty */
+  LOCKSTEP_NO_ROOM = 36,      /* more places are needed: `needed` says how many */
+  LOCKSTEP_NO_MEMORY = 37
+};
+
+#define LOCKSTEP_MAX_CLIENTS 16u
+#define LOCKSTEP_MAX_ORDERS 16u     /* of one client in one frame */
+#define LOCKSTEP_MAX_ACTORS 2048u
+#define LOCKSTEP_NOBODY 255u
+
+/* A pointer for no places. */
+#define LOCKSTEP_NIL(type) ((type *)64)
+
+/* What a setup or a world is held by. Begin with LOCKSTEP_EMPTY, write nothing.
+ * To move it copy it, and set the old one to LOCKSTEP_EMPTY; two copies in use are an error. */
+typedef struct {
+  void *at_;
+  uint32_t kind_;
+} lockstep_object;
+#define LOCKSTEP_EMPTY {0, 0}
+
+/* The first fault of a setup's texts, as the command `check` finds it. */
+typedef struct {
+  uint32_t cause; /* lockstep_cause has its word */
+  uint32_t file;  /* rule files from 0 in their order; the map comes after the last of them */
+  uint64_t place; /* a line, from 1; 0: of a map that has no size */
+} lockstep_fault;
+
+/* The orders of one client for one frame, as bytes: 1, their number, the orders. */
+typedef struct {
+  uint32_t len;
+  uint8_t bytes[164];
+} lockstep_play;
+#define LOCKSTEP_PLAY {2, {1, 0}}
+
+typedef struct {
+  uint64_t hash;   /* the checksum */
+  uint64_t drawn;  /* random words that were drawn */
+  uint32_t frames; /* steps that were made */
+  uint32_t turns;
+  uint32_t seed;
+  uint32_t next_id;
+  uint32_t pace; /* turns of the next frame, 1 to 8 */
+  uint32_t clients;
+  uint32_t actors;
+  uint32_t width; /* columns, 1 to 128 */
+  uint32_t height;
+  uint32_t cash[16]; /* 0 from `clients` on */
+  uint32_t gone[16]; /* 1: it has departed */
+} lockstep_head;
+
+typedef struct {
+  uint32_t id;
+  uint32_t kind;
+  uint32_t owner; /* a client, or 255 */
+  uint32_t x, y;  /* its cell; on a leg the one to which it leads */
+  uint32_t facing;
+  uint32_t dir;      /* of its leg, 0 to 7; 8: none */
+  uint32_t progress; /* units of the leg that are gone, of 1,024 or, aslant, 1,448 */
+  uint32_t health;
+  uint32_t load;
+  uint32_t reload; /* turns */
+  uint32_t acts;   /* how many activities */
+  uint32_t doing;  /* the first: 0 none, 1 move, 2 attack, 3 harvest, 4 deliver */
+  uint32_t builds; /* how many */
+} lockstep_actor;
+
+/* Traits, as bits. */
+enum {
+  LOCKSTEP_HEALTH = 1,
+  LOCKSTEP_MOBILE = 2,
+  LOCKSTEP_BUILDING = 4,
+  LOCKSTEP_HARVESTER = 8,
+  LOCKSTEP_REFINERY = 16,
+  LOCKSTEP_PRODUCTION = 32,
+  LOCKSTEP_BUILDABLE = 64,
+  LOCKSTEP_VALUED = 128,
+  LOCKSTEP_ARMAMENT = 256,
+  LOCKSTEP_REVEALS_SHROUD = 512
+};
+
+/* What a kind is. Of a trait that it has not the fields are 0, but hp is 1. */
+typedef struct {
+  uint32_t traits; /* the bits of those that it has */
+  uint32_t hp;
+  uint32_t cost;     /* cash */
+  uint32_t speed;    /* units a turn */
+  uint32_t turn;     /* angle units a turn */
+  uint32_t costs[4]; /* of a cell of clear ground, road, rough ground, water; 0: not entered */
+  uint32_t range;    /* units */
+  uint32_t damage;
+  uint32_t spread;
+  uint32_t reload; /* turns */
+  uint32_t capacity;
+  uint32_t load_delay; /* turns */
+  uint32_t unload_delay;
+  uint32_t value;    /* cash of a unit of ore */
+  uint32_t duration; /* turns that building it takes */
+  uint32_t sight;    /* units */
+} lockstep_kind;
+
+/* The LOCKSTEP_ABI of the library that is linked. */
+uint32_t lockstep_abi(void);
+
+/* Frees what the object holds; it is empty afterwards. An empty one stays so. */
+void lockstep_free(lockstep_object *any);
+
+/* ---- Setups: rules and a map ---- */
+
+/* Makes an empty object a setup without texts. */
+uint32_t lockstep_setup_create(lockstep_object *setup);
+
+enum { LOCKSTEP_RULES = 0, LOCKSTEP_MAP = 1 };
+
+/* Adds a text, which is copied: up to 64 rule files, the later over the earlier, and at most one
+ * map. Without rules there are no kinds, without a map there is one clear cell.
+ * FULL: the 65th rule file, a second map. BAD_ARGUMENT: another `what`. WRONG_OBJECT also once it
+ * was read. */
+uint32_t lockstep_setup_add(lockstep_object *setup, uint32_t what, const uint8_t *bytes,
+                            size_t len);
+
+/* Reads the texts, once; then worlds are made from it. FAULT: the first fault is in `at`, and the
+ * setup is as it was. WRONG_OBJECT also once it was read. */
+uint32_t lockstep_setup_read(lockstep_object *setup, lockstep_fault *at);
+
+/* Makes an empty object a setup of the same texts, read again: a group of its own. WRONG_OBJECT
+ * also where the setup is not read yet. */
+uint32_t lockstep_setup_share(lockstep_object *copy, lockstep_object *setup);
+
+/* What a kind is, numbered from 0 as they stand in the rules. NONE: there are fewer. */
+uint32_t lockstep_setup_kind(lockstep_object *setup, uint32_t kind, lockstep_kind *out);
+
+/* A kind's name in UTF-8, without an end byte. NONE: there are fewer kinds. */
+uint32_t lockstep_setup_kind_name(lockstep_object *setup, uint32_t kind, uint8_t *out,
+                                  size_t places, size_t *needed);
+
+/* ---- Worlds ---- */
+
+/* Makes an empty object the opening world of a match of 1 to 16 clients, else BAD_ARGUMENT. */
+uint32_t lockstep_world_create(lockstep_object *world, lockstep_object *setup, uint32_t seed,
+                               uint32_t clients);
+
+/* Makes one step by a frame: for each client, by rising number, the bytes of its play, or one byte
+ * 0 where it has departed, in this frame or before. BAD_BYTES: other bytes, or a play of a client
+ * that has departed before. FULL: after 536,870,911 frames. It never answers NO_MEMORY. */
+uint32_t lockstep_world_step(lockstep_object *world, const uint8_t *bytes, size_t len);
+
+uint32_t lockstep_read_head(lockstep_object *world, lockstep_head *out);
+
+/* The actors by rising id, at most 2,048. */
+uint32_t lockstep_read_actors(lockstep_object *world, lockstep_actor *out, size_t places,
+                              size_t *needed);
+
+/* The ore of each cell, row by row, 0 to 90. */
+uint32_t lockstep_read_ore(lockstep_object *world, uint8_t *out, size_t places, size_t *needed);
+
+/* ---- Beside the library: inline, in C ---- */
+
+/* The word of a fault's cause, as `check` prints it. */
+static inline const char *lockstep_cause(uint32_t cause) {
+  static const char *const words[38] = {
+      0, "NotUtf8", "BadIndent", "TooDeep", "LineTooLong", "TooManyLines", 0, 0, 0, 0, 0,
+      "NoParent", "Cycle", "NothingToRemove", "TooLarge", "TooDeep", 0, 0, 0, 0, 0,
+      "BadValue", "OutOfRange", "MissingField", "UnknownKindName", "TooManyKinds", 0, 0, 0, 0, 0,
+      "BadField", "BadRow", "UnknownTerrain", "UnknownKind", "CellTaken", "BadOwner",
+      "TooManyActors"};
+  return cause < 38 && words[cause] ? words[cause] : "?";
+}
+
+/* Appends an order whose bytes are given; false: there are 16 orders, and nothing changed. */
+static inline bool lockstep_append_(lockstep_play *play, const uint8_t *bytes, uint32_t len) {
+  if (play->bytes[1] >= LOCKSTEP_MAX_ORDERS) return false;
+  memcpy(play->bytes + play->len, bytes, len);
+  play->len += len;
+  play->bytes[1]++;
+  return true;
+}
+
+static inline void lockstep_put_(uint8_t *to, uint32_t number) {
+  to[0] = (uint8_t)number;
+  to[1] = (uint8_t)(number >> 8);
+  to[2] = (uint8_t)(number >> 16);
+  to[3] = (uint8_t)(number >> 24);
+}
+
+static inline bool lockstep_to_cell_(lockstep_play *play, uint8_t tag, uint32_t actor, uint8_t x,
+                                     uint8_t y, bool queued) {
+  uint8_t bytes[8];
+  bytes[0] = tag;
+  lockstep_put_(bytes + 1, actor);
+  bytes[5] = x;
+  bytes[6] = y;
+  bytes[7] = queued ? 1 : 0;
+  return lockstep_append_(play, bytes, 8);
+}
+
+static inline bool lockstep_of_actor_(lockstep_play *play, uint8_t tag, uint32_t actor) {
+  uint8_t bytes[5];
+  bytes[0] = tag;
+  lockstep_put_(bytes + 1, actor);
+  return lockstep_append_(play, bytes, 5);
+}
+
+/* The orders of docs/TICK.md, each appended to a play; false: it has 16 already. A queued order
+ * comes after what the actor has to do, another takes its place. */
+static inline bool lockstep_move(lockstep_play *play, uint32_t actor, uint8_t x, uint8_t y,
+                                 bool queued) {
+  return lockstep_to_cell_(play, 1, actor, x, y, queued);
+}
+
+static inline bool lockstep_attack(lockstep_play *play, uint32_t actor, uint32_t target,
+                                   bool queued) {
+  uint8_t bytes[10];
+  bytes[0] = 2;
+  lockstep_put_(bytes + 1, actor);
+  lockstep_put_(bytes + 5, target);
+  bytes[9] = queued ? 1 : 0;
+  return lockstep_append_(play, bytes, 10);
+}
+
+static inline bool lockstep_harvest(lockstep_play *play, uint32_t actor, uint8_t x, uint8_t y,
+                                    bool queued) {
+  return lockstep_to_cell_(play, 3, actor, x, y, queued);
+}
+
+static inline bool lockstep_stop(lockstep_play *play, uint32_t actor) {
+  return lockstep_of_actor_(play, 4, actor);
+}
+
+static inline bool lockstep_produce(lockstep_play *play, uint32_t actor, uint16_t kind) {
+  uint8_t bytes[7];
+  bytes[0] = 5;
+  lockstep_put_(bytes + 1, actor);
+  bytes[5] = (uint8_t)kind;
+  bytes[6] = (uint8_t)(kind >> 8);
+  return lockstep_append_(play, bytes, 7);
+}
+
+static inline bool lockstep_cancel(lockstep_play *play, uint32_t actor) {
+  return lockstep_of_actor_(play, 6, actor);
+}
+
+static inline bool lockstep_donate(lockstep_play *play, uint8_t client, uint32_t amount) {
+  uint8_t bytes[6];
+  bytes[0] = 7;
+  bytes[1] = client;
+  lockstep_put_(bytes + 2, amount);
+  return lockstep_append_(play, bytes, 6);
+}
+
+static inline bool lockstep_pace(lockstep_play *play, uint8_t turns) {
+  uint8_t bytes[2];
+  bytes[0] = 8;
+  bytes[1] = turns;
+  return lockstep_append_(play, bytes, 2);
+}
+
+/* Where an actor is to be drawn, in units from the map's north-western corner: the middle of its
+ * cell, or the place that it has reached on its leg. */
+static inline void lockstep_position(const lockstep_actor *actor, int32_t *x, int32_t *y) {
+  static const int8_t east[9] = {0, 1, 1, 1, 0, -1, -1, -1, 0};
+  static const int8_t south[9] = {-1, -1, 0, 1, 1, 1, 0, -1, 0};
+  uint32_t dir = actor->dir < 8 ? actor->dir : 8;
+  int32_t length = dir % 2 == 1 ? 1448 : 1024;
+  int32_t left = (length - (int32_t)actor->progress) * 1024 / length;
+  *x = (int32_t)actor->x * 1024 + 512 - east[dir] * left;
+  *y = (int32_t)actor->y * 1024 + 512 - south[dir] * left;
+}
+
+#ifdef __cplusplus
+}
+#endif
+
+#endif

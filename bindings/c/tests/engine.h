@@ -1,0 +1,44 @@
+/* What the commands of `engine` share. */
+#ifndef ENGINE_H
+#define ENGINE_H
+
+#include "common.h"
+
+/* ---- Lines and words of drills and scripts (words.c) ---- */
+
+typedef struct {
+  const uint8_t *at, *end;
+} words;
+
+/* The next word of a line, as its length; 0 at the end of the line. */
+size_t next_word(words *line, const uint8_t **word);
+
+/* The next line that counts; false at the end of the text. */
+bool next_line(words *whole, words *line);
+
+bool is_word(const uint8_t *word, size_t len, const char *other);
+
+/* A number of which each digit is known to the base. */
+uint64_t digits(const uint8_t *word, size_t len, uint32_t base);
+
+uint32_t next_number(words *line);
+
+/* The orders with which a line ends. */
+lockstep_play read_orders(words *line);
+
+/* Numbers of four and eight bytes. */
+uint32_t number_at(const uint8_t *bytes);
+uint64_t long_at(const uint8_t *bytes);
+
+/* ---- Commands ---- */
+
+#define MOST_RULES 64
+
+typedef struct {
+  const char *map, *script, *file, *from, *to;
+  uint32_t every;
+  char *rules[MOST_RULES];
+  int count;
+} request;
+
+#endif
