@@ -3,6 +3,7 @@
 use crate::devices::listen_somewhere;
 use game_io::{MAX_LINKS, Net, Sink, Source, Tcp, TcpNet, TransportNet};
 use std::net::{Net as Sockets, SocketAddr, TcpListener, TcpStream};
+use std::sync::Arc;
 use std::sync::atomic::{AtomicBool, AtomicU64, Ordering};
 use std::test::Fail;
 use std::time::{Clock, Duration};
@@ -127,6 +128,33 @@ fn a_stop_ends_the_wait(rt: HostRuntime) -> Result<(), Fail> {
         || stop.store(true, Ordering::SeqCst),
     );
     assert!(rt; none);
+    Ok(())
+}
+
+#[test]
+fn a_cut_ends_a_link_that_waits(rt: HostRuntime) -> Result<(), Fail> {
+    let stop = AtomicBool::new(false);
+    let cut = Arc::new(rt.alloc(), AtomicBool::new(false))?;
+    let mut host = TransportNet::over(Tcp::hosted(&rt, &stop, cut.clone()?));
+    let mut guest = TcpNet::new(&rt);
+    let first = process::id(rt.process()).wrapping_add(5_000) % 20_000;
+    let at = listen_somewhere(rt.alloc(), &mut host, first)?;
+    let Some((guest_in, guest_out)) = dial_one(&mut guest, &at) else {
+        return Err(Fail::new("no link is dialled"));
+    };
+    let Some((mut host_in, mut host_out)) = accept_one(&mut host) else {
+        return Err(Fail::new("no link is accepted"));
+    };
+    let mut room = [0u8; 4];
+    let (failed, ()) = thread::join(
+        &rt,
+        || host_in.take(&mut room).is_err(),
+        || cut.store(true, Ordering::SeqCst),
+    );
+    assert!(rt; failed && host_out.put(b"any").is_err());
+    hand_back(&mut host, 0, host_in, host_out);
+    hand_back(&mut guest, 0, guest_in, guest_out);
+    assert_eq!(rt; (host.link_faults(0), guest.link_faults(0)), (2, 0));
     Ok(())
 }
 

@@ -13,6 +13,7 @@ use crate::transport::Transport;
 use crate::transport_net::TransportNet;
 use std::io::ErrorKind;
 use std::net::{Net as Sockets, SocketAddr, TcpListener, TcpStream};
+use std::sync::Arc;
 use std::sync::atomic::{AtomicBool, Ordering};
 use std::time::{Clock, Duration, Instant};
 use std::{io, thread};
@@ -33,6 +34,8 @@ pub struct Tcp<'a, R: Sockets<Listener = TcpListener, Stream = TcpStream> + Cloc
     wait: Option<Duration>,
     /// Where this turns true no more links are waited for.
     stop: Option<&'a AtomicBool>,
+    /// Where this turns true every link fails.
+    cut: Option<Arc<AtomicBool>>,
     /// The address of the other side of the link that was accepted last.
     from: Option<SocketAddr>,
     /// True once it has waited in vain: then no more links are waited for.
@@ -45,8 +48,9 @@ pub type TcpNet<'a, R> = TransportNet<Tcp<'a, R>>;
 /// The halves of a link over one socket, of which each packet is sent at once.
 type Halves = (StdSource<TcpSocket>, StdSink<TcpSocket>);
 
-/// The halves of a link over this socket, which sends at once what is written to it.
-fn halves(stream: TcpStream) -> io::Result<Halves>
+/// The halves of a link over this socket, which sends at once what is written to it. Where `cut` is
+/// given they fail once that is true.
+fn halves(stream: TcpStream, cut: &Option<Arc<AtomicBool>>) -> io::Result<Halves>
     ensures { IfOk result (λ link. IsNewLink None
         (record { left = None; faults = link.0.faults })
         (record { written = None; faults = link.1.faults })) }
@@ -54,8 +58,8 @@ fn halves(stream: TcpStream) -> io::Result<Halves>
     stream.set_nodelay(true)?;
     let input = stream.try_clone()?;
     Ok((
-        StdSource::new(TcpSocket::new(input)),
-        StdSink::new(TcpSocket::new(stream)),
+        StdSource::new(TcpSocket::new(input, cut.clone()?)?),
+        StdSink::new(TcpSocket::new(stream, cut.clone()?)?),
     ))
 }
 
@@ -78,6 +82,7 @@ impl<'a, R: Sockets<Listener = TcpListener, Stream = TcpStream> + Clock> Tcp<'a,
             listener: None,
             wait: None,
             stop: None,
+            cut: None,
             from: None,
             is_over: false,
         }
@@ -87,12 +92,17 @@ impl<'a, R: Sockets<Listener = TcpListener, Stream = TcpStream> + Clock> Tcp<'a,
     /// was over.
     pub fn until(rt: &'a R, stop: &'a AtomicBool) -> Self {
         Tcp {
-            rt,
-            listener: None,
-            wait: None,
             stop: Some(stop),
-            from: None,
-            is_over: false,
+            ..Tcp::new(rt)
+        }
+    }
+
+    /// The same; and once `cut` is true each link fails at its next read or write, or a tenth of a
+    /// second later where it waits in one.
+    pub fn hosted(rt: &'a R, stop: &'a AtomicBool, cut: Arc<AtomicBool>) -> Self {
+        Tcp {
+            cut: Some(cut),
+            ..Tcp::until(rt, stop)
         }
     }
 
@@ -156,7 +166,7 @@ impl<'a, R: Sockets<Listener = TcpListener, Stream = TcpStream> + Clock> Transpo
         }
         if let Some((stream, from)) = self.next_stream()? {
             self.from = Some(from);
-            return halves(stream);
+            return halves(stream, &self.cut);
         }
         if self.from.is_none() {
             return Err(ErrorKind::TimedOut.into());
@@ -166,7 +176,7 @@ impl<'a, R: Sockets<Listener = TcpListener, Stream = TcpStream> + Clock> Transpo
     }
 
     fn dial(&mut self, at: &str) -> io::Result<Halves> {
-        halves(dial_stream(self.rt, at)?)
+        halves(dial_stream(self.rt, at)?, &self.cut)
     }
 
     fn end(&mut self, input: StdSource<TcpSocket>, output: StdSink<TcpSocket>) -> u64 {
