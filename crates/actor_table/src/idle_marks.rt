@@ -1,4 +1,5 @@
-ghost use Rattle.std.specs.Prelude.{◌≡◌, true, false, length, replicate, IfOk, Some, slice_get, slice_set};
+ghost use Rattle.std.specs.Prelude.{◌≡◌, true, false, length, replicate, IfOk, Some, slice_get};
+ghost use Rattle.std.specs.Prelude.{slice_set};
 ghost use Rattle.game_model.specs.declared.actor.Actor.{Actor};
 ghost use Rattle.actor_table.specs.Idle.{IsIdle};
 

@@ -28,7 +28,8 @@ impl Model for KindIndex {
 }
 
 impl KindIndex {
-    ghost use Rattle.actor_table.specs.Kinds.{is_listed, next_number, GainsId, IsNextListed, MovesId};
+    ghost use Rattle.actor_table.specs.Kinds.{is_listed, next_number, GainsId, IsNextListed};
+    ghost use Rattle.actor_table.specs.Kinds.{MovesId};
 
     /// No actors, with room for [`MAX_ACTORS`]. Out of memory is its only error.
     pub(crate) fn create(alloc: Global) -> Result<KindIndex, NoMemory>

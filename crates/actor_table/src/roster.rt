@@ -1,11 +1,13 @@
-ghost use Rattle.std.specs.Prelude.{◌≡◌, ℕ, ◌<◌, ◌≤◌, [], ◌∷◌, ◌++◌, drop, length, Some, None, slice_get};
+ghost use Rattle.std.specs.Prelude.{◌≡◌, ℕ, ◌<◌, ◌≤◌, [], ◌∷◌, ◌++◌, drop, length, Some, None};
+ghost use Rattle.std.specs.Prelude.{slice_get};
 ghost use Rattle.std.specs.Prelude.{IfOk, IfErr, IsSome, IfSome};
 ghost use Rattle.std.specs.Option.{option_copied, option_map};
 ghost use Rattle.std.specs.List.{All};
 ghost use Rattle.game_model.specs.World.{actor_of, ids_of};
 ghost use Rattle.actor_table.specs.ActorList.{without_id};
 ghost use Rattle.game_model.specs.ActorChanges.{changed_at, with_body, moved_to};
-ghost use Rattle.actor_table.specs.Parts.{with_builds, with_facing, with_first, with_health, with_leg, with_load, with_reload, without_first};
+ghost use Rattle.actor_table.specs.Parts.{with_builds, with_facing, with_first, with_health};
+ghost use Rattle.actor_table.specs.Parts.{with_leg, with_load, with_reload, without_first};
 ghost use Rattle.actor_table.specs.Rising.{RisesFrom};
 
 use crate::order;

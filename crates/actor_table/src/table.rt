@@ -5,7 +5,8 @@ ghost use Rattle.std.specs.Option.{option_copied, option_map};
 ghost use Rattle.game_model.specs.World.{actor_of, ids_of, is_alive, is_occupied, living_of};
 ghost use Rattle.actor_table.specs.ActorList.{holder_of};
 ghost use Rattle.game_model.specs.ActorChanges.{changed_at, with_body, moved_to};
-ghost use Rattle.actor_table.specs.Parts.{with_builds, with_facing, with_first, with_health, with_leg, with_load, with_reload, without_first};
+ghost use Rattle.actor_table.specs.Parts.{with_builds, with_facing, with_first, with_health};
+ghost use Rattle.actor_table.specs.Parts.{with_leg, with_load, with_reload, without_first};
 ghost use Rattle.actor_table.specs.ActorList.{without_dead_at, without_id};
 
 use crate::cell_index::CellIndex;
@@ -192,8 +193,11 @@ impl ActorTable {
     /// logarithmic time, and one pass over the actors where the two have different owners.
     pub fn swap_body(&mut self, id: u32, body: &mut Body)
         requires { IsSome (actor_of self.old.actors id) }
-        ensures given { self.new ≡ record self.old { actors = with_body self.old.actors id body.old } }
-        ensures taken { option_map (λ (a : Actor). a.body) (actor_of self.old.actors id) ≡ Some body.new }
+        ensures given { self.new ≡ record self.old {
+          actors = with_body self.old.actors id body.old;
+        } }
+        ensures taken { option_map (λ (a : Actor). a.body) (actor_of self.old.actors id) ≡
+            Some body.new }
     {
         let (owner, kind) = self.roster.owner_and_kind(id);
         self.kinds.set_owner(owner, body.owner, kind, id);
@@ -205,7 +209,9 @@ impl ActorTable {
     /// Puts the actor of an id, which is there, on a leg, or on none.
     pub fn set_leg(&mut self, id: u32, leg: Option<Leg>)
         requires { IsSome (actor_of self.old.actors id) }
-        ensures { self.new ≡ record self.old { actors = changed_at self.old.actors id (with_leg leg) } }
+        ensures { self.new ≡ record self.old {
+          actors = changed_at self.old.actors id (with_leg leg);
+        } }
     {
         let place = self.roster.place_of(id);
         self.idle.set(place, false);
@@ -216,7 +222,10 @@ impl ActorTable {
     /// Turns the actor of an id, which is there, to an angle.
     pub fn set_facing(&mut self, id: u32, facing: WAngle)
         requires { IsSome (actor_of self.old.actors id) }
-        ensures { self.new ≡ record self.old { actors = changed_at self.old.actors id (with_facing facing) } }
+        ensures { self.new ≡ record self.old {
+          actors = changed_at self.old.actors id
+              (with_facing facing);
+        } }
     {
         let place = self.roster.place_of(id);
         self.idle.set(place, false);
@@ -227,7 +236,10 @@ impl ActorTable {
     /// Sets the turns until the actor of an id, which is there, can fire again.
     pub fn set_reload(&mut self, id: u32, reload: u16)
         requires { IsSome (actor_of self.old.actors id) }
-        ensures { self.new ≡ record self.old { actors = changed_at self.old.actors id (with_reload reload) } }
+        ensures { self.new ≡ record self.old {
+          actors = changed_at self.old.actors id
+              (with_reload reload);
+        } }
     {
         let place = self.roster.place_of(id);
         self.idle.set(place, false);
@@ -239,7 +251,10 @@ impl ActorTable {
     /// first one also where there was none.
     pub fn set_first(&mut self, id: u32, activity: Activity)
         requires { IsSome (actor_of self.old.actors id) }
-        ensures { self.new ≡ record self.old { actors = changed_at self.old.actors id (with_first activity) } }
+        ensures { self.new ≡ record self.old {
+          actors = changed_at self.old.actors id
+              (with_first activity);
+        } }
     {
         let place = self.roster.place_of(id);
         self.idle.set(place, false);
@@ -250,7 +265,9 @@ impl ActorTable {
     /// Takes the first activity, if there is one, of the actor of an id, which is there, out.
     pub fn pop_first(&mut self, id: u32)
         requires { IsSome (actor_of self.old.actors id) }
-        ensures { self.new ≡ record self.old { actors = changed_at self.old.actors id without_first } }
+        ensures { self.new ≡ record self.old {
+          actors = changed_at self.old.actors id without_first;
+        } }
     {
         let place = self.roster.place_of(id);
         self.idle.set(place, false);
@@ -261,7 +278,10 @@ impl ActorTable {
     /// Gives the actor of an id, which is there, these builds in place of its own.
     pub fn set_builds(&mut self, id: u32, builds: Builds)
         requires { IsSome (actor_of self.old.actors id) }
-        ensures { self.new ≡ record self.old { actors = changed_at self.old.actors id (with_builds builds) } }
+        ensures { self.new ≡ record self.old {
+          actors = changed_at self.old.actors id
+              (with_builds builds);
+        } }
     {
         let place = self.roster.place_of(id);
         self.idle.set(place, false);
@@ -272,7 +292,10 @@ impl ActorTable {
     /// Sets the bales of ore that the actor of an id, which is there, holds.
     pub fn set_load(&mut self, id: u32, load: u16)
         requires { IsSome (actor_of self.old.actors id) }
-        ensures { self.new ≡ record self.old { actors = changed_at self.old.actors id (with_load load) } }
+        ensures { self.new ≡ record self.old {
+          actors = changed_at self.old.actors id
+              (with_load load);
+        } }
     {
         let place = self.roster.place_of(id);
         self.idle.set(place, false);
@@ -283,7 +306,10 @@ impl ActorTable {
     /// Sets the hit points of the actor of an id, which is there.
     pub fn set_health(&mut self, id: u32, health: u32)
         requires { IsSome (actor_of self.old.actors id) }
-        ensures { self.new ≡ record self.old { actors = changed_at self.old.actors id (with_health health) } }
+        ensures { self.new ≡ record self.old {
+          actors = changed_at self.old.actors id
+              (with_health health);
+        } }
     {
         let place = self.roster.place_of(id);
         self.idle.set(place, false);

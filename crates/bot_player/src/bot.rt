@@ -11,8 +11,8 @@ use rule_traits::Rules;
 use shroud::LendsActors;
 
 /// What a bot that is client `c` orders in a world: `c` is below the number of clients. Each of its
-/// living actors by rising id gets at most one order, the first of these that applies, and the first
-/// `MAX_ORDERS` are ordered.
+/// living actors by rising id gets at most one order, the first of these that applies, and the
+/// first `MAX_ORDERS` are ordered.
 ///
 /// 1. Where its kind has `Production` and it has no builds: to produce the kind of the least number
 ///    of which a `Produce` fits now, if one does.

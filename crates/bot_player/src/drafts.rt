@@ -1,4 +1,5 @@
-ghost use Rattle.std.specs.Prelude.{◌≡◌, ◌<◌, ◌≤◌, ◌↔◌, [], ◌++◌, length, map, option_to_list, IsTrue};
+ghost use Rattle.std.specs.Prelude.{◌≡◌, ◌<◌, ◌≤◌, ◌↔◌, [], ◌++◌, length, map, option_to_list};
+ghost use Rattle.std.specs.Prelude.{IsTrue};
 ghost use Rattle.bot_player.specs.Drafts.{ordered, seeing};
 
 use crate::draft::Draft;

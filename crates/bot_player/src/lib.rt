@@ -5,11 +5,11 @@
 //! attacks the nearest enemy. A bot keeps nothing from one frame to the next, so whoever has the
 //! same world makes the same orders.
 //!
-//! [`bot_orders`] takes a world. [`bot_orders_from`] takes the cash of the clients and whatever lends
-//! the actors ([`shroud::LendsActors`]), so a game needs no copy of its world. No memory is taken.
-//! The actors are gone over three times: for what the client owns, for its orders but the targets
-//! of attacks, and for these targets, for all attackers at once. What a kind of producer can
-//! produce is looked for once.
+//! [`bot_orders`] takes a world. [`bot_orders_from`] takes the cash of the clients and whatever
+//! lends the actors ([`shroud::LendsActors`]), so a game needs no copy of its world. No memory is
+//! taken. The actors are gone over three times: for what the client owns, for its orders but the
+//! targets of attacks, and for these targets, for all attackers at once. What a kind of producer
+//! can produce is looked for once.
 #![tactic(auto)]
 
 mod bot;

@@ -38,8 +38,8 @@ fn has_needs(owned: &KindFlags, needs: &[u16]) -> bool
     needs.iter().all(|kind| owned.get(*kind))
 }
 
-/// Whether units of the kind can be produced by a client with so much cash, which owns actors of the
-/// flagged kinds: it is a unit, and the client has what it needs and its price.
+/// Whether units of the kind can be produced by a client with so much cash, which owns actors of
+/// the flagged kinds: it is a unit, and the client has what it needs and its price.
 fn is_ready(owned: &KindFlags, cash: u32, product: &Kind) -> bool
     ensures { result ≡ is_ready owned.now cash product.now }
 {

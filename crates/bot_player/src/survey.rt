@@ -45,8 +45,8 @@ fn has_health(rules: &Rules, kind: u16) -> bool
     }
 }
 
-/// Whether the actor is an enemy of the client: it lives, neither the client nor nobody owns it, and
-/// its kind has `Health`.
+/// Whether the actor is an enemy of the client: it lives, neither the client nor nobody owns it,
+/// and its kind has `Health`.
 pub(crate) fn is_enemy(rules: &Rules, c: u8, x: &Actor) -> bool
     ensures { result ≡ is_enemy rules.now c x.now }
 {

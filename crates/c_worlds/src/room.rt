@@ -3,7 +3,7 @@ ghost use Rattle.c_worlds.specs.Told.{room_code, written};
 
 use c_objects::{NO_ROOM, OK};
 
-/// Writes bytes to the front of an array, where they have room, and how many they are.
+/// Writes bytes to the beginning of an array, where they have room, and how many they are.
 pub(crate) fn copy_out(bytes: &[u8], out: &mut [u8], needed: &mut usize) -> u32
     ensures code { result ≡ room_code (length out.old) (length bytes.now) }
     ensures out { out.new ≡ written bytes.now out.old }

@@ -16,9 +16,9 @@ use std::alloc::Global;
 /// - `gone NAME`, a file that must not be there after;
 /// - `link LENGTH` and so many bytes, what the next link gives;
 /// - `console LENGTH` and so many bytes, what the console gives;
-/// - `fails PART CALL REMAINS`, a call that is to fail, by its number from 0 among those of `files`,
-///   `output`, `net`, `console`, or of the last link the `takes` or the `puts`; REMAINS, `old`,
-///   `nothing` or a number of bytes, says what remains of what it was to write;
+/// - `fails PART CALL REMAINS`, a call that is to fail, by its number from 0 among those of
+///   `files`, `output`, `net`, `console`, or of the last link the `takes` or the `puts`; REMAINS,
+///   `old`, `nothing` or a number of bytes, says what remains of what it was to write;
 /// - `status N`, with which a way begins in which the case may end;
 /// - `text LENGTH` and so many bytes, what must then be printed;
 /// - `sent LENGTH` and so many bytes, what must then have been written to the next link;

@@ -42,7 +42,8 @@ pub(crate) fn moves(rules: &Rules, kind: u16) -> bool
 /// Whether the one cell is within range of the other for actors of the kind. Without `Armament`
 /// the range is 0.
 pub(crate) fn is_in_range(rules: &Rules, kind: u16, from: CPos, to: CPos) -> bool
-    ensures { result ≡ nat_le (dist_sq_of from to) (square (range_in (kind_of rules.now kind).armament)) }
+    ensures { result ≡ nat_le (dist_sq_of from to) (square
+        (range_in (kind_of rules.now kind).armament)) }
 {
     let range = match armament_of(rules, kind) {
         Some(armament) => u64::from(armament.range),

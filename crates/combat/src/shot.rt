@@ -37,7 +37,10 @@ fn hit(t: &mut ActorTable, id: u32, points: u32)
 
 /// The actor of an id, if it is there, has just fired: it reloads as long as its kind does.
 fn begin_reloading(t: &mut ActorTable, rules: &Rules, id: u32, kind: u16)
-    ensures { t.new ≡ record t.old { actors = changed_at t.old.actors id (reloading (kind_of rules.now kind)) } }
+    ensures { t.new ≡ record t.old {
+      actors = changed_at t.old.actors id
+          (reloading (kind_of rules.now kind));
+    } }
 {
     let Some(_) = t.get(id) else {
         return;

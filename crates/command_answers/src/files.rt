@@ -1,8 +1,10 @@
 ghost use Rattle.std.specs.Prelude.{◌≡◌, ◌≤◌, ◌∷◌, [], map, length, IfOk, IfSome, IfNone, IsSome};
 ghost use Rattle.std.specs.Prelude.{option_map};
 ghost use Rattle.base.specs.Cause.{Increased};
-ghost use Rattle.command_answers.specs.Contents.{content_of, read_after, IsFirstThere, AreWithinLimits};
-ghost use Rattle.command_answers.specs.Contents.{read_optional, contents_of, IsWithinLimit, AreContents};
+ghost use Rattle.command_answers.specs.Contents.{content_of, read_after, IsFirstThere};
+ghost use Rattle.command_answers.specs.Contents.{AreWithinLimits};
+ghost use Rattle.command_answers.specs.Contents.{read_optional, contents_of, IsWithinLimit};
+ghost use Rattle.command_answers.specs.Contents.{AreContents};
 ghost use Rattle.command_answers.specs.Reply.{refusal};
 ghost use Rattle.command_answers.specs.Given.{given_contents, played_contents};
 ghost use Rattle.command_answers.specs.Given.{played_file, played_files};

@@ -4,8 +4,8 @@
 //! command is a sequence of steps ([`Stop`] in code, `specs/Step.antt` in definitions): each has a
 //! value, or ends the command with a reply. [`read_rules`], [`read_files`], [`read_played_files`],
 //! [`read_paired_files`] and [`read_compared_files`] read what a command names, and [`print_text`],
-//! [`print_stop`] and [`refuse_words`] print its answer; their clauses say what was read and printed
-//! over any disk and any sink, whichever of their calls fail.
+//! [`print_stop`] and [`refuse_words`] print its answer; their clauses say what was read and
+//! printed over any disk and any sink, whichever of their calls fail.
 #![tactic(auto)]
 
 mod answer;

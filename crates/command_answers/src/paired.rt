@@ -108,8 +108,8 @@ pub fn begins_save(bytes: &[u8]) -> bool
     bytes.starts_with(b"LSSV")
 }
 
-/// How many bytes two files that are compared may have, by those of the first: it is a save where it
-/// begins as one, and else a replay.
+/// How many bytes two files that are compared may have, by those of the first: it is a save where
+/// it begins as one, and else a replay.
 fn pair_limit(first: &[u8]) -> u32
     ensures { result ≡ pair_limit first.now }
 {
@@ -166,9 +166,9 @@ fn read_second<'a, D: Disk>(
     }
 }
 
-/// Reads rule files in order, then a map, if one is named, and then two files that are compared: two
-/// saves where the first begins as one, else two replays. The second is not read where the first
-/// [`is_too_long`] for that.
+/// Reads rule files in order, then a map, if one is named, and then two files that are compared:
+/// two saves where the first begins as one, else two replays. The second is not read where the
+/// first [`is_too_long`] for that.
 pub fn read_compared_files<'a, D: Disk>(
     alloc: Global,
     disk: &mut D,

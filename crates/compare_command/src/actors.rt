@@ -31,15 +31,16 @@ pub(crate) fn compare_actors(
     Ok(())
 }
 
-/// Finds those of the lesser of the ids of the next actors, of which one may be missing. Returns how
-/// many actors of either list have it.
+/// Finds those of the lesser of the ids of the next actors, of which one may be missing. Returns
+/// how many actors of either list have it.
 #[tactic(auto, using(crate::proofs::FoundLemmas::found_steps))]
 fn compare_next(
     found: &mut Found,
     actor: Option<&Actor>,
     other: Option<&Actor>,
 ) -> Result<(usize, usize), NoMemory>
-    ensures { IfOk result (λ taken. (taken ≡ next_taken (option_copied actor.entry) (option_copied other.entry))
+    ensures { IfOk result (λ taken. (taken ≡ next_taken (option_copied actor.entry)
+        (option_copied other.entry))
         × (found.new ≡ with_found found.old (next_differences (option_copied actor.entry) (option_copied other.entry)))) }
 {
     match (actor, other) {

@@ -19,9 +19,9 @@ pub fn equal_saves_have_no_difference()
         a ≡ b → save_differences a b ≡ [] }
 {}
 
-/// A law of the lines of two files: each is true of them. What it prints are the values that the two
-/// have there, and they are not equal; and an actor that one file alone is said to have is in that
-/// one alone. The call does nothing.
+/// A law of the lines of two files: each is true of them. What it prints are the values that the
+/// two have there, and they are not equal; and an actor that one file alone is said to have is in
+/// that one alone. The call does nothing.
 pub fn each_line_is_true()
     ensures saves { (a b : Saved) → AllByRecursion (IsTrueOfSaves a b) (save_differences a b) }
     ensures replays { (r s : Replay) →

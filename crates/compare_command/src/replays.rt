@@ -1,7 +1,8 @@
 //! The differences of two replays.
 ghost use Rattle.std.specs.Prelude.{◌≡◌, ◌≤◌, ◌+◌, IfOk, OnOk};
 ghost use Rattle.std.specs.Option.{option_copied};
-ghost use Rattle.compare_command.specs.declared.subject.Subject.TheVariants.{Entry as OfEntry, Mark};
+ghost use Rattle.compare_command.specs.declared.subject.Subject.TheVariants.{Entry as OfEntry};
+ghost use Rattle.compare_command.specs.declared.subject.Subject.TheVariants.{Mark};
 ghost use Rattle.compare_command.specs.Difference.{Entries, Hashes, compared_if};
 ghost use Rattle.compare_command.specs.Each.{is_any, least};
 ghost use Rattle.compare_command.specs.Found.{with_found};

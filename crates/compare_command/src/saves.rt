@@ -7,8 +7,10 @@ ghost use Rattle.compare_command.specs.Difference.{Flags, Numbers, compared_if};
 ghost use Rattle.compare_command.specs.Each.{each};
 ghost use Rattle.compare_command.specs.Found.{with_found};
 ghost use Rattle.compare_command.specs.Merging.{HasIds};
-ghost use Rattle.compare_command.specs.Saves.{actors_differences, cell_of, client_differences, clients_differences};
-ghost use Rattle.compare_command.specs.Saves.{draw_differences, head_differences, number_differences};
+ghost use Rattle.compare_command.specs.Saves.{actors_differences, cell_of, client_differences};
+ghost use Rattle.compare_command.specs.Saves.{clients_differences};
+ghost use Rattle.compare_command.specs.Saves.{draw_differences, head_differences};
+ghost use Rattle.compare_command.specs.Saves.{number_differences};
 ghost use Rattle.compare_command.specs.Saves.{ore_differences, save_differences};
 
 use crate::actors::compare_actors;

@@ -3,7 +3,8 @@ ghost use Rattle.std.specs.Prelude.{◌≡◌, ◌++◌, codes, string_bytes, On
 ghost use Rattle.std.specs.List.{flat_map};
 ghost use Rattle.compare_command.specs.Difference.{Differs, OnlyFirst, OnlySecond, values_of};
 ghost use Rattle.compare_command.specs.Lines.{activity_word, both, build_word, cell_word};
-ghost use Rattle.compare_command.specs.Lines.{comma_word, comma_words, field_word, flag_word, last_lines};
+ghost use Rattle.compare_command.specs.Lines.{comma_word, comma_words, field_word, flag_word};
+ghost use Rattle.compare_command.specs.Lines.{last_lines};
 ghost use Rattle.compare_command.specs.Lines.{line_of, subject_words, values_words};
 ghost use Rattle.compare_command.specs.JoinedWords.{number_word, place_word, timer_word};
 ghost use Rattle.compare_command.specs.JoinedWords.{waits_word};

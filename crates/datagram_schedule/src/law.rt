@@ -6,7 +6,8 @@ ghost use Rattle.datagram_link.specs.declared.arrived.Arrived.TheVariants.{TooFa
 ghost use Rattle.datagram_link.specs.declared.datagram.Datagram.TheVariants.{Data, Ack};
 ghost use Rattle.datagram_schedule.specs.declared.event.Event.{Event};
 ghost use Rattle.datagram_schedule.specs.Exchange.{nothing_exchanged, exchanged, exchange_outcome};
-ghost use Rattle.datagram_schedule.specs.Schedule.{nothing_scheduled, scheduled, delivered, outcome_of};
+ghost use Rattle.datagram_schedule.specs.Schedule.{nothing_scheduled, scheduled, delivered};
+ghost use Rattle.datagram_schedule.specs.Schedule.{outcome_of};
 
 /// A law of links over datagrams, of every schedule: whatever is lost, repeated and reordered, what
 /// the receiver brought into order is the payloads of the longest run of numbers from 0 on that all

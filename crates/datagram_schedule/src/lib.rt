@@ -3,9 +3,9 @@
 //!
 //! An [`Exchange`] has a sender, a receiver and the air between them, and does what each [`Event`]
 //! says (`specs/Exchange.antt`). Beside it stands what the same events leave as sets and lists
-//! (`specs/Schedule.antt`): the payloads offered, the datagrams in the air, the numbers that arrived,
-//! the highest acknowledgement that arrived. The laws say, of every schedule, that both agree, and
-//! what a link guarantees.
+//! (`specs/Schedule.antt`): the payloads offered, the datagrams in the air, the numbers that
+//! arrived, the highest acknowledgement that arrived. The laws say, of every schedule, that both
+//! agree, and what a link guarantees.
 #![tactic(auto)]
 
 mod event;

@@ -102,8 +102,8 @@ fn run_script(alloc: Global, bytes: &[u8]) -> Result<Vec<u8>, DrillFault>
 }
 
 /// The answer to `datagrams`: what each event of the script of a file with this name comes to, the
-/// payloads that were delivered, and how many were offered, delivered and acknowledged. It is that of
-/// the schedule as sets and lists. A faulty script is refused with the line and the cause of its
+/// payloads that were delivered, and how many were offered, delivered and acknowledged. It is that
+/// of the schedule as sets and lists. A faulty script is refused with the line and the cause of its
 /// first fault: `BadWord`, `BadNumber` or `TooManyEvents`. No read fails here.
 pub fn datagrams_answer<'a>(
     alloc: Global,

@@ -8,9 +8,9 @@
 //! world of its own count of ticked frames. `run_without_report` hands back the same, and makes no
 //! report.
 //!
-//! `made_drill` makes a drill from a number: four clients play orders by the draws of `twister` over
-//! a network that loses, repeats and delays. Its definition, `specs/MadeDrill.antt`, is a chain of
-//! steps on a draft (`specs/Draft.antt`), round by round (`specs/MadeRound.antt`).
+//! `made_drill` makes a drill from a number: four clients play orders by the draws of `twister`
+//! over a network that loses, repeats and delays. Its definition, `specs/MadeDrill.antt`, is a
+//! chain of steps on a draft (`specs/Draft.antt`), round by round (`specs/MadeRound.antt`).
 #![tactic(auto)]
 
 mod adding;

@@ -13,8 +13,8 @@ use drill_words::{Drill, MAX_EVENTS};
 use std::alloc::Global;
 
 /// The made drill of a number, any `u32`: a match of [`MADE_CLIENTS`] clients with the lag
-/// [`MADE_LAG`] over [`MADE_ROUNDS`] frames. The number is its seed, and that of the random words by
-/// which its clients play and its network loses, repeats and delays.
+/// [`MADE_LAG`] over [`MADE_ROUNDS`] frames. The number is its seed, and that of the random words
+/// by which its clients play and its network loses, repeats and delays.
 ///
 /// The same number makes the same drill. It fails only where it is out of memory.
 #[tactic(auto, unfolding(crate::specs::MadeDrill::made_drill_of))]

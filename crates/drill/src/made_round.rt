@@ -127,8 +127,8 @@ fn add_packets_up_again(draft: &mut Draft, first: u32, sealing: u8) -> Result<()
     Ok(())
 }
 
-/// The entries of the frame reach the peers, some of them twice. The peers tick before the lost ones
-/// come, and once more after that.
+/// The entries of the frame reach the peers, some of them twice. The peers tick before the lost
+/// ones come, and once more after that.
 #[tactic(auto, unfolding(crate::specs::MadeRound::with_echoes))]
 fn add_echoes(draft: &mut Draft, told: u8, frame: u32) -> Result<(), NoMemory>
     requires most { told ≤ MADE_CLIENTS }

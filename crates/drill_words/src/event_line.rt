@@ -13,8 +13,8 @@ use crate::word_fault::WordFault;
 use crate::words::is_text;
 use game_orders::Orders;
 
-/// The event that the words of a line write, in a match of so many clients. The orders of a seal are
-/// put where there are none.
+/// The event that the words of a line write, in a match of so many clients. The orders of a seal
+/// are put where there are none.
 #[tactic(auto, unfolding(crate::specs::EventLine::event_of))]
 pub(crate) fn read_event(
     clients: u8,

@@ -6,9 +6,9 @@
 //! [`KeptLines`] and their words from a [`WordCursor`], as any other text of such lines may:
 //! [`fault_at`] puts the line to the fault of a word.
 //!
-//! The crate stands on `base` for lines and numbers, on `game_orders` for orders and the limits of a
-//! match, and on `frame_core` for lists of plays. Its definitions go from the text inward: the kept
-//! lines and their words (`specs/KeptLine.antt`, `specs/Words.antt`), how words are read
+//! The crate stands on `base` for lines and numbers, on `game_orders` for orders and the limits of
+//! a match, and on `frame_core` for lists of plays. Its definitions go from the text inward: the
+//! kept lines and their words (`specs/KeptLine.antt`, `specs/Words.antt`), how words are read
 //! (`specs/Read.antt`), the line of a match and of an event (`specs/MatchLine.antt`,
 //! `specs/EventLine.antt`), and the whole file (`specs/Drill.antt`; of a script
 //! `specs/ScriptLine.antt` and `specs/Script.antt`). The canonical text of a drill

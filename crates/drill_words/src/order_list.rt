@@ -19,8 +19,8 @@ pub(crate) fn clear(orders: &mut Orders)
     orders.replace([].as_slice());
 }
 
-/// Takes orders with the word `;` between them, or none, to the end of the line, and puts them where
-/// there are none.
+/// Takes orders with the word `;` between them, or none, to the end of the line, and puts them
+/// where there are none.
 #[inline(always)]
 #[tactic(auto, using(crate::proofs::OrderListLemmas::order_steps))]
 pub(crate) fn take_orders_into(

@@ -88,8 +88,8 @@ impl<'a> WordCursor<'a> {
     }
 
     /// Takes the number of a client. `BadWord` exactly where no word is left, `BadNumber` exactly
-    /// where the next one is no number, `NoSuchClient` exactly where that is not below the number of
-    /// clients.
+    /// where the next one is no number, `NoSuchClient` exactly where that is not below the number
+    /// of clients.
     #[tactic(auto, unfolding(crate::specs::Read::client_at))]
     pub fn client(&mut self, clients: u8) -> Result<u8, WordFault>
         ensures taken { Takes result self.new (client_at clients self.old) }

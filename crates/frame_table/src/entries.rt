@@ -65,7 +65,8 @@ impl FrameTable {
         requires limit { length orders.now ≤ MAX_ORDERS }
         requires may { MayPut (standing pass.old c) n (Play orders.now) }
         ensures pass { IsPassOf self.now pass.new }
-        ensures ok { IfOk result (PutsSo c (view_of pass.old) (view_of pass.new) n (Play orders.now)) }
+        ensures ok { IfOk result (PutsSo c (view_of pass.old) (view_of pass.new) n
+            (Play orders.now)) }
         ensures err { OnErr result (Unchanged (view_of pass.old) (view_of pass.new)) }
     {
         let mut column = self.lock(rt, pass, c);

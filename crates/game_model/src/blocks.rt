@@ -1,4 +1,5 @@
-ghost use Rattle.std.specs.Prelude.{◌≡◌, ◌*◌, ◌<◌, ◌↔◌, IsTrue, false, replicate, Some, slice_get, IfOk};
+ghost use Rattle.std.specs.Prelude.{◌≡◌, ◌*◌, ◌<◌, ◌↔◌, IsTrue, false, replicate, Some, slice_get};
+ghost use Rattle.std.specs.Prelude.{IfOk};
 ghost use Rattle.game_model.specs.Grid.{IsWhole, place_of, with_cell};
 
 use base::NoMemory;

@@ -9,5 +9,6 @@ ghost use Rattle.game_model.specs.Setup.{Setup};
 /// valid after no frames.
 #[tactic(auto, using(crate::specs::StartLemmas::start_valid))]
 pub fn starts_valid()
-    ensures { (setup : Setup) (seed clients : ℕ) → IsSetup setup → 1 ≤ clients → clients ≤ MAX_CLIENTS → IsValidWorld setup 0 (start_of setup seed clients) }
+    ensures { (setup : Setup) (seed clients : ℕ) → IsSetup setup → 1 ≤ clients →
+        clients ≤ MAX_CLIENTS → IsValidWorld setup 0 (start_of setup seed clients) }
 {}

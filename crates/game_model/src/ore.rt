@@ -1,4 +1,5 @@
-ghost use Rattle.std.specs.Prelude.{◌≡◌, ◌+◌, ◌-◌, ◌*◌, ◌^◌, ◌<◌, ◌≤◌, length, replicate, Some, slice_get, IfOk, IsTrue};
+ghost use Rattle.std.specs.Prelude.{◌≡◌, ◌+◌, ◌-◌, ◌*◌, ◌^◌, ◌<◌, ◌≤◌, length, replicate, Some};
+ghost use Rattle.std.specs.Prelude.{slice_get, IfOk, IsTrue};
 ghost use Rattle.game_model.specs.Grid.{IsWhole, place_of, with_cell};
 ghost use Rattle.game_model.specs.OreRows.{cells_with_ore, ore_in_row, recounted};
 

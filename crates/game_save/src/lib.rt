@@ -13,11 +13,11 @@
 //! | the ore of each cell, row by row | 1 each |
 //!
 //! [`write_save`] writes the save of a valid world, and [`write_lent_save`] that of a world that is
-//! lent part by part ([`LendsWorld`]), so a game needs no copy of its world. [`read_save`] reads it for given rules and a
-//! map, and answers a valid world, or the first fault of the bytes with its place, by the
-//! definitions in `specs/ReadSave.antt`, `specs/WorldReading.antt` and `specs/ActorReading.antt`:
-//! a value that no valid world has with the fields before it is refused at its field. Memory is
-//! taken for actors that were read alone, and for the cells of the map.
+//! lent part by part ([`LendsWorld`]), so a game needs no copy of its world. [`read_save`] reads it
+//! for given rules and a map, and answers a valid world, or the first fault of the bytes with its
+//! place, by the definitions in `specs/ReadSave.antt`, `specs/WorldReading.antt` and
+//! `specs/ActorReading.antt`: a value that no valid world has with the fields before it is refused
+//! at its field. Memory is taken for actors that were read alone, and for the cells of the map.
 #![tactic(auto)]
 
 mod act_reading;

@@ -121,10 +121,10 @@ fn append_world<W: LendsWorld>(out: &mut Vec<u8>, w: &W) -> Result<(), NoMemory>
     Ok(())
 }
 
-/// The save of a valid world that is lent part by part, after so many frames, of a match under these
-/// rules, which have this number, and on this map: that of [`write_save`], without a copy of the
-/// world. [`crate::read_save`] reads it as that world after so many frames. Its memory is taken at
-/// once. Out of memory is the only error.
+/// The save of a valid world that is lent part by part, after so many frames, of a match under
+/// these rules, which have this number, and on this map: that of [`write_save`], without a copy of
+/// the world. [`crate::read_save`] reads it as that world after so many frames. Its memory is taken
+/// at once. Out of memory is the only error.
 #[tactic(auto, unfolding(crate::specs::SaveBytes::save_bytes))]
 pub fn write_lent_save<W: LendsWorld>(
     alloc: Global,

@@ -48,8 +48,10 @@ pub(crate) fn least_lead(
 fn leads(entry_costs: &EntryCosts, field: &Field, from: CPos, d: u8, distance: u32) -> bool
     requires direction { d < 8 }
     requires distance { distance < NONE }
-    ensures yes { IsTrue result → IsLead (entry_cost_in entry_costs.now) field.now.labels from distance d }
-    ensures no { IsFalse result → IsLead (entry_cost_in entry_costs.now) field.now.labels from distance d → ⊥ }
+    ensures yes { IsTrue result → IsLead (entry_cost_in entry_costs.now) field.now.labels from
+        distance d }
+    ensures no { IsFalse result → IsLead (entry_cost_in entry_costs.now) field.now.labels from
+        distance d → ⊥ }
 {
     match step(from, d) {
         Some(q) => {

@@ -17,8 +17,8 @@ pub(crate) const BUCKETS: u32 = 71;
 pub(crate) struct Buckets {
     /// The most cells that a bucket holds.
     room: usize,
-    /// The first cells of all buckets, then the second ones, and so on: as many rows as a bucket has
-    /// held, with memory for `room` rows.
+    /// The first cells of all buckets, then the second ones, and so on: as many rows as a bucket
+    /// has held, with memory for `room` rows.
     cells: Vec<CPos>,
     /// How many cells each bucket holds.
     lens: Vec<usize>,

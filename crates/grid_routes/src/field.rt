@@ -57,7 +57,8 @@ impl Field {
         })
     }
 
-    /// A field without a goal, in memory that is written now. `None` where there is too little of it.
+    /// A field without a goal, in memory that is written now. `None` where there is too little of
+    /// it.
     pub(crate) fn within(labels: Vec<u32>, w: u8, h: u8) -> Option<Field>
         ensures { IfSome result (λ field. HasSize w h field.labels) }
     {

@@ -31,13 +31,13 @@ pub(crate) struct Kept {
 /// The search that was asked last, and the fields of earlier ones.
 #[derive(Drop)]
 pub(crate) struct Fields {
-    /// The search, over the ground to which all fields belong. Its entry costs are those of the question
-    /// that was asked last.
+    /// The search, over the ground to which all fields belong. Its entry costs are those of the
+    /// question that was asked last.
     pub(crate) search: Search,
     /// What its field belongs to.
     pub(crate) ask: Option<Ask>,
-    /// The other fields: as many as were wanted so far, and one more. Where the search's own has its
-    /// place there is only room.
+    /// The other fields: as many as were wanted so far, and one more. Where the search's own has
+    /// its place there is only room.
     pub(crate) kept: Vec<Kept>,
     /// Memory for more fields, which is not written until they are wanted.
     pub(crate) spare: Vec<Vec<u32>>,
@@ -48,7 +48,8 @@ pub(crate) struct Fields {
 }
 
 impl Fields {
-    /// Room for at most so many kept fields over maps of this size. Out of memory is its only error.
+    /// Room for at most so many kept fields over maps of this size. Out of memory is its only
+    /// error.
     pub(crate) fn create(alloc: Global, w: u8, h: u8, most: usize) -> Result<Fields, NoMemory>
         requires { most ≤ FIELDS }
         ensures fields { IfOk result (λ fields. AreFields w h fields) }

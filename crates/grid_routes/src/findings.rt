@@ -79,8 +79,8 @@ impl Findings {
         }
     }
 
-    /// The best direction of a cell: that of a known step that is followed nearby, else what is found
-    /// farther off.
+    /// The best direction of a cell: that of a known step that is followed nearby, else what is
+    /// found farther off.
     #[tactic(auto, using(crate::proofs::Asking::known_counts, crate::proofs::Asking::same_asks, crate::proofs::Asking::counts_after))]
     fn find_near(&mut self, ask: &Ask, from: CPos) -> Option<u8>
         requires found { AreFindings self.old.fields.search.entry_costs.terrain.width
@@ -108,8 +108,8 @@ impl Findings {
         }
     }
 
-    /// The best direction of a cell: what its kept field says once it is final, else that of a known
-    /// step that is followed elsewhere, else what a search finds.
+    /// The best direction of a cell: what its kept field says once it is final, else that of a
+    /// known step that is followed elsewhere, else what a search finds.
     #[tactic(auto, using(crate::proofs::Asking::known_counts, crate::proofs::Asking::same_asks, crate::proofs::Asking::counts_after))]
     fn find(&mut self, ask: &Ask, from: CPos) -> Option<u8>
         requires found { AreFindings self.old.fields.search.entry_costs.terrain.width

@@ -8,8 +8,8 @@ use world_units::CPos;
 /// How many fields are kept at most.
 pub const FIELDS: usize = 32;
 
-/// How many fields are kept while no question comes back whose field was given up: where each is asked
-/// once, more would only take memory.
+/// How many fields are kept while no question comes back whose field was given up: where each is
+/// asked once, more would only take memory.
 const FIRST_FIELDS: usize = 4;
 
 /// How many questions without a field are remembered.

@@ -34,7 +34,8 @@ pub(crate) fn offer(
     requires cheap { step_cost ≤ 70 }
     ensures size { HasSize width height field.new.labels }
     ensures stays { label_of field.new.labels q.cell ≡ level }
-    ensures offers { (entry_cost : CPos → ℕ) (d : ℕ) → d < 8 → IsStepCostFrom entry_cost q.cell d step_cost →
+    ensures offers { (entry_cost : CPos → ℕ) (d : ℕ) → d < 8 →
+        IsStepCostFrom entry_cost q.cell d step_cost →
         IsBeside width height q.cell d n →
         IsOffered entry_cost q.cell d level field.old buckets.old field.new buckets.new }
 {

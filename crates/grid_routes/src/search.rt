@@ -51,13 +51,16 @@ impl Search {
     fn begin(&mut self, costs: &Costs, goal: CPos)
         requires room { self.old.buckets.room ≡
             self.old.entry_costs.terrain.width * self.old.entry_costs.terrain.height }
-        requires size { HasSize self.old.entry_costs.terrain.width self.old.entry_costs.terrain.height
+        requires size { HasSize self.old.entry_costs.terrain.width
+            self.old.entry_costs.terrain.height
             self.old.field.labels }
         requires costs { IsCheap costs.now }
-        requires goal { IsOn self.old.entry_costs.terrain.width self.old.entry_costs.terrain.height goal }
+        requires goal { IsOn self.old.entry_costs.terrain.width self.old.entry_costs.terrain.height
+            goal }
         ensures entry_costs { self.new.entry_costs ≡ record self.old.entry_costs { costs = costs.now; goal = goal } }
         ensures room { self.new.buckets.room ≡ self.old.buckets.room }
-        ensures size { HasSize self.old.entry_costs.terrain.width self.old.entry_costs.terrain.height
+        ensures size { HasSize self.old.entry_costs.terrain.width
+            self.old.entry_costs.terrain.height
             self.new.field.labels }
         ensures search { IsSearch (record { entry_cost = entry_cost_in self.new.entry_costs; goal = goal })
             self.new.field self.new.buckets }
@@ -74,14 +77,17 @@ impl Search {
     fn resume(&mut self, costs: &Costs, goal: CPos)
         requires room { self.old.buckets.room ≡
             self.old.entry_costs.terrain.width * self.old.entry_costs.terrain.height }
-        requires size { HasSize self.old.entry_costs.terrain.width self.old.entry_costs.terrain.height
+        requires size { HasSize self.old.entry_costs.terrain.width
+            self.old.entry_costs.terrain.height
             self.old.field.labels }
         requires costs { IsCheap costs.now }
-        requires going { IsGoing (land_over self.old.entry_costs.terrain self.old.entry_costs.built costs.now
+        requires going { IsGoing (land_over self.old.entry_costs.terrain self.old.entry_costs.built
+            costs.now
             goal) self.old.field }
         ensures entry_costs { self.new.entry_costs ≡ record self.old.entry_costs { costs = costs.now; goal = goal } }
         ensures room { self.new.buckets.room ≡ self.old.buckets.room }
-        ensures size { HasSize self.old.entry_costs.terrain.width self.old.entry_costs.terrain.height
+        ensures size { HasSize self.old.entry_costs.terrain.width
+            self.old.entry_costs.terrain.height
             self.new.field.labels }
         ensures search { IsSearch (record { entry_cost = entry_cost_in self.new.entry_costs; goal = goal })
             self.new.field self.new.buckets }
@@ -95,16 +101,19 @@ impl Search {
     pub(crate) fn set_out(&mut self, going: bool, costs: &Costs, goal: CPos)
         requires room { self.old.buckets.room ≡
             self.old.entry_costs.terrain.width * self.old.entry_costs.terrain.height }
-        requires size { HasSize self.old.entry_costs.terrain.width self.old.entry_costs.terrain.height
+        requires size { HasSize self.old.entry_costs.terrain.width
+            self.old.entry_costs.terrain.height
             self.old.field.labels }
         requires costs { IsCheap costs.now }
-        requires goal { IsOn self.old.entry_costs.terrain.width self.old.entry_costs.terrain.height goal }
+        requires goal { IsOn self.old.entry_costs.terrain.width self.old.entry_costs.terrain.height
+            goal }
         requires going { IsTrue going →
             IsGoing (land_over self.old.entry_costs.terrain self.old.entry_costs.built costs.now goal)
             self.old.field }
         ensures entry_costs { self.new.entry_costs ≡ record self.old.entry_costs { costs = costs.now; goal = goal } }
         ensures room { self.new.buckets.room ≡ self.old.buckets.room }
-        ensures size { HasSize self.old.entry_costs.terrain.width self.old.entry_costs.terrain.height
+        ensures size { HasSize self.old.entry_costs.terrain.width
+            self.old.entry_costs.terrain.height
             self.new.field.labels }
         ensures search { IsSearch (record { entry_cost = entry_cost_in self.new.entry_costs; goal = goal })
             self.new.field self.new.buckets }
@@ -153,7 +162,8 @@ impl Search {
         ensures level { self.new.field.level ≡ self.old.field.level }
         ensures lowers { Lowers (entry_cost_in self.old.entry_costs) level self.old.field.labels
             self.old.buckets self.new.field.labels self.new.buckets }
-        ensures done { IsExpanded (entry_cost_in self.old.entry_costs) self.new.field.labels level q.cell }
+        ensures done { IsExpanded (entry_cost_in self.old.entry_costs) self.new.field.labels level
+            q.cell }
     {
         let entry_cost = u32::from(self.entry_costs.entry_cost_at(q, width, height));
         if entry_cost > 0 {
@@ -165,7 +175,8 @@ impl Search {
         }
     }
 
-    /// Whether the two buckets of the steps into a cell of this entry cost have rows for all of them.
+    /// Whether the two buckets of the steps into a cell of this entry cost have rows for all of
+    /// them.
     #[inline(always)]
     fn has_rows(&self, level: u32, entry_cost: u32) -> bool
         requires low { level < 2 ^ 31 }
@@ -202,7 +213,8 @@ impl Search {
         ensures level { self.new.field.level ≡ self.old.field.level }
         ensures lowers { Lowers (entry_cost_in self.old.entry_costs) level self.old.field.labels
             self.old.buckets self.new.field.labels self.new.buckets }
-        ensures done { IsExpanded (entry_cost_in self.old.entry_costs) self.new.field.labels level q.cell }
+        ensures done { IsExpanded (entry_cost_in self.old.entry_costs) self.new.field.labels level
+            q.cell }
     {
         let corners = self.entry_costs.corners(q, entry_cost, width, height);
         let (straight, across) = (STRAIGHT * entry_cost, ACROSS * entry_cost);
@@ -285,7 +297,8 @@ impl Search {
         ensures level { self.new.field.level ≡ self.old.field.level }
         ensures lowers { Lowers (entry_cost_in self.old.entry_costs) level self.old.field.labels
             self.old.buckets self.new.field.labels self.new.buckets }
-        ensures done { IsExpanded (entry_cost_in self.old.entry_costs) self.new.field.labels level q.cell }
+        ensures done { IsExpanded (entry_cost_in self.old.entry_costs) self.new.field.labels level
+            q.cell }
     {
         let step_costs = self.entry_costs.step_costs(q.cell);
         let north = above(q, width, height);
@@ -548,8 +561,8 @@ impl Search {
         }
     }
 
-    /// The walk that takes the best direction at each cell, in room for each cell of the map. `None`
-    /// comes exactly where there is no walk or the cell is the goal.
+    /// The walk that takes the best direction at each cell, in room for each cell of the map.
+    /// `None` comes exactly where there is no walk or the cell is the goal.
     pub(crate) fn route(&self, room: Vec<CPos>, from: CPos, goal: CPos) -> Option<Route>
         requires search { IsSearch (record { entry_cost = entry_cost_in self.now.entry_costs; goal = goal })
             self.now.field self.now.buckets }

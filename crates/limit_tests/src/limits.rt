@@ -1,5 +1,5 @@
-//! The numbers of limits that no other test reaches: an input at such a limit would be too large, or
-//! the limit is a bound of which no answer tells. Clauses name a limit and not its number, so a
+//! The numbers of limits that no other test reaches: an input at such a limit would be too large,
+//! or the limit is a bound of which no answer tells. Clauses name a limit and not its number, so a
 //! limit that was changed is still proved.
 
 use command_answers::MAX_REPLAY_BYTES;

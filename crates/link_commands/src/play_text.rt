@@ -18,8 +18,8 @@ use std::alloc::Global;
 use std::fmt::Write;
 
 /// The answer of `play` by how the match ended: the world of a match that is over; the refusal of
-/// the server; the refusal of the link's bytes, and the world that the player has by then, if it was
-/// welcomed; or that the link failed.
+/// the server; the refusal of the link's bytes, and the world that the player has by then, if it
+/// was welcomed; or that the link failed.
 pub(crate) fn played_answer<S: Sim>(
     alloc: Global,
     played: &Played<S>,

@@ -18,8 +18,8 @@ use match_net::{Bot, OrderSource, Script};
 use std::alloc::Global;
 
 /// Plays a script at the server of this address, over the first link of the net, and prints how
-/// that ended; the status is returned. The player's rules and map have this number, and its worlds are
-/// those of the maker.
+/// that ended; the status is returned. The player's rules and map have this number, and its worlds
+/// are those of the maker.
 pub fn play_over<M: Maker, K: Sink, N: Net>(
     alloc: Global,
     at: &str,

@@ -80,7 +80,8 @@ fn chars_of(alloc: Global, text: &str) -> Result<Vec<char>, NoMemory>
 fn set_terrain(tiles: &mut Tiles, y: u8, row: &[char], place: Place) -> Result<(), MapFault>
     requires on { y < tiles.old.height }
     requires full { length row.now ≡ tiles.old.width }
-    ensures set { OnOk result (cells_set terrain_of (UnknownTerrain place) 0 y row.now tiles.old ≡ Ok
+    ensures set { OnOk result (cells_set terrain_of (UnknownTerrain place) 0 y row.now tiles.old ≡
+        Ok
         tiles.new) }
     ensures fault { IfErr result (λ fault. IsMapFault fault (cells_set terrain_of (UnknownTerrain
         place) 0 y row.now tiles.old)) }

@@ -137,7 +137,8 @@ fn take_all_starts(
 ) -> Result<(), MapFault>
     requires across { crowd.old.width ≡ width }
     requires down { crowd.old.height ≡ height }
-    ensures taken { OnOk result (each (start_taken rules.now width height) crowd.old.starts (trees_of
+    ensures taken { OnOk result (each (start_taken rules.now width height) crowd.old.starts
+        (trees_of
         actors.now) ≡ Ok crowd.new.starts) }
     ensures fault { IfErr result (λ fault. IsMapFault fault (each (start_taken rules.now width
         height) crowd.old.starts (trees_of actors.now))) }

@@ -42,8 +42,9 @@ use std::alloc::Global;
 /// - 4, a read failed: the disk's count of faults rose;
 /// - 5, a write failed: a count of faults rose, and a prefix of the text was written;
 /// - 6, out of memory, and a prefix of the text was written;
-/// - 7, of `replay`, `migrate` and `continue`: a mark that they compare differs from the hash of the
-///   world after its frames; of `compare`: its two files differ; and exactly the text was written.
+/// - 7, of `replay`, `migrate` and `continue`: a mark that they compare differs from the hash of
+///   the world after its frames; of `compare`: its two files differ; and exactly the text was
+///   written.
 ///
 /// The file that `drill --record`, `migrate` or `save` names is written after the text. At 5 it
 /// holds what it held, nothing, or a prefix of its bytes; at every other status but 0 it is as it

@@ -33,8 +33,8 @@ fn check_first<'a>(name: &'a str, first: &[u8]) -> Result<(), Stop<'a>>
     }
 }
 
-/// The answer to `compare` with the file of this name, where the first has no more bytes than it may
-/// have.
+/// The answer to `compare` with the file of this name, where the first has no more bytes than it
+/// may have.
 fn answer_over<'a>(
     alloc: Global,
     query: &MatchQuery<'a>,

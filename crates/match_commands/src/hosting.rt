@@ -49,8 +49,8 @@ pub(crate) fn run_serve<
     }
 }
 
-/// The command `serve` without `--record`: reads rule files and a map, if one is named, and serves a
-/// match over them.
+/// The command `serve` without `--record`: reads rule files and a map, if one is named, and serves
+/// a match over them.
 fn run_plain_serve<
     D: Disk,
     K: Sink,
@@ -85,8 +85,8 @@ fn run_plain_serve<
     }
 }
 
-/// The command `serve` with `--record`: the same, and the replay of the match is written to the file
-/// `name`, after its text.
+/// The command `serve` with `--record`: the same, and the replay of the match is written to the
+/// file `name`, after its text.
 fn run_recorded_serve<
     D: Disk,
     K: Sink,

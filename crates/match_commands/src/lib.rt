@@ -3,9 +3,9 @@
 //!
 //! `run` has the commands that always return, and `run_waiting` those that may wait for threads or
 //! links; each refuses the other's. Both are the whole program over any disk and any sink, and
-//! `run_waiting` also over any net and console. Their clauses say what is printed and which status is
-//! answered, for every list of words and every content of the files. The program hands them the real
-//! ones, made by what [`host_options`] says of the words.
+//! `run_waiting` also over any net and console. Their clauses say what is printed and which status
+//! is answered, for every list of words and every content of the files. The program hands them the
+//! real ones, made by what [`host_options`] says of the words.
 #![tactic(auto)]
 
 mod command;

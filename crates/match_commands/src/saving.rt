@@ -65,8 +65,8 @@ fn answer_continue<'a>(
     )
 }
 
-/// The command `save`: reads rule files, a map for them, if one is named, and a replay, runs so many
-/// of its frames, and writes a save of the world after them to the file `to`.
+/// The command `save`: reads rule files, a map for them, if one is named, and a replay, runs so
+/// many of its frames, and writes a save of the world after them to the file `to`.
 pub(crate) fn run_save<D: Disk, K: Sink>(
     alloc: Global,
     query: &MatchQuery<'_>,

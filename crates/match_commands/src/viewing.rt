@@ -42,8 +42,8 @@ fn answer_view<'a>(
     view_answer(alloc, query.file, client, number, &maker, bytes)
 }
 
-/// The command `view`: reads rule files, a map for them, if one is named, and a replay, runs it, and
-/// prints which cells a client sees in the end and which it has explored.
+/// The command `view`: reads rule files, a map for them, if one is named, and a replay, runs it,
+/// and prints which cells a client sees in the end and which it has explored.
 pub(crate) fn run_view<D: Disk, K: Sink>(
     alloc: Global,
     query: &MatchQuery<'_>,
@@ -100,8 +100,8 @@ fn print_range<K: Sink>(
     }
 }
 
-/// The command `worlds`: reads rule files, a map for them, if one is named, and a replay, and prints
-/// the kinds, the map, and the worlds after the numbers of frames in the range.
+/// The command `worlds`: reads rule files, a map for them, if one is named, and a replay, and
+/// prints the kinds, the map, and the worlds after the numbers of frames in the range.
 pub(crate) fn run_worlds_query<D: Disk, K: Sink>(
     alloc: Global,
     query: &MatchQuery<'_>,

@@ -73,12 +73,13 @@ fn is_waiting(command: &str) -> bool
 /// - 5, a write failed: a count of faults rose, and a prefix of the text was written;
 /// - 6, out of memory, and a prefix of the text was written.
 ///
-/// The file that `serve --record` names is written after the whole text of a match that was served to
-/// its end, also where the status is 6 because memory ran out for a link. What else is in it after a
-/// failed write is as [`run`](crate::run) says of its files.
+/// The file that `serve --record` names is written after the whole text of a match that was served
+/// to its end, also where the status is 6 because memory ran out for a link. What else is in it
+/// after a failed write is as [`run`](crate::run) says of its files.
 ///
-/// It returns only if its threads do, and what its links are to give comes. The gate is asked before
-/// and after each play that a local match puts; its watch is told what happens in a served match.
+/// It returns only if its threads do, and what its links are to give comes. The gate is asked
+/// before and after each play that a local match puts; its watch is told what happens in a served
+/// match.
 pub fn run_waiting<
     D: Disk,
     K: Sink,
@@ -156,8 +157,8 @@ fn run_request<
     }
 }
 
-/// The command `local`: reads rule files, a map, if one is named, and a script, and plays the script
-/// and these bots on threads.
+/// The command `local`: reads rule files, a map, if one is named, and a script, and plays the
+/// script and these bots on threads.
 fn run_local_match<D: Disk, K: Sink, G: Gate + Sync, R: Threads + Wait + Sync>(
     rt: &R,
     alloc: Global,

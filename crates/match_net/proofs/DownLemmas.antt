@@ -16,15 +16,15 @@ use Rattle.order_packets.specs.Feed.{HasGiven, given_by, IfGiven}
 use Rattle.order_packets.specs.FeedLemmas.{given_fed_if}
 use Rattle.order_packets.specs.StreamLemmas.{all_stay}
 use Rattle.match_net.specs.declared.limits.TheConstants.{MAX_PLAY_BYTES}
-use Rattle.match_net.specs.declared.next.Next.{Next}
-use Rattle.match_net.specs.declared.next.Next.TheVariants as next
+use Rattle.match_net.specs.declared.coming_packet.ComingPacket.{ComingPacket}
+use Rattle.match_net.specs.declared.coming_packet.ComingPacket.TheVariants as next
 use Rattle.match_net.specs.declared.play_cause.PlayCause.{PlayCause}
 use Rattle.match_net.specs.declared.play_cause.PlayCause.TheVariants as cause
-use Rattle.match_net.specs.Taking.{Took, NoneLeft, TookAtMost}
+use Rattle.match_net.specs.PieceTaking.{Took, NoneLeft, TookAtMost}
 use Rattle.match_net.specs.Stages.{bad_end, bad_at}
 use Rattle.match_net.specs.Downward.{InStream, Finds, NextMeans, Spills, FoundMeans, TryMeans}
 use Rattle.match_net.specs.Downward.{MovesBy, TakesMore}
-use Rattle.match_net.proofs.TakingLemmas.{took_nothing, took_more}
+use Rattle.match_net.proofs.PieceTakingLemmas.{took_nothing, took_more}
 
 -- What a feeder's answer says of its rest.
 pub next_gave : (fed after : Fed) (packet : Down) (first : FirstPacket Down) →
@@ -239,7 +239,7 @@ tries_packet old now packets fed after at found packet some place none was more 
 -- An attempt that finds a fault.
 pub tries_fault :
     (old now : SourceState) (packets : List Down) (fed after : Fed) (at : ℕ) (fault : FeedFault)
-    (answer : Next) → at ≡ fed.at →
+    (answer : ComingPacket) → at ≡ fed.at →
     fed.fault ≡ None → (Err fault, after) ≡ next_answer down_at fed.fault fed → answer
     ≡ next.Bad at (cause.Feed fault) → InStream old now packets fed →
     NextMeans old now packets after answer
@@ -256,7 +256,7 @@ tries_fault old now packets fed after at fault answer place none is answer_is st
 -- An attempt that takes more bytes.
 pub tries_more :
     (old now new : SourceState) (packets : List Down) (fed asked_fed after : Fed)
-    (answer : Option Next) →
+    (answer : Option ComingPacket) →
     fed.fault ≡ None → (Ok None, asked_fed) ≡ next_answer down_at fed.fault fed →
     TakesMore now new asked_fed after answer → InStream old now packets fed →
     FoundMeans old new packets after answer
@@ -272,7 +272,7 @@ tries_more old now new packets fed asked_fed after answer none is takes stream =
         ≡ None
     stays fed piece none = ap (λ (f : Option FeedFault). (more_fed f fed piece).fault) none
 
-    by_answer : (answer : Option Next) → packet_at down_at fed.rest ≡ Ok None →
+    by_answer : (answer : Option ComingPacket) → packet_at down_at fed.rest ≡ Ok None →
         TakesMore now new fed after answer →
         FoundMeans old new packets after answer
     by_answer None undecided takes =
@@ -344,7 +344,7 @@ tries_spill old now new packets fed asked_fed none is room took stream =
 -- An attempt by what the taking of more bytes answers.
 pub tries_by :
     {E : Type 0} (old now new : SourceState) (packets : List Down) (fed asked_fed after : Fed)
-    (found : Option Down) (result : Result (Option Next) E) →
+    (found : Option Down) (result : Result (Option ComingPacket) E) →
     found ≡ None → fed.fault ≡ None → (Ok found, asked_fed) ≡ next_answer down_at fed.fault fed →
     fed.at + length fed.rest ≤ MAX_PLAY_BYTES →
     IfOk result (λ answer. TakesMore now new asked_fed after answer) →

@@ -17,10 +17,10 @@ use Rattle.match_net.specs.declared.limits.TheConstants.{VERSION, MAX_LINK_BYTES
 use Rattle.match_net.specs.declared.greeting.Greeting.{Greeting}
 use Rattle.match_net.specs.declared.greeting.Greeting.TheVariants as greeting
 use Rattle.match_net.specs.declared.piece.Piece.TheVariants as piece
-use Rattle.match_net.specs.Taking.{Took, Counts, NoneLeft, TookAtMost, TakesPiece}
+use Rattle.match_net.specs.PieceTaking.{Took, Counts, NoneLeft, TookAtMost, TakesPiece}
 use Rattle.match_net.specs.Greeting.{greeting_of, decided, decision, asked_once, hello_bytes}
 use Rattle.match_net.specs.Greeting.{IsGreeted, Greets}
-use Rattle.match_net.proofs.TakingLemmas.{took_nothing, took_more, counts_more}
+use Rattle.match_net.proofs.PieceTakingLemmas.{took_nothing, took_more, counts_more}
 
 -- So many turns took and counted bytes that decide nothing yet, and the feeder was fed these.
 pub record Waiting (old now : SourceState) (from count : ℕ) (fed : Fed) (turn : ℕ) : Type 0 where

@@ -1,4 +1,4 @@
-pub mod TakingLemmas
+pub mod PieceTakingLemmas
 pub mod GreetingLemmas
 pub mod PutLemmas
 pub mod AheadLemmas

@@ -16,8 +16,8 @@ use Rattle.order_packets.specs.PacketReading.{FirstPacket, packet_at, down_at}
 use Rattle.order_packets.specs.Feed.{Fed}
 use Rattle.match_net.specs.declared.stop_reason.StopReason.{StopReason}
 use Rattle.match_net.specs.declared.stop_reason.StopReason.TheVariants as stop
-use Rattle.match_net.specs.declared.next.Next.{Next}
-use Rattle.match_net.specs.declared.next.Next.TheVariants as next
+use Rattle.match_net.specs.declared.coming_packet.ComingPacket.{ComingPacket}
+use Rattle.match_net.specs.declared.coming_packet.ComingPacket.TheVariants as next
 use Rattle.match_net.specs.declared.play_cause.PlayCause.{PlayCause}
 use Rattle.match_net.specs.declared.play_cause.PlayCause.TheVariants as cause
 use Rattle.match_net.specs.declared.play_end.PlayEnd.{PlayEnd}
@@ -31,7 +31,7 @@ use Rattle.match_net.specs.Downward.{InStream, Finds, NextMeans, Spills}
 use Rattle.match_net.specs.PlayMatch.{HasSaid, FailsWithin, FailsAfter, EndsBy, PlaysTo, PlaysAs}
 use Rattle.match_net.specs.PlayMatch.{PlaysPartly, PutMeans}
 use Rattle.match_net.specs.PlayMatch.{ActMeans, Shows}
-use Rattle.match_net.proofs.TakingLemmas.{took_nothing}
+use Rattle.match_net.proofs.PieceTakingLemmas.{took_nothing}
 use Rattle.match_net.proofs.TickLemmas.{round_moves}
 use Rattle.match_net.proofs.PlayLemmas.{partly, unwelcomed_end, unwelcomed_bad, unwelcomed_lost}
 use Rattle.match_net.proofs.PlayLemmas.{unwelcomed_spills}
@@ -63,7 +63,7 @@ not_shown terms old now before later how answer client frames sim plays shows =
 
 pub await_bad :
     {W : Type 0} (terms : Terms W) (old mid now : SourceState) (before later : SinkState)
-    (fed next_fed : Fed) (at : ℕ) (why : PlayCause) (found : Next) (answer : PlayEnd)
+    (fed next_fed : Fed) (at : ℕ) (why : PlayCause) (found : ComingPacket) (answer : PlayEnd)
     (client frames : ℕ) (sim : Option W) →
     found ≡ next.Bad at why → ((packets : List Down) → InStream old mid packets fed →
     NextMeans old now packets next_fed found) →
@@ -78,7 +78,7 @@ await_bad terms old mid now before later fed next_fed at why found answer client
 
 pub await_lost :
     {W : Type 0} (terms : Terms W) (old mid now : SourceState) (before later : SinkState)
-    (fed next_fed : Fed) (found : Next) (answer : PlayEnd) (client frames : ℕ) (sim : Option W) →
+    (fed next_fed : Fed) (found : ComingPacket) (answer : PlayEnd) (client frames : ℕ) (sim : Option W) →
     found ≡ next.Lost → ((packets : List Down) → InStream old mid packets fed →
     NextMeans old now packets next_fed found) →
     InStream old mid [] fed → HasSaid before later (greeting_bytes terms.rules) →
@@ -101,7 +101,7 @@ await_out terms old mid now before later fed spills stream said =
 
 -- What the first packet is, where one came.
 pub await_packet :
-    (old mid now : SourceState) (fed next_fed : Fed) (at : ℕ) (packet : Down) (found : Next) →
+    (old mid now : SourceState) (fed next_fed : Fed) (at : ℕ) (packet : Down) (found : ComingPacket) →
     found ≡ next.Packet at packet → ((packets : List Down) → InStream old mid packets fed →
     NextMeans old now packets next_fed found) →
     InStream old mid [] fed →

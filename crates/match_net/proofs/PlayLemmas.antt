@@ -16,8 +16,8 @@ use Rattle.peer_core.specs.declared.receipt.Receipt.{Receipt}
 use Rattle.peer_core.specs.declared.receipt.Receipt.TheVariants as receipt
 use Rattle.match_net.specs.declared.stop_reason.StopReason.{StopReason}
 use Rattle.match_net.specs.declared.stop_reason.StopReason.TheVariants as stop
-use Rattle.match_net.specs.declared.next.Next.{Next}
-use Rattle.match_net.specs.declared.next.Next.TheVariants as next
+use Rattle.match_net.specs.declared.coming_packet.ComingPacket.{ComingPacket}
+use Rattle.match_net.specs.declared.coming_packet.ComingPacket.TheVariants as next
 use Rattle.match_net.specs.declared.play_cause.PlayCause.{PlayCause}
 use Rattle.match_net.specs.declared.play_cause.PlayCause.TheVariants as cause
 use Rattle.match_net.specs.declared.play_end.PlayEnd.{PlayEnd}
@@ -388,7 +388,7 @@ begins {W = W} terms old now before later player fed client clients lag seed fit
 -- A turn, by what came next.
 pub turn_packet :
     {W E : Type 0} (terms : Terms W) (old mid now : SourceState) (before first later : SinkState)
-    (player after : Player W) (fed next_fed : Fed) (at : ℕ) (packet : Down) (found : Next)
+    (player after : Player W) (fed next_fed : Fed) (at : ℕ) (packet : Down) (found : ComingPacket)
     (result : Result (Option PlayEnd) E) →
     found ≡ next.Packet at packet →
     ((packets : List Down) → InStream old mid packets fed →
@@ -413,7 +413,7 @@ turn_packet terms old mid now before first later player after fed next_fed at pa
 
 pub turn_bad :
     {W : Type 0} (terms : Terms W) (old mid now : SourceState) (before first : SinkState)
-    (player : Player W) (fed next_fed : Fed) (at : ℕ) (why : PlayCause) (found : Next) →
+    (player : Player W) (fed next_fed : Fed) (at : ℕ) (why : PlayCause) (found : ComingPacket) →
     found ≡ next.Bad at why →
     ((packets : List Down) → InStream old mid packets fed →
     NextMeans old now packets next_fed found) →
@@ -425,7 +425,7 @@ turn_bad terms old mid now before first player fed next_fed at why found is mean
 
 pub turn_lost :
     {W : Type 0} (terms : Terms W) (old mid now : SourceState) (before first : SinkState)
-    (player : Player W) (fed next_fed : Fed) (found : Next) →
+    (player : Player W) (fed next_fed : Fed) (found : ComingPacket) →
     found ≡ next.Lost →
     ((packets : List Down) → InStream old mid packets fed →
     NextMeans old now packets next_fed found) →

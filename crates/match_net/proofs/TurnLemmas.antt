@@ -27,14 +27,14 @@ use Rattle.match_net.specs.declared.read_cause.ReadCause.{ReadCause}
 use Rattle.match_net.specs.declared.read_cause.ReadCause.TheVariants as cause
 use Rattle.match_net.specs.declared.reader_end.ReaderEnd.{ReaderEnd}
 use Rattle.match_net.specs.declared.reader_end.ReaderEnd.TheVariants as end
-use Rattle.match_net.specs.Taking.{Took, Counts}
+use Rattle.match_net.specs.PieceTaking.{Took, Counts}
 use Rattle.match_net.specs.Greeting.{hello_bytes}
 use Rattle.match_net.specs.Session.{Session, no_session, After, after_up, after_packet, after_packet_if, after_all, end_by, end_at, limited}
 use Rattle.match_net.specs.Handling.{HandlingMeans, IsLeftIf}
 use Rattle.match_net.specs.Ahead.{LooksAround}
 use Rattle.match_net.specs.Reading.{OnlyLearns, IsStanding, HandlesPacket, EndMeans, ReadsTo}
 use Rattle.match_net.specs.ReadSoFar.{ReadSoFar, AfterTurn, TakesMore}
-use Rattle.match_net.proofs.TakingLemmas.{took_nothing, took_more, counts_more}
+use Rattle.match_net.proofs.PieceTakingLemmas.{took_nothing, took_more, counts_more}
 use Rattle.match_net.proofs.GreetingLemmas.{hello_length}
 use Rattle.match_net.proofs.AheadLemmas.{others_still, others_stay_on, others_look_on}
 

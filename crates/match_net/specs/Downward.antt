@@ -8,10 +8,10 @@ use Rattle.order_packets.specs.PacketBytes.{down_payload}
 use Rattle.order_packets.specs.PacketReading.{FirstPacket, packet_at, down_at}
 use Rattle.order_packets.specs.Feed.{Fed, more_fed, ReadsAll, HasGiven}
 use Rattle.match_net.specs.declared.limits.TheConstants.{MAX_PLAY_BYTES}
-use Rattle.match_net.specs.declared.next.Next.{Next}
-use Rattle.match_net.specs.declared.next.Next.TheVariants as next
+use Rattle.match_net.specs.declared.coming_packet.ComingPacket.{ComingPacket}
+use Rattle.match_net.specs.declared.coming_packet.ComingPacket.TheVariants as next
 use Rattle.match_net.specs.declared.play_cause.PlayCause.TheVariants as cause
-use Rattle.match_net.specs.Taking.{Took, NoneLeft}
+use Rattle.match_net.specs.PieceTaking.{Took, NoneLeft}
 use Rattle.match_net.specs.Stages.{bad_end, bad_at}
 
 -- These bytes were taken from the link, and the feeder has given these packets of them.
@@ -38,7 +38,7 @@ pub record Finds (old now : SourceState) (packets : List Down) (at : ℕ) (found
 
 -- What an answer on the next packet says: it came; or for this cause there is none; or the link
 -- failed before it was whole, and before the most bytes were taken that a player takes.
-abbrev pub NextMeans : SourceState → SourceState → List Down → Fed → Next → Type 0
+abbrev pub NextMeans : SourceState → SourceState → List Down → Fed → ComingPacket → Type 0
 NextMeans old now packets fed (next.Packet at packet) =
     InStream old now (packets ++ packet ∷ []) fed
     × ((more : List ℕ) × Finds old now packets at (Ok (Some (packet, more))))
@@ -55,23 +55,23 @@ Spills old now packets = (at : ℕ) × (found : FirstPacket Down) × Finds old n
 
 -- What a question for the next packet says.
 abbrev pub AskMeans :
-    {E : Type 0} → SourceState → SourceState → List Down → Fed → Result Next E → Type 0
+    {E : Type 0} → SourceState → SourceState → List Down → Fed → Result ComingPacket E → Type 0
 AskMeans old now packets fed (Ok answer) = NextMeans old now packets fed answer
 AskMeans old now packets fed (Err failed) = Spills old now packets
 
 -- The same of one attempt: without an answer the stream goes on.
-abbrev pub FoundMeans : SourceState → SourceState → List Down → Fed → Option Next → Type 0
+abbrev pub FoundMeans : SourceState → SourceState → List Down → Fed → Option ComingPacket → Type 0
 FoundMeans old now packets fed None = InStream old now packets fed
 FoundMeans old now packets fed (Some answer) = NextMeans old now packets fed answer
 
 abbrev pub TryMeans :
-    {E : Type 0} → SourceState → SourceState → List Down → Fed → Result (Option Next) E → Type 0
+    {E : Type 0} → SourceState → SourceState → List Down → Fed → Result (Option ComingPacket) E → Type 0
 TryMeans old now packets fed (Ok answer) = FoundMeans old now packets fed answer
 TryMeans old now packets fed (Err failed) = Spills old now packets
 
 -- How far the feeder gets: without an answer it holds more, and with a packet it is behind it. It
 -- gets no more than a player takes.
-abbrev pub MovesBy : Fed → Fed → Option Next → Type 0
+abbrev pub MovesBy : Fed → Fed → Option ComingPacket → Type 0
 MovesBy before after None =
     (after.fault ≡ None) × (after.at ≡ before.at)
     × (before.at + length before.rest < after.at + length after.rest)
@@ -84,7 +84,7 @@ MovesBy before after (Some next.Lost) = Unit {0}
 
 -- What the taking of more bytes says by its answer.
 abbrev pub MoreMeans :
-    SourceState → SourceState → Fed → Fed → List ℕ → Option Next → Type 0
+    SourceState → SourceState → Fed → Fed → List ℕ → Option ComingPacket → Type 0
 MoreMeans old new before after taken None =
     (after ≡ more_fed before.fault before taken) × (0 < length taken)
 MoreMeans old new before after taken (Some (next.Packet at packet)) = ⊥
@@ -96,7 +96,7 @@ MoreMeans old new before after taken (Some next.Lost) =
     × Increased old.faults new.faults
 
 -- The taking of more bytes: the feeder was fed a piece; or there was none to take.
-pub record TakesMore (old new : SourceState) (before after : Fed) (answer : Option Next) : Type 0
+pub record TakesMore (old new : SourceState) (before after : Fed) (answer : Option ComingPacket) : Type 0
   where
     pub taken : List ℕ
     pub took : Took old.left new.left taken

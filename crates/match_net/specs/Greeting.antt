@@ -12,7 +12,7 @@ use Rattle.match_net.specs.declared.limits.TheConstants.{VERSION, OTHER_VERSION,
 use Rattle.match_net.specs.declared.limits.TheConstants.{NO_HELLO, MAX_LINK_BYTES, PIECE_BYTES}
 use Rattle.match_net.specs.declared.greeting.Greeting.{Greeting}
 use Rattle.match_net.specs.declared.greeting.Greeting.TheVariants as greeting
-use Rattle.match_net.specs.Taking.{Took, NoneLeft}
+use Rattle.match_net.specs.PieceTaking.{Took, NoneLeft}
 
 -- The answer to a whole first packet, by the server's rules. The version is looked at first.
 abbrev pub greeting_of : ℕ → Up → Greeting

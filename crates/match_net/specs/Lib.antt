@@ -1,4 +1,4 @@
-pub mod Taking
+pub mod PieceTaking
 pub mod Greeting
 pub mod Session
 pub mod Handling

@@ -15,7 +15,7 @@ use Rattle.match_net.specs.declared.play_cause.PlayCause.{PlayCause}
 use Rattle.match_net.specs.declared.play_cause.PlayCause.TheVariants as cause
 use Rattle.match_net.specs.declared.play_end.PlayEnd.{PlayEnd}
 use Rattle.match_net.specs.declared.play_end.PlayEnd.TheVariants as end
-use Rattle.match_net.specs.Taking.{NoneLeft}
+use Rattle.match_net.specs.PieceTaking.{NoneLeft}
 use Rattle.match_net.specs.Downward.{InStream, Finds}
 use Rattle.match_net.specs.Plays.{Plays}
 use Rattle.match_net.specs.Playing.{Course, Player, Stage, round, is_over}

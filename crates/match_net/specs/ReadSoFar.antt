@@ -14,7 +14,7 @@ use Rattle.report_line.specs.declared.heard.Heard.{Heard}
 use Rattle.match_net.specs.declared.read_cause.ReadCause.TheVariants as cause
 use Rattle.match_net.specs.declared.reader_end.ReaderEnd.{ReaderEnd}
 use Rattle.match_net.specs.declared.reader_end.ReaderEnd.TheVariants as end
-use Rattle.match_net.specs.Taking.{Took, Counts, NoneLeft}
+use Rattle.match_net.specs.PieceTaking.{Took, Counts, NoneLeft}
 use Rattle.match_net.specs.Session.{Session, no_session, after_all}
 use Rattle.match_net.specs.Ahead.{LooksAtOthers}
 use Rattle.match_net.specs.Reading.{OnlyLearns, IsStanding, ReadsTo}

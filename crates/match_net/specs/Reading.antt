@@ -16,7 +16,7 @@ use Rattle.report_line.specs.declared.heard.Heard.{Heard}
 use Rattle.match_net.specs.declared.ending.Ending.TheVariants as ending
 use Rattle.match_net.specs.declared.reader_end.ReaderEnd.{ReaderEnd}
 use Rattle.match_net.specs.declared.reader_end.ReaderEnd.TheVariants as end
-use Rattle.match_net.specs.Taking.{Took, Counts, NoneLeft}
+use Rattle.match_net.specs.PieceTaking.{Took, Counts, NoneLeft}
 use Rattle.match_net.specs.Session.{Session, Makes, end_at, limited}
 use Rattle.match_net.specs.Handling.{IsLate, IsLeftIf, HandlingMeans}
 use Rattle.match_net.specs.Ahead.{LooksAtOthers}

@@ -15,7 +15,7 @@ use Rattle.match_net.specs.declared.ending.Ending.{Ending}
 use Rattle.match_net.specs.declared.ending.Ending.TheVariants as ending
 use Rattle.match_net.specs.declared.reader_end.ReaderEnd.{ReaderEnd}
 use Rattle.match_net.specs.declared.reader_end.ReaderEnd.TheVariants as end
-use Rattle.match_net.specs.Taking.{Took, Counts}
+use Rattle.match_net.specs.PieceTaking.{Took, Counts}
 use Rattle.match_net.specs.Greeting.{hello_bytes}
 use Rattle.match_net.specs.Session.{Session, Makes, IsSession, cause_of}
 use Rattle.match_net.specs.Ahead.{LooksAtOthers}

@@ -5,13 +5,13 @@ ghost use Rattle.order_packets.specs.declared.down.Down.{Down};
 ghost use Rattle.match_net.specs.declared.limits.TheConstants.{MAX_PLAY_BYTES};
 ghost use Rattle.match_net.specs.Downward.{InStream, TakesMore, TryMeans, AskMeans};
 ghost use Rattle.match_net.specs.Downward.{MovesBy};
-ghost use Rattle.match_net.specs.Taking.{TookAtMost};
+ghost use Rattle.match_net.specs.PieceTaking.{TookAtMost};
 
+use crate::coming_packet::ComingPacket;
 use crate::limits::MAX_PLAY_BYTES;
-use crate::next::Next;
 use crate::piece::Piece;
+use crate::piece_taking::take_piece;
 use crate::play_cause::PlayCause;
-use crate::taking::take_piece;
 use base::NoMemory;
 use game_io::Source;
 use order_packets::DownFeeder;
@@ -22,7 +22,7 @@ fn take_more<I: Source>(
     feeder: &mut DownFeeder,
     link: &mut I,
     at: u64,
-) -> Result<Option<Next>, NoMemory>
+) -> Result<Option<ComingPacket>, NoMemory>
     requires fault { feeder.old.fault ≡ None }
     requires few { feeder.old.at + length feeder.old.rest ≤ MAX_PLAY_BYTES }
     requires place { at ≡ feeder.old.at }
@@ -39,13 +39,16 @@ fn take_more<I: Source>(
     match take_piece(feeder, link, room) {
         Ok(Piece::Some) => Ok(None),
         Ok(Piece::End) => Ok(Some(bad(at, PlayCause::Early))),
-        Ok(Piece::Lost) => Ok(Some(Next::Lost)),
+        Ok(Piece::Lost) => Ok(Some(ComingPacket::Lost)),
         Err(error) => Err(error),
     }
 }
 
 /// Answers what comes next down a link, if that is there; else takes a piece of its bytes.
-fn try_next<I: Source>(feeder: &mut DownFeeder, link: &mut I) -> Result<Option<Next>, NoMemory>
+fn try_next<I: Source>(
+    feeder: &mut DownFeeder,
+    link: &mut I,
+) -> Result<Option<ComingPacket>, NoMemory>
     requires fault { feeder.old.fault ≡ None }
     requires few { feeder.old.at + length feeder.old.rest ≤ MAX_PLAY_BYTES }
     ensures moves { IfOk result (λ answer. MovesBy feeder.old feeder.new answer) }
@@ -55,7 +58,7 @@ fn try_next<I: Source>(feeder: &mut DownFeeder, link: &mut I) -> Result<Option<N
 {
     let at = feeder.at();
     match feeder.next() {
-        Ok(Some(packet)) => Ok(Some(Next::Packet { at, packet })),
+        Ok(Some(packet)) => Ok(Some(ComingPacket::Packet { at, packet })),
         Ok(None) => take_more(feeder, link, at),
         Err(fault) => Ok(Some(bad(at, PlayCause::Feed(fault)))),
     }
@@ -65,7 +68,7 @@ fn try_next<I: Source>(feeder: &mut DownFeeder, link: &mut I) -> Result<Option<N
 pub(crate) fn next_packet<I: Source>(
     feeder: &mut DownFeeder,
     link: &mut I,
-) -> Result<Next, NoMemory>
+) -> Result<ComingPacket, NoMemory>
     requires fault { feeder.old.fault ≡ None }
     requires few { feeder.old.at + length feeder.old.rest ≤ MAX_PLAY_BYTES }
     ensures moves { IfOk result (λ next. MovesBy feeder.old feeder.new (Some next)) }
@@ -83,8 +86,8 @@ pub(crate) fn next_packet<I: Source>(
 }
 
 /// No packet begins at this place.
-fn bad(at: u64, cause: PlayCause) -> Next
-    ensures { result ≡ Next.Bad at cause }
+fn bad(at: u64, cause: PlayCause) -> ComingPacket
+    ensures { result ≡ ComingPacket.Bad at cause }
 {
-    Next::Bad { at, cause }
+    ComingPacket::Bad { at, cause }
 }

@@ -2,14 +2,14 @@ ghost use Rattle.std.specs.Prelude.{◌≡◌, ◌≤◌, ◌++◌, Some, None, 
 ghost use Rattle.order_packets.specs.Feed.{unfed, answer_of};
 ghost use Rattle.order_packets.specs.PacketReading.{packet_at, up_at};
 ghost use Rattle.match_net.specs.declared.limits.TheConstants.{MAX_LINK_BYTES};
-ghost use Rattle.match_net.specs.Taking.{Counts, TookAtMost};
+ghost use Rattle.match_net.specs.PieceTaking.{Counts, TookAtMost};
 ghost use Rattle.match_net.specs.Greeting.{greeting_of, decided, hello_bytes, Greets};
 
 use crate::greeting::Greeting;
 use crate::invite::Invite;
 use crate::limits::{MAX_LINK_BYTES, NO_HELLO, OTHER_RULES, OTHER_VERSION, VERSION};
 use crate::piece::Piece;
-use crate::taking::take_counted;
+use crate::piece_taking::take_counted;
 use base::NoMemory;
 use game_io::Source;
 use order_packets::{Up, UpFeeder};

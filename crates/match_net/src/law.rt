@@ -29,8 +29,8 @@ use crate::play_end::PlayEnd;
 use crate::reader_end::ReaderEnd;
 use frame_core::Sim;
 
-/// A law of links: their bytes have one session, that is, one list of plays that they put and one of
-/// reports, and one end with its place. The call does nothing.
+/// A law of links: their bytes have one session, that is, one list of plays that they put and one
+/// of reports, and one end with its place. The call does nothing.
 pub fn a_links_bytes_have_one_session()
     ensures { (c here : ℕ) (bytes : List ℕ) (session other : Session) (end another : Ending)
         (at there : ℕ) → IsSession c here bytes session end at →
@@ -59,8 +59,8 @@ pub fn an_ended_session_is_that_of_its_bytes()
         (limited (length (given ++ reads.taken)) ending.Over) reads.at }
 {}
 
-/// A law of links: what a session has put before it ended, for any reason, begins what its bytes put
-/// in all. The call does nothing.
+/// A law of links: what a session has put before it ended, for any reason, begins what its bytes
+/// put in all. The call does nothing.
 pub fn a_session_begins_that_of_its_bytes()
     ensures { (c here : ℕ) (bytes rest : List ℕ) (session whole : Session) (end : Ending)
         (at : ℕ) → Makes c here (take MAX_LINK_BYTES bytes) session rest →
@@ -90,9 +90,9 @@ pub fn a_players_world_is_the_fold<S: Sim>()
 /// A law of players: the bytes that a player read determine its match, that is, the packets that it
 /// followed, how it stands after them, how the match ends, and the place of that. What a call hands
 /// back that was not `Lost` is the match of the bytes that it took. So two calls that play the
-/// same and took the same bytes, and were not `Lost`, hand back the same end, client, ticked count and
-/// world. What any call followed, also one that was `Lost`, begins the match of the bytes that it
-/// took. The call does nothing.
+/// same and took the same bytes, and were not `Lost`, hand back the same end, client, ticked count
+/// and world. What any call followed, also one that was `Lost`, begins the match of the bytes that
+/// it took. The call does nothing.
 pub fn a_players_bytes_have_one_match<S: Sim>()
     ensures one { (terms : Terms S) (bytes : List ℕ) (one other : WholeMatch S) →
         IsWholeMatch terms bytes one → IsWholeMatch terms bytes other → one ≡ other }

@@ -16,6 +16,7 @@
 #![tactic(auto)]
 
 mod bot;
+mod coming_packet;
 mod downward;
 mod ending;
 mod first_packet;
@@ -25,26 +26,25 @@ mod invite;
 mod law;
 mod limits;
 mod link_reading;
-mod next;
 mod order_source;
 mod piece;
+mod piece_taking;
 mod play_cause;
 mod play_end;
 mod played;
 mod player;
+mod player_round;
 mod playing;
 mod playthrough;
 mod read_cause;
 mod reader;
 mod reader_end;
 mod reading;
-mod rounds;
 mod script;
 mod sender;
 mod sender_end;
 mod sending;
 mod stop_reason;
-mod taking;
 mod waiting;
 
 pub use bot::Bot;

@@ -14,10 +14,10 @@ ghost use Rattle.match_net.specs.ReadSoFar.{ReadSoFar, AfterTurn, TakesMore};
 use crate::invite::Invite;
 use crate::limits::MAX_LINK_BYTES;
 use crate::piece::Piece;
+use crate::piece_taking::take_counted;
 use crate::read_cause::ReadCause;
 use crate::reader_end::ReaderEnd;
 use crate::reading::handle_packet;
-use crate::taking::take_counted;
 use crate::waiting::wait_to_go_on;
 use frame_table::{FrameTable, Pass};
 use game_io::Source;
@@ -83,8 +83,8 @@ fn handle_next<I: Source, R: Wait>(
     }
 }
 
-/// Waits while the client's column is too far ahead. Then it does what the next packet asks, or takes
-/// more bytes, and answers how the reading ends with that, if it does.
+/// Waits while the client's column is too far ahead. Then it does what the next packet asks, or
+/// takes more bytes, and answers how the reading ends with that, if it does.
 fn read_once<I: Source, R: Wait>(
     rt: &R,
     table: &FrameTable,
@@ -116,9 +116,9 @@ fn read_once<I: Source, R: Wait>(
     handle_next(rt, table, pass, invite, feeder, link, reports, taken)
 }
 
-/// Reads the link of the client that is invited to its end, after its greeting. Before each packet it
-/// waits while the client's column has more than the lag's frames above the ready ones and is not
-/// left.
+/// Reads the link of the client that is invited to its end, after its greeting. Before each packet
+/// it waits while the client's column has more than the lag's frames above the ready ones and is
+/// not left.
 pub(crate) fn read_packets<I: Source, R: Wait>(
     rt: &R,
     table: &FrameTable,

@@ -11,14 +11,14 @@ ghost use Rattle.match_net.specs.Playing.{player_at, stage_at, round, is_over};
 ghost use Rattle.match_net.specs.Plays.{plays_by};
 ghost use Rattle.match_net.specs.Stages.{after_down, is_match, terms_from, welcomed};
 
+use crate::coming_packet::ComingPacket;
 use crate::downward::next_packet;
 use crate::following::follow;
-use crate::next::Next;
 use crate::order_source::OrderSource;
 use crate::play_end::PlayEnd;
 use crate::played::Played;
 use crate::player::Player;
-use crate::rounds::{is_over, round};
+use crate::player_round::{is_over, round};
 use base::NoMemory;
 use frame_core::{Maker, Sim};
 use game_io::{Sink, Source};
@@ -120,9 +120,11 @@ fn turn<S: Sim, P: OrderSource<S>, I: Source, O: Sink>(
         (player_at player.new.peer player.new.sealed player.new.quiet) feeder.new result }
 {
     match next_packet(feeder, input) {
-        Ok(Next::Packet { at, packet }) => act_on(player, plays, at, &packet, bytes, output),
-        Ok(Next::Bad { at, cause }) => Ok(Some(PlayEnd::BadLink { at, cause })),
-        Ok(Next::Lost) => Ok(Some(PlayEnd::Lost)),
+        Ok(ComingPacket::Packet { at, packet }) => act_on(
+            player, plays, at, &packet, bytes, output,
+        ),
+        Ok(ComingPacket::Bad { at, cause }) => Ok(Some(PlayEnd::BadLink { at, cause })),
+        Ok(ComingPacket::Lost) => Ok(Some(PlayEnd::Lost)),
         Err(error) => Err(error),
     }
 }

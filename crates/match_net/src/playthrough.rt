@@ -11,9 +11,9 @@ ghost use Rattle.match_net.specs.PlayMatch.{HasSaid, PlaysAs, PlaysPartly};
 ghost use Rattle.match_net.specs.Plays.{plays_by};
 ghost use Rattle.match_net.specs.Stages.{greeting_bytes, terms_by, terms_from};
 
+use crate::coming_packet::ComingPacket;
 use crate::downward::next_packet;
 use crate::limits::VERSION;
-use crate::next::Next;
 use crate::order_source::OrderSource;
 use crate::play_cause::PlayCause;
 use crate::play_end::PlayEnd;
@@ -54,9 +54,9 @@ pub fn play_match<M: Maker, I: Source, O: Sink>(
 /// The player greets the server with the hash of its rules and map. After the welcome and after
 /// each entry it ticks every frame that is ready and writes a report of each; then it seals those
 /// of its frames that its lag allows, and writes what the source orders for each by the world that
-/// the player holds now; then, once each of its frames was ticked, its farewell. After its farewell, or
-/// once its own departure has come, it goes on ticking and writes nothing more. It takes the next
-/// packet only when this is written.
+/// the player holds now; then, once each of its frames was ticked, its farewell. After its
+/// farewell, or once its own departure has come, it goes on ticking and writes nothing more. It
+/// takes the next packet only when this is written.
 ///
 /// `Over` where every client has left and each play before that has come. `Refused` with the code
 /// of the server's refusal. `BadLink` with the first of: a fault in a packet's place; a first
@@ -121,11 +121,11 @@ fn await_welcome<M: Maker, P: OrderSource<M::World>, I: Source, O: Sink>(
         (I.state input.new) before (O.state output.new)) }
 {
     match next_packet(feeder, input) {
-        Ok(Next::Packet { at, packet }) => begin(
+        Ok(ComingPacket::Packet { at, packet }) => begin(
             alloc, plays, maker, at, &packet, feeder, input, bytes, output,
         ),
-        Ok(Next::Bad { at, cause }) => Ok(unwelcomed(PlayEnd::BadLink { at, cause })),
-        Ok(Next::Lost) => Ok(unwelcomed(PlayEnd::Lost)),
+        Ok(ComingPacket::Bad { at, cause }) => Ok(unwelcomed(PlayEnd::BadLink { at, cause })),
+        Ok(ComingPacket::Lost) => Ok(unwelcomed(PlayEnd::Lost)),
         Err(error) => Err(error),
     }
 }

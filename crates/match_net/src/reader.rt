@@ -24,8 +24,8 @@ use std::sync::Wait;
 /// Reads the link of an invited client after its greeting, to the end, and lets the client leave:
 /// after each answer its column is left, and no other column has changed.
 ///
-/// Orders go to the client's column, reports to the queue. The column is free, and the pass feeds it
-/// and knows no play of it; the feeder and the link are as [`crate::greet`] left them. After any
+/// Orders go to the client's column, reports to the queue. The column is free, and the pass feeds
+/// it and knows no play of it; the feeder and the link are as [`crate::greet`] left them. After any
 /// other greeting than `Welcome` nothing is taken.
 ///
 /// It puts no packet, also of bytes that it has taken, while the column has more than the invite's
@@ -37,8 +37,8 @@ use std::sync::Wait;
 /// 1. `Refused`: the greeting was refused; or, in a packet's place, stand a fault, a second
 ///    greeting, or orders that the column refuses with `Conflict`, `Ahead` or `Full`; or
 ///    [`crate::MAX_LINK_BYTES`] bytes hold no earlier end.
-/// 2. `LeftAt`: the client had left before, which this call did not do, and orders for that frame or
-///    a later one came, or the farewell, or the end of the bytes.
+/// 2. `LeftAt`: the client had left before, which this call did not do, and orders for that frame
+///    or a later one came, or the farewell, or the end of the bytes.
 /// 3. `Ended`: the farewell came, or the bytes end; a link that tells its bytes then has none left.
 ///
 /// `Lost` only where the link's count of faults rose in this call, or after the greeting `Lost`.

@@ -164,8 +164,8 @@ fn client_after(c: u8, clients: u8) -> u8
     if clients - c > 1 { c + 1 } else { 0 }
 }
 
-/// Sends the entries of all columns to a link, client by client in turn, until the departure of each
-/// was sent, the link fails or memory runs out.
+/// Sends the entries of all columns to a link, client by client in turn, until the departure of
+/// each was sent, the link fails or memory runs out.
 pub(crate) fn send_all<O: Sink, R: Wait>(
     rt: &R,
     table: &FrameTable,

@@ -32,8 +32,8 @@ fn may_go_on(table: &FrameTable, pass: &mut Pass, c: u8, lag: u8) -> bool
     }
 }
 
-/// Waits until the reader of client `c`'s link may put its next packet: until its column has at most
-/// `lag` frames above the ready ones, or is left.
+/// Waits until the reader of client `c`'s link may put its next packet: until its column has at
+/// most `lag` frames above the ready ones, or is left.
 pub(crate) fn wait_to_go_on<R: Wait>(rt: &R, table: &FrameTable, pass: &mut Pass, c: u8, lag: u8)
     requires pass { IsPassOf table.now pass.old }
     requires client { c < length (plan_of table.now) }

@@ -24,8 +24,8 @@ fn mark_of<S: Sim>(sim: &S) -> u64
     sim.hash()
 }
 
-/// Writes the first `count` frames of the columns, and after each a mark with the hash of the world,
-/// which is stepped by them.
+/// Writes the first `count` frames of the columns, and after each a mark with the hash of the
+/// world, which is stepped by them.
 fn write_frames<S: Sim>(
     writer: &mut ReplayWriter,
     columns: &Columns,
@@ -56,8 +56,8 @@ fn write_frames<S: Sim>(
 }
 
 /// The bytes of the replay of a match with these rules, this seed and these columns: all of its
-/// frames, and after each a mark with the hash of the maker's world there. `read_replay` reads them.
-/// The frames are run once more, over a second world. Out of memory is the only error.
+/// frames, and after each a mark with the hash of the maker's world there. `read_replay` reads
+/// them. The frames are run once more, over a second world. Out of memory is the only error.
 pub fn record_bytes<M: Maker>(
     alloc: Global,
     rules: u64,

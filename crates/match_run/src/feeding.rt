@@ -1,5 +1,6 @@
 //! What the ticking thread does with the columns of the bots.
-ghost use Rattle.std.specs.Prelude.{◌≡◌, ◌<◌, ◌≤◌, ◌+◌, ◌^◌, [], ◌∷◌, ◌++◌, true, ℕ, List, length, map, OnOk};
+ghost use Rattle.std.specs.Prelude.{◌≡◌, ◌<◌, ◌≤◌, ◌+◌, ◌^◌, [], ◌∷◌, ◌++◌, true, ℕ, List, length};
+ghost use Rattle.std.specs.Prelude.{map, OnOk};
 ghost use Rattle.std.specs.List.{range_with_len};
 ghost use Rattle.game_orders.specs.declared.limits.TheConstants.{MAX_CLIENTS, MAX_FRAMES};
 ghost use Rattle.game_orders.specs.declared.order.Order.{Order};
@@ -88,8 +89,9 @@ pub(crate) fn leave_all<R: Wait>(
     }
 }
 
-/// Looks at the column of each bot once more, which its bot has left, with a pass that has the whole
-/// share. So the departure is one that this pass fixed, or that a pass fixed that was joined into it.
+/// Looks at the column of each bot once more, which its bot has left, with a pass that has the
+/// whole share. So the departure is one that this pass fixed, or that a pass fixed that was joined
+/// into it.
 pub(crate) fn look_again<R: Wait>(
     rt: &R,
     table: &FrameTable,

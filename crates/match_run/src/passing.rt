@@ -15,8 +15,8 @@ use drill_words::Scripts;
 use frame_table::{FrameTable, Pass, Plan, Planned};
 use std::alloc::Global;
 
-/// The table of the scripts' clients, each column planned as its script has it, and of so many bots,
-/// whose columns are free; and its first pass.
+/// The table of the scripts' clients, each column planned as its script has it, and of so many
+/// bots, whose columns are free; and its first pass.
 pub(crate) fn planned_table(
     alloc: Global,
     scripts: &Scripts,
@@ -57,8 +57,8 @@ fn scripts_plan(alloc: Global, scripts: &Scripts) -> Result<List<Planned>, NoMem
     Ok(each)
 }
 
-/// A pass for each of the clients from `first` to before `end`, split off one after another: at most
-/// `MAX_CLIENTS`. Each split hands one right to add plays over, while there is one.
+/// A pass for each of the clients from `first` to before `end`, split off one after another: at
+/// most `MAX_CLIENTS`. Each split hands one right to add plays over, while there is one.
 pub(crate) fn split_passes(
     alloc: Global,
     table: &FrameTable,
@@ -111,8 +111,8 @@ pub(crate) fn join_unused(table: &FrameTable, pass: &mut Pass, passes: Vec<Clien
     }
 }
 
-/// Joins the clients' passes into the pass, which has seen and knows each whole script's column, and
-/// knows of each bot's departure. The other passes fixed none of these.
+/// Joins the clients' passes into the pass, which has seen and knows each whole script's column,
+/// and knows of each bot's departure. The other passes fixed none of these.
 pub(crate) fn join_passes(
     table: &FrameTable,
     scripts: &Scripts,

@@ -52,17 +52,17 @@ pub fn run_local<S: Sim, G: Gate + Sync, R: Threads + Wait + Sync>(
 
 /// Plays a match to its end, on threads: the scripts of its first clients, and so many bots, which
 /// are its last. The world is that of all these clients, and has made no step. One thread for each
-/// client of a script puts the plays of its script, and then lets it leave. The calling thread ticks
-/// each frame that is ready until the match is over. Before it asks whether a frame is ready it puts
-/// what each bot orders in the world as it is then; bots leave after as many frames as the longest
-/// script has. The gate is asked before and after each put of a script's play.
+/// client of a script puts the plays of its script, and then lets it leave. The calling thread
+/// ticks each frame that is ready until the match is over. Before it asks whether a frame is ready
+/// it puts what each bot orders in the world as it is then; bots leave after as many frames as the
+/// longest script has. The gate is asked before and after each put of a script's play.
 ///
 /// The run has the table that it filled. In it each script's column is the script, left at its end,
 /// and a bot's entry at each frame before the longest script's end is what it orders in the world
 /// that the agreed frames before it make. The pass has the whole share, and has seen and knows each
 /// whole column. The world is the one that was given, stepped by the frames of these columns, as
-/// many as the longest script has. Out of memory is its one error, also where the thread of a client
-/// is, or a bot. It returns only if its threads do.
+/// many as the longest script has. Out of memory is its one error, also where the thread of a
+/// client is, or a bot. It returns only if its threads do.
 pub fn run_with_bots<S: Sim, B: Bots<S>, G: Gate + Sync, R: Threads + Wait + Sync>(
     rt: &R,
     alloc: Global,
@@ -125,9 +125,9 @@ pub fn run_with_bots<S: Sim, B: Bots<S>, G: Gate + Sync, R: Threads + Wait + Syn
     Ok(LocalRun { sim, table, pass })
 }
 
-/// The table of a match, the pass of the ticking thread, which feeds each bot's column, and those of
-/// the clients' threads. A split hands the first right to add plays over, so passes are split off for
-/// all of these before the clients', and joined back after.
+/// The table of a match, the pass of the ticking thread, which feeds each bot's column, and those
+/// of the clients' threads. A split hands the first right to add plays over, so passes are split
+/// off for all of these before the clients', and joined back after.
 fn begin(
     alloc: Global,
     scripts: &Scripts,

@@ -32,8 +32,8 @@ impl Taken {
         }
     }
 
-    /// Holds these plays, the first of which is that of frame `from`, in place of what it held. Where
-    /// there are none the client had left by then.
+    /// Holds these plays, the first of which is that of frame `from`, in place of what it held.
+    /// Where there are none the client had left by then.
     pub(crate) fn hold(&mut self, from: u32, plays: PlayList)
         ensures from { self.new.from ≡ from }
         ensures plays { self.new.plays ≡ plays }
@@ -59,8 +59,8 @@ impl Taken {
         self.left || self.has_play(n)
     }
 
-    /// Adds the entry at frame `n`, which is not below `from`, to a frame with room for it: the play
-    /// that was taken, or a departure.
+    /// Adds the entry at frame `n`, which is not below `from`, to a frame with room for it: the
+    /// play that was taken, or a departure.
     pub(crate) fn add_to(&self, n: u32, frame: &mut Frame)
         requires from { self.now.from ≤ n }
         requires room { length frame.old < MAX_CLIENTS }

@@ -34,8 +34,8 @@ const MOST_AT_ONCE: u32 = 256;
 
 /// Ticks each frame until the match is over. For each frame it puts the plays of the bots before it
 /// asks whether the frame is ready; after the last it lets them leave. Out of memory is its one
-/// error: a client's thread has raised the flag, a bot is out of memory, or there is no room for what
-/// is taken.
+/// error: a client's thread has raised the flag, a bot is out of memory, or there is no room for
+/// what is taken.
 pub(crate) fn tick_all<S: Sim, B: Bots<S>, R: Wait>(
     rt: &R,
     alloc: Global,
@@ -187,8 +187,8 @@ fn has_frame(scripts: &Scripts, taken: &[Taken], n: u32) -> bool
     true
 }
 
-/// Steps the world by frame `n`: what was taken of the scripts' clients, and the entries of the bots.
-/// The frame is put together in `frame`.
+/// Steps the world by frame `n`: what was taken of the scripts' clients, and the entries of the
+/// bots. The frame is put together in `frame`.
 fn tick<S: Sim>(
     scripts: &Scripts,
     taken: &[Taken],

@@ -23,7 +23,7 @@ use Rattle.frame_table.specs.Part.{Part, OthersStay, part_of}
 use Rattle.frame_table.specs.Word.{one_if}
 use Rattle.frame_table.specs.Steps.{IsFound, loaded, published}
 use Rattle.frame_table.specs.Calls.{view_of, standing}
-use Rattle.match_net.specs.Taking.{Took, NoneLeft}
+use Rattle.match_net.specs.PieceTaking.{Took, NoneLeft}
 use Rattle.match_serve.specs.declared.kicks.Kicks.{Kicks}
 use Rattle.match_serve.specs.Passes.{IsServePass, IsTakenOut, IsKicking, Learns, SeesLeft, StayLeft}
 use Rattle.match_serve.specs.Console.{ends_line, lines_of, kicks_client, holds_kick}

@@ -24,7 +24,7 @@ use Rattle.report_line.specs.declared.heard.Heard.{Heard}
 use Rattle.report_line.specs.declared.report_receiver.ReportReceiver.{ReportReceiver}
 use Rattle.report_line.specs.Order.{AreOf, of_client, IsInterleaving}
 use Rattle.match_net.specs.declared.invite.Invite.{Invite}
-use Rattle.match_net.specs.Taking.{Took}
+use Rattle.match_net.specs.PieceTaking.{Took}
 use Rattle.match_serve.specs.declared.link_end.LinkEnd.{LinkEnd}
 use Rattle.match_serve.specs.declared.link_end.LinkEnd.TheVariants as end
 use Rattle.match_serve.specs.Passes.{IsServePass, Learns, FixedNone, AllGone, columns_of}

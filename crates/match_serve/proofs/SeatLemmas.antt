@@ -28,7 +28,7 @@ use Rattle.match_net.specs.declared.reader_end.ReaderEnd.{ReaderEnd}
 use Rattle.match_net.specs.declared.reader_end.ReaderEnd.TheVariants as reader
 use Rattle.match_net.specs.declared.sender_end.SenderEnd.{SenderEnd}
 use Rattle.match_net.specs.declared.sender_end.SenderEnd.TheVariants as sender
-use Rattle.match_net.specs.Taking.{Counts, TookAtMost}
+use Rattle.match_net.specs.PieceTaking.{Counts, TookAtMost}
 use Rattle.match_net.specs.Greeting.{Greets, decided}
 use Rattle.match_net.specs.Session.{no_session}
 use Rattle.match_net.specs.Reading.{MayPlay}

@@ -26,7 +26,7 @@ use Rattle.match_net.specs.declared.reader_end.ReaderEnd.{ReaderEnd}
 use Rattle.match_net.specs.declared.reader_end.ReaderEnd.TheVariants as end
 use Rattle.match_net.specs.declared.ending.Ending.TheVariants as ending
 use Rattle.match_net.specs.declared.read_cause.ReadCause.TheVariants as cause
-use Rattle.match_net.specs.Taking.{Took, Counts, NoneLeft}
+use Rattle.match_net.specs.PieceTaking.{Took, Counts, NoneLeft}
 use Rattle.match_net.specs.Greeting.{Greets, decided, greeting_of, hello_bytes}
 use Rattle.match_serve.specs.Sent.{greeting_by}
 use Rattle.match_net.specs.Session.{Session, no_session, Makes, end_at, limited, cause_of}

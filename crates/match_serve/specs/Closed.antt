@@ -14,7 +14,7 @@ use Rattle.report_line.specs.declared.heard.Heard.{Heard}
 use Rattle.report_line.specs.Order.{AreOf}
 use Rattle.match_net.specs.declared.limits.TheConstants.{MAX_LINK_BYTES}
 use Rattle.match_net.specs.declared.invite.Invite.{Invite}
-use Rattle.match_net.specs.Taking.{Took}
+use Rattle.match_net.specs.PieceTaking.{Took}
 use Rattle.match_net.specs.Session.{Session, Makes}
 use Rattle.match_net.specs.declared.reader_end.ReaderEnd.{ReaderEnd}
 use Rattle.match_net.specs.declared.reader_end.ReaderEnd.TheVariants as reader

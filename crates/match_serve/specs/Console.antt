@@ -6,7 +6,7 @@ use Rattle.std.specs.Str.{bytes_eq}
 use Rattle.std.specs.Fmt.{decimal}
 use Rattle.base.specs.Cause.{Increased}
 use Rattle.game_io.specs.SourceState.{SourceState}
-use Rattle.match_net.specs.Taking.{Took, NoneLeft}
+use Rattle.match_net.specs.PieceTaking.{Took, NoneLeft}
 use Rattle.match_serve.specs.declared.kicks.TheConstants.{LINE_END}
 
 abbrev pub ends_line : ℕ → Bool

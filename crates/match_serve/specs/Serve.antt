@@ -20,7 +20,7 @@ use Rattle.frame_table.specs.Calls.{plan_of, view_of, standing, IsPassOf}
 use Rattle.match_net.specs.declared.limits.TheConstants.{MAX_LINK_BYTES}
 use Rattle.match_net.specs.declared.invite.Invite.{Invite}
 use Rattle.match_net.specs.declared.reader_end.ReaderEnd.TheVariants as reader
-use Rattle.match_net.specs.Taking.{Took}
+use Rattle.match_net.specs.PieceTaking.{Took}
 use Rattle.match_net.specs.Session.{Session, Makes}
 use Rattle.match_net.specs.Reading.{EndMeans}
 use Rattle.match_serve.specs.declared.link_end.LinkEnd.{LinkEnd}

@@ -11,7 +11,7 @@ use Rattle.frame_table.specs.declared.table.FrameTable.{FrameTable}
 use Rattle.frame_core.specs.Grows.{GrowsTo}
 use Rattle.frame_table.specs.Part.{part_of}
 use Rattle.frame_table.specs.Calls.{view_of, standing}
-use Rattle.match_net.specs.Taking.{Took, NoneLeft}
+use Rattle.match_net.specs.PieceTaking.{Took, NoneLeft}
 use Rattle.match_serve.specs.declared.kicks.Kicks.{Kicks}
 use Rattle.match_serve.specs.declared.kicks.TheConstants.{LINE_ROOM}
 use Rattle.match_serve.specs.Passes.{IsKicking, SeesLeft, StayLeft}

@@ -1,5 +1,6 @@
 //! How the links of a match are accepted.
-ghost use Rattle.std.specs.Prelude.{◌≡◌, ◌+◌, ◌*◌, ◌^◌, ◌<◌, ◌≤◌, ◌++◌, ◌∷◌, [], None, length, drop};
+ghost use Rattle.std.specs.Prelude.{◌≡◌, ◌+◌, ◌*◌, ◌^◌, ◌<◌, ◌≤◌, ◌++◌, ◌∷◌, [], None, length};
+ghost use Rattle.std.specs.Prelude.{drop};
 ghost use Rattle.std.specs.Prelude.{IfOk, IfErr, OnOk};
 ghost use Rattle.std.specs.Option.{option_map};
 ghost use Rattle.base.specs.Cause.{Increased};
@@ -9,7 +10,8 @@ ghost use Rattle.frame_table.specs.Calls.{view_of};
 ghost use Rattle.report_line.specs.declared.report_receiver.ReportReceiver.{ReportReceiver};
 ghost use Rattle.report_line.specs.Reports.{AreNewEnds, pushed};
 ghost use Rattle.match_serve.specs.Passes.{IsOpening};
-ghost use Rattle.match_serve.specs.Seats.{IsNewSeat, IsNewPiece, AreNewPieces, seat_share, shares_of};
+ghost use Rattle.match_serve.specs.Seats.{IsNewSeat, IsNewPiece, AreNewPieces, seat_share};
+ghost use Rattle.match_serve.specs.Seats.{shares_of};
 ghost use Rattle.match_serve.specs.Seats.{invite_of};
 
 use crate::opening::new_seat;
@@ -69,7 +71,7 @@ fn accept_link<N: Net>(
 
 /// Accepts the links of a match, client by client, each with what it is served with: an end of the
 /// queue of reports, and two parts of the pass, one of which feeds the client's column.
-fn accept_each<N: Net, W: Watch>(
+pub(crate) fn accept_links<N: Net, W: Watch>(
     alloc: Global,
     net: &mut N,
     table: &FrameTable,
@@ -110,41 +112,4 @@ fn accept_each<N: Net, W: Watch>(
         pieces.push(piece)?;
     }
     Ok(pieces)
-}
-
-/// Accepts the links of a match, as [`accept_each`] does, and lets nobody else in from then on.
-pub(crate) fn accept_links<N: Net, W: Watch>(
-    alloc: Global,
-    net: &mut N,
-    table: &FrameTable,
-    pass: &mut Pass,
-    invite: &Invite,
-    ends: Vec<Reports>,
-    watch: &W,
-) -> Result<List<ServedLink<N::In, N::Out>>, ServeFault>
-    requires opening { IsOpening invite.now.clients table.now 0 pass.old }
-    requires most { invite.now.clients ≤ MAX_CLIENTS }
-    requires share { (view_of pass.old).share ≡ 2 ^ 62 }
-    requires none_given { (N.state net.old).given ≡ [] }
-    requires ends { (receiver : ReportReceiver) × AreNewEnds invite.now.clients ends.items receiver }
-    ensures opening { OnOk result
-        (IsOpening invite.now.clients table.now invite.now.clients pass.new) }
-    ensures pieces { IfOk result (λ pieces. (receiver : ReportReceiver) →
-        AreNewEnds invite.now.clients ends.items receiver →
-        AreNewPieces invite.now.clients table.now invite.now receiver (N.state net.old).coming 0
-        pieces) }
-    ensures count { IfOk result (λ pieces. length pieces ≡ invite.now.clients) }
-    ensures shares { IfOk result (λ pieces.
-        (view_of pass.new).share + shares_of pieces ≡ 2 ^ 62) }
-    ensures enough { OnOk result (2 ≤ (view_of pass.new).share) }
-    ensures given { OnOk result (length (N.state net.new).given ≡ invite.now.clients) }
-    ensures coming { OnOk result ((N.state net.new).coming
-        ≡ option_map (drop invite.now.clients) (N.state net.old).coming) }
-    ensures later { (N.state net.old).faults ≤ (N.state net.new).faults }
-    ensures err { IfErr result (λ fault. fault ≡ ServeFault.Net →
-        Increased (N.state net.old).faults (N.state net.new).faults) }
-{
-    let accepted = accept_each(alloc, net, table, pass, invite, ends, watch);
-    net.stop_listening();
-    accepted
 }

@@ -89,7 +89,8 @@ fn take_once<C: Source, R: Wait>(
     match console.take(&mut bytes) {
         Ok(0) => true,
         Ok(count) => {
-            // a line that comes once all have left ends it, and not one that lets the last one leave
+            // a line that comes once all have left ends it, and not one that lets the last one
+            // leave
             let over = have_all_left(table, pass, clients);
             let ended = read_bytes(rt, table, pass, clients, kicks, &bytes[..count]);
             ended && over

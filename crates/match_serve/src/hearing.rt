@@ -9,8 +9,8 @@ use match_net::ReportReceiver;
 use server_core::Board;
 use std::sync::Wait;
 
-/// Takes all reports that are in the queue to the board, which has the first of each client for each
-/// frame of all that were heard.
+/// Takes all reports that are in the queue to the board, which has the first of each client for
+/// each frame of all that were heard.
 pub(crate) fn take_reports<R: Wait>(
     rt: &R,
     receiver: &mut ReportReceiver,

@@ -7,8 +7,8 @@
 //! each link ended and how many bytes were taken from it, and which reports the board has.
 //! [`serve_watched`] does the same, and tells a watch what happens. What
 //! threads know of the columns meanwhile is in `specs/Passes.antt`, what serves a link in
-//! `specs/Seats.antt`. The crate stands on `match_net` for the sessions and the queue of reports, on
-//! `frame_table` for the columns, on `server_core` for the board, and on `game_io` for links and
+//! `specs/Seats.antt`. The crate stands on `match_net` for the sessions and the queue of reports,
+//! on `frame_table` for the columns, on `server_core` for the board, and on `game_io` for links and
 //! console.
 #![tactic(auto)]
 

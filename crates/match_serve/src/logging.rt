@@ -5,7 +5,8 @@ use game_orders::{Frame, MAX_CLIENTS};
 use idle_pause::{NAP_MICROS, SPINS_BEFORE_SLEEP};
 use match_net::{Greeting, OTHER_RULES, OTHER_VERSION};
 
-/// For how many millionths of a second the match waits, at the least, before that is logged once more.
+/// For how many millionths of a second the match waits, at the least, before that is logged once
+/// more.
 const WAIT_MICROS: u64 = 50_000;
 
 /// So many looks that found nothing, each followed by a sleep, take that long.
@@ -34,8 +35,8 @@ fn refusal(code: u8) -> NoGreeting {
     }
 }
 
-/// What the ticking thread logs: to whom, which departures it has logged, and how many looks in a row
-/// have found no frame.
+/// What the ticking thread logs: to whom, which departures it has logged, and how many looks in a
+/// row have found no frame.
 #[derive(Drop)]
 pub(crate) struct TickLog<'a, W: Watch> {
     watch: &'a W,
@@ -81,8 +82,8 @@ impl<'a, W: Watch> TickLog<'a, W> {
         self.watch.log(MatchEvent::Ticked { frames });
     }
 
-    /// A look has found that frame `n` lacks the entry of a client. That is logged each time when the
-    /// match has waited so long again.
+    /// A look has found that frame `n` lacks the entry of a client. That is logged each time when
+    /// the match has waited so long again.
     pub fn waits_for(&mut self, n: u32, client: u8) {
         if self.looks < SPINS_BEFORE_SLEEP + LOOKS_A_WAIT {
             self.looks += 1;

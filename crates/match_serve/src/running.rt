@@ -135,7 +135,8 @@ pub(crate) fn run_threads<
         watching.old watching.new kicks.new.kicked.items }
 {
     let mut serve = ||
-        requires { IsSync R.row × IsSync W.row × All (λ piece. IsNewSeat piece.seat.invite.clients table.now
+        requires { IsSync R.row × IsSync W.row × All (λ piece. IsNewSeat piece.seat.invite.clients
+            table.now
             piece.seat) pieces.now }
         ensures { AreServed table.entry.now pieces.entry.now pieces.exit.now }
     { serve_links(rt, alloc, table, pieces, watch) };

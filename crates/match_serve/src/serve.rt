@@ -1,5 +1,6 @@
 //! The whole match: it is opened, run on threads, and closed.
-ghost use Rattle.std.specs.Prelude.{◌≡◌, ◌+◌, ◌^◌, ◌<◌, ◌≤◌, ℕ, List, Option, [], length, replicate, drop};
+ghost use Rattle.std.specs.Prelude.{◌≡◌, ◌+◌, ◌^◌, ◌<◌, ◌≤◌, ℕ, List, Option, [], length};
+ghost use Rattle.std.specs.Prelude.{replicate, drop};
 ghost use Rattle.std.specs.Prelude.{IfOk, IfErr};
 ghost use Rattle.std.specs.Option.{option_map};
 ghost use Rattle.base.specs.Cause.{Increased};
@@ -37,27 +38,27 @@ use std::sync::Wait;
 use std::thread::Threads;
 
 /// Serves a match over links. It listens at `at` and accepts as many links as the invite has
-/// clients, the first for client 0; each is told the invite with its own number. The world is that of
-/// as many clients, and has made no step; the net has given no link.
+/// clients, the first for client 0; each is told the invite with its own number. The world is that
+/// of as many clients, and has made no step; the net has given no link.
 ///
-/// All links are served at once: each is greeted, its client's plays go into the client's column and
-/// its reports to the board, and it is sent all columns. The calling thread ticks every frame that
-/// is ready and notes the world's hash after it. A line `kick C` of the console, `C` a client's
-/// number in decimal without leading zeros, lets that client leave; other lines have no effect, and a
-/// console that fails counts as ended. The call returns once every client has left and the console
-/// has ended or given one more line, and only if its threads do.
+/// All links are served at once: each is greeted, its client's plays go into the client's column
+/// and its reports to the board, and it is sent all columns. The calling thread ticks every frame
+/// that is ready and notes the world's hash after it. A line `kick C` of the console, `C` a
+/// client's number in decimal without leading zeros, lets that client leave; other lines have no
+/// effect, and a console that fails counts as ended. The call returns once every client has left
+/// and the console has ended or given one more line, and only if its threads do.
 ///
 /// The match has the table that the links filled. Its pass has the whole share, and has seen and
-/// knows each whole column: the plays that the link's bytes put, and then the departure. Its world is
-/// the one that was given, stepped by the frames of these columns, as many as the longest has. Each
-/// link was handed back to the net, and of each it is told how many bytes were taken from it: those of
-/// its greeting among them, and those that were lost where memory ran out. A link that fails, is
-/// refused or finds no memory ends alone.
+/// knows each whole column: the plays that the link's bytes put, and then the departure. Its world
+/// is the one that was given, stepped by the frames of these columns, as many as the longest has.
+/// Each link was handed back to the net, and of each it is told how many bytes were taken from it:
+/// those of its greeting among them, and those that were lost where memory ran out. A link that
+/// fails, is refused or finds no memory ends alone.
 ///
-/// What was written to a link is of what its greeting is answered: the welcome and the first entries
-/// of each column, in order, or the refusal. It is all of that where no half of the link failed and
-/// memory did not run out for it. The end is `Kicked` only where a line of the console kicked the
-/// client, and `Lost` only where a half of the link failed.
+/// What was written to a link is of what its greeting is answered: the welcome and the first
+/// entries of each column, in order, or the refusal. It is all of that where no half of the link
+/// failed and memory did not run out for it. The end is `Kicked` only where a line of the console
+/// kicked the client, and `Lost` only where a half of the link failed.
 ///
 /// `Net` only where the net's count of faults rose in this call.
 pub fn serve_match<S: Sim, N: Net, C: Source + Send, R: Threads + Wait + Sync>(
@@ -95,7 +96,8 @@ pub fn serve_match<S: Sim, N: Net, C: Source + Send, R: Threads + Wait + Sync>(
 
 /// Serves a match over links as [`serve_match`] does, and tells the watch what happens: where the
 /// server listens, each link that comes and how it greets, each frame that is ticked and each
-/// departure before its frame, for whom the match waits, and its end. Several threads tell it at once.
+/// departure before its frame, for whom the match waits, and its end. Several threads tell it at
+/// once.
 pub fn serve_watched<S: Sim, N: Net, C: Source + Send, W: Watch + Sync, R: Threads + Wait + Sync>(
     rt: &R,
     alloc: Global,
@@ -149,6 +151,7 @@ pub fn serve_watched<S: Sim, N: Net, C: Source + Send, W: Watch + Sync, R: Threa
         reports.into_vec(),
         watch,
     )?;
+    net.stop_listening();
     let served = serve_opened(
         rt,
         alloc,

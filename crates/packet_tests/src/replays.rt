@@ -194,7 +194,8 @@ static HEADERS: [(&str, u64, &str, u64); 9] = [
 /// A file of one client: a frame without orders, a mark and the end.
 static SMALL: &str = "4c5352500200dfb701864cbd63af010000000101010002c52a8cd1072f94f700";
 
-/// From how many bytes of [`SMALL`] on, and below how many, a prefix of it has which cause and place.
+/// From how many bytes of [`SMALL`] on, and below how many, a prefix of it has which cause and
+/// place.
 static CUTS: [(usize, usize, &str, u64); 6] = [
     (0, 4, "BadMagic", 0),
     (4, 6, "Torn", 4),

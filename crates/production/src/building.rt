@@ -20,8 +20,12 @@ use world_units::dir_angle;
 pub fn build_step(t: &mut ActorTable, g: &Ground, next_id: &mut u32, id: u32)
     requires sizes { AreSized t.old g.now }
     requires ids { All (λ (a : Actor). a.id < next_id.old) t.old.actors }
-    ensures actors { t.new ≡ record t.old { actors = (built_by_id (setup_in g.now) t.old.actors next_id.old (actor_of t.old.actors id)).actors } }
-    ensures next_id { next_id.new ≡ (built_by_id (setup_in g.now) t.old.actors next_id.old (actor_of t.old.actors id)).next_id }
+    ensures actors { t.new ≡ record t.old {
+      actors = (built_by_id (setup_in g.now) t.old.actors
+          next_id.old (actor_of t.old.actors id)).actors;
+    } }
+    ensures next_id { next_id.new ≡ (built_by_id (setup_in g.now) t.old.actors next_id.old
+        (actor_of t.old.actors id)).next_id }
 {
     let Some(a) = t.get(id) else {
         return;

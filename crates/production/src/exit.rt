@@ -64,7 +64,8 @@ fn neighbour(map: &Map, p: CPos, d: u8) -> Option<CPos>
 fn is_open(t: &ActorTable, map: &Map, costs: &Costs, p: CPos) -> bool
     requires on_map { IsOn map.now.width map.now.height p }
     requires terrain { HasSize map.now.width map.now.height map.now.terrain }
-    ensures { result ≡ (nat_lt 0 (cost_at costs.now (at_cell map.now.terrain p)) && not (is_occupied t.now.actors p)) }
+    ensures { result ≡ (nat_lt 0 (cost_at costs.now (at_cell map.now.terrain p)) && not
+        (is_occupied t.now.actors p)) }
 {
     cost_on(costs, map.terrain.get(p)) > 0 && t.at_cell(p).is_none()
 }
@@ -73,7 +74,9 @@ fn is_open(t: &ActorTable, map: &Map, costs: &Costs, p: CPos) -> bool
 fn exit_at(t: &ActorTable, g: &Ground, kind: u16, from: CPos, d: u8) -> Option<Exit>
     requires sizes { AreSized t.now g.now }
     requires direction { d < DIRECTIONS }
-    ensures value { is_some result ≡ is_open (setup_in g.now) t.now.actors (kind_of g.now.rules.now kind) (neighbour_of g.now.map.now.width g.now.map.now.height from d) }
+    ensures value { is_some result ≡ is_open (setup_in g.now) t.now.actors
+        (kind_of g.now.rules.now kind) (neighbour_of g.now.map.now.width g.now.map.now.height from
+        d) }
     ensures same { IfSome result (λ exit. exit.dir ≡ d) }
     ensures exit { IfSome result (IsExit (setup_in g.now) t.now.actors from) }
 {
@@ -89,7 +92,8 @@ fn exit_at(t: &ActorTable, g: &Ground, kind: u16, from: CPos, d: u8) -> Option<E
 /// The exit in the least direction for a unit of a kind, if there is one.
 fn find_exit(t: &ActorTable, g: &Ground, kind: u16, from: CPos) -> Option<Exit>
     requires { AreSized t.now g.now }
-    ensures value { option_map dir_of result ≡ exit_of (setup_in g.now) t.now.actors (kind_of g.now.rules.now kind) from }
+    ensures value { option_map dir_of result ≡ exit_of (setup_in g.now) t.now.actors
+        (kind_of g.now.rules.now kind) from }
     ensures exit { IfSome result (IsExit (setup_in g.now) t.now.actors from) }
 {
     for d in 0..DIRECTIONS {
@@ -118,7 +122,8 @@ pub(crate) fn exit_after(
     from: CPos,
 ) -> Option<Exit>
     requires { AreSized t.now g.now }
-    ensures value { option_map dir_of result ≡ exit_after (setup_in g.now) t.now.actors next_id build.left build.kind from }
+    ensures value { option_map dir_of result ≡ exit_after (setup_in g.now) t.now.actors next_id
+        build.left build.kind from }
     ensures exit { IfSome result (IsExit (setup_in g.now) t.now.actors from) }
     ensures room { IfSome result (λ exit. IsRoom t.now.actors next_id) }
 {

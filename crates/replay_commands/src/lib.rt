@@ -3,8 +3,8 @@
 //! [`replay_answer`] runs a replay's file, and [`migrate_answer`] writes it anew. Each is a step of
 //! a command: it has the answer, or stops with the first fault of the file, with which
 //! [`read_replay_file`] refuses it. The replies are in `specs/Replays.antt`. [`record_bytes`] makes
-//! the file of a drill that was run (`specs/Records.antt`). [`MarkedGame`] is the game with the hash
-//! that the marks of old replays have.
+//! the file of a drill that was run (`specs/Records.antt`). [`MarkedGame`] is the game with the
+//! hash that the marks of old replays have.
 #![tactic(auto)]
 
 mod marked_game;

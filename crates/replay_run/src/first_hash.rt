@@ -2,7 +2,8 @@ ghost use Rattle.std.specs.Prelude.{◌≡◌, ℕ};
 
 use frame_core::Sim;
 
-/// A world that also has the hash of the first version, which marks in replays of that version have.
+/// A world that also has the hash of the first version, which marks in replays of that version
+/// have.
 pub trait FirstHash: Sim {
     /// The world's hash of the first version.
     ghost first_hash_of: { Self → ℕ };

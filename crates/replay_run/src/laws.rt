@@ -15,9 +15,10 @@ ghost use Rattle.replay_run.specs.Rerun.{world_from, world_in};
 
 use frame_core::Sim;
 
-/// A law of differing marks: the one that is found is a mark that differs, and no differing mark has
-/// fewer frames before it; where none is found, each mark has the hash for its number of frames.
-/// So it is of the marks that have so many frames or more before them. The call does nothing.
+/// A law of differing marks: the one that is found is a mark that differs, and no differing mark
+/// has fewer frames before it; where none is found, each mark has the hash for its number of
+/// frames. So it is of the marks that have so many frames or more before them. The call does
+/// nothing.
 #[tactic(auto, using(crate::proofs::RecordLawsLemmas::difference_laws))]
 pub fn the_least_mark_differs()
     ensures least { (hash_at : ℕ → ℕ) (parts : List Part) (d : Difference) →

@@ -30,8 +30,8 @@ pub enum Migration {
     },
 }
 
-/// Writes a part of this kind anew: a frame as it is, a mark with the hash of this world. Returns how
-/// many marks that are.
+/// Writes a part of this kind anew: a frame as it is, a mark with the hash of this world. Returns
+/// how many marks that are.
 fn write_anew<S: Sim>(
     writer: &mut ReplayWriter,
     kind: PartKind,

@@ -1,8 +1,8 @@
 use crate::heard::Heard;
 use std::collections::LinkedList;
 
-/// What an end of the queue knows, or the receiver. No value of it is made: contracts alone speak of
-/// it.
+/// What an end of the queue knows, or the receiver. No value of it is made: contracts alone speak
+/// of it.
 pub struct Known {
     /// It is an end, and may push.
     pub pushes: bool,

@@ -55,8 +55,8 @@ impl Reports {
 }
 
 impl ReportReceiver {
-    /// One more end of the queue, with the next number and nothing pushed. It fails only where it is
-    /// out of memory.
+    /// One more end of the queue, with the next number and nothing pushed. It fails only where it
+    /// is out of memory.
     #[tactic(auto, using(crate::proofs::RuleLemmas::forks))]
     fn new_end(&mut self) -> Result<Reports, NoMemory>
         ensures same { queue_heard self.new ≡ queue_heard self.old }

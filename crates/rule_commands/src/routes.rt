@@ -13,7 +13,8 @@ ghost use Rattle.grid_routes.specs.EntryCosts.{IsCheap};
 ghost use Rattle.command_words.specs.RequestPlain.{plain_route};
 ghost use Rattle.rule_commands.specs.FoundRoute.{found_route};
 ghost use Rattle.command_answers.specs.Given.{given_contents};
-ghost use Rattle.rule_commands.specs.Routes.{blocks_of, cells_text, costs_named, route_line, route_of};
+ghost use Rattle.rule_commands.specs.Routes.{blocks_of, cells_text, costs_named, route_line};
+ghost use Rattle.rule_commands.specs.Routes.{route_of};
 ghost use Rattle.rule_commands.specs.Routes.{routed_step, route_step};
 ghost use Rattle.command_answers.specs.Stop.{ReturnsStep};
 

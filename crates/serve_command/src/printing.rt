@@ -17,8 +17,8 @@ use std::thread::Threads;
 
 /// Serves a match over the links of a net that come to this address, and prints how it ended; the
 /// status is returned. The invite says of how many clients, by which lag, seed and rules number the
-/// match is, and its worlds are those of the maker, which ask no lag. The console may kick clients, and
-/// the watch is told what happens. It returns only if its threads do.
+/// match is, and its worlds are those of the maker, which ask no lag. The console may kick clients,
+/// and the watch is told what happens. It returns only if its threads do.
 pub fn serve_over<
     M: Maker,
     K: Sink,

@@ -62,8 +62,8 @@ fn write_record<M: Maker, D: Disk>(
     }
 }
 
-/// Prints an answer of a match with these columns, and then writes the match's replay to the file of
-/// this name.
+/// Prints an answer of a match with these columns, and then writes the match's replay to the file
+/// of this name.
 fn print_recorded<M: Maker, D: Disk, K: Sink>(
     alloc: Global,
     invite: &Invite,
@@ -113,7 +113,8 @@ fn record_served<M: Maker, D: Disk, K: Sink, R: Wait>(
     requires few { length served.ends ≤ MAX_CLIENTS }
     requires over { IsOver invite.now.clients served.table served.pass }
     requires ready { AreReady (columns_of served.pass) (longest (columns_of served.pass)) }
-    ensures answers { AnswersReply (recorded_reply (match_from M.World.after M.World.hash_of M.World.summary_of
+    ensures answers { AnswersReply (recorded_reply (match_from M.World.after M.World.hash_of
+        M.World.summary_of
         (M.made maker.now invite.now.seed invite.now.clients) invite.now.clients) invite.now name.now (columns_of served.pass) served.ends served.sim served.board) result
         (D.state disk.old) (D.state disk.new) (K.state out.old) (K.state out.new) }
     ensures spelled { IsSpelled (match_from M.World.after M.World.hash_of M.World.summary_of
@@ -136,11 +137,11 @@ fn record_served<M: Maker, D: Disk, K: Sink, R: Wait>(
     }
 }
 
-/// Serves a match as [`serve_over`](crate::serve_over) does, prints how it ended, and then writes its
-/// replay to the file of this name: the agreed frames that the server ticked, and after each a mark
-/// with the hash of the world there. The frames are run once more for it. The status is that of the
-/// text, also where memory ran out for a link, unless the file can't be written. No file changes
-/// where the match was not played to its end, or a write of the text failed.
+/// Serves a match as [`serve_over`](crate::serve_over) does, prints how it ended, and then writes
+/// its replay to the file of this name: the agreed frames that the server ticked, and after each a
+/// mark with the hash of the world there. The frames are run once more for it. The status is that
+/// of the text, also where memory ran out for a link, unless the file can't be written. No file
+/// changes where the match was not played to its end, or a write of the text failed.
 pub fn serve_recorded<
     M: Maker,
     D: Disk,

@@ -29,8 +29,8 @@ const SECOND_HAS_LEFT: &[&[u8]] = &[SECOND_LEAVES, SECOND_LEAVES_FIRST];
 /// How the bytes of a sink end once both clients are seen to have left.
 const BOTH_HAVE_LEFT: &[&[u8]] = &[FIRST_LEAVES_FIRST, SECOND_LEAVES_FIRST];
 
-/// What the halves of a held link share: with which bytes its sink is to end, whether it has ended so,
-/// and whether the turns have ended in which its source waits for that.
+/// What the halves of a held link share: with which bytes its sink is to end, whether it has ended
+/// so, and whether the turns have ended in which its source waits for that.
 #[derive(Drop)]
 pub(crate) struct Hold {
     until: &'static [&'static [u8]],
@@ -90,7 +90,8 @@ impl<'a> Source for HeldSource<'a> {
     }
 }
 
-/// The sink of a link. If the link is held, its bytes end the hold, and another hold, if there is one.
+/// The sink of a link. If the link is held, its bytes end the hold, and another hold, if there is
+/// one.
 #[derive(Drop)]
 pub(crate) struct HeldSink<'a> {
     sink: MemSink,
@@ -198,8 +199,8 @@ pub(crate) const HELLO_AND_BYE: &[u8] =
 const LINES: &[u8] =
     b"kick 11\nkick 01\nkick  1\nKick 1\nkick 1 \nkick\nkick 2\nkick 99\nkick 1x\nkick 1\n";
 
-/// The last put to the first link, which has the welcome and two departures, fails or none does; and
-/// how often that link has then failed.
+/// The last put to the first link, which has the welcome and two departures, fails or none does;
+/// and how often that link has then failed.
 const FAILING: [(Option<Remains>, u64); 2] = [(None, 0), (Some(Remains::Prefix(3)), 1)];
 
 /// With a server that does not kick, the turns end.

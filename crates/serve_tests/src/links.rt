@@ -9,8 +9,9 @@ use std::test::Fail;
 const ONE_FRAME: &[u8] =
     b"\x0b\x00\x01\x02\x00\xdf\xb7\x01\x86\x4c\xbd\x63\xaf\x06\x00\x02\x00\x00\x00\x00\x00\x01\x00\x04";
 
-/// The bytes of the first link, how it ends and how many of them are taken, and the hash of the world
-/// after the match. The least world hashes to twice its steps, and one more where client 0 played last.
+/// The bytes of the first link, how it ends and how many of them are taken, and the hash of the
+/// world after the match. The least world hashes to twice its steps, and one more where client 0
+/// played last.
 const LINKS: [(&[u8], LinkEnd, u64, u64); 4] = [
     // two frames and the farewell
     (

@@ -46,8 +46,8 @@ fn add_link(
     net.add(Vec::from_slice(alloc, bytes)?, Vec::new(alloc), puts)
 }
 
-/// Serves a match of two clients over the least world, while the console gives these lines. The pass
-/// that is handed back has the whole share.
+/// Serves a match of two clients over the least world, while the console gives these lines. The
+/// pass that is handed back has the whole share.
 pub fn serve<N: Net, R: Threads + Wait + Sync>(
     rt: &R,
     alloc: Global,

@@ -1,4 +1,5 @@
-ghost use Rattle.std.specs.Prelude.{◌≡◌, ◌≢◌, ◌<◌, ◌↔◌, length, map, option_map, true, None, IsTrue};
+ghost use Rattle.std.specs.Prelude.{◌≡◌, ◌≢◌, ◌<◌, ◌↔◌, length, map, option_map, true, None};
+ghost use Rattle.std.specs.Prelude.{IsTrue};
 ghost use Rattle.std.specs.Prelude.{is_some};
 ghost use Rattle.std.specs.Prelude.{IfOk, OnOk, OnErr, IfErr};
 ghost use Rattle.std.specs.Option.{option_copied};
@@ -113,7 +114,8 @@ impl Stage {
     /// then nothing has changed.
     pub fn add_rules(&mut self, alloc: Global, bytes: &[u8]) -> Result<bool, NoMemory>
         requires { self.old.made ≡ None }
-        ensures room { IfOk result (λ added. IsTrue added ↔ (length self.old.rules < MAX_RULE_FILES)) }
+        ensures room { IfOk result (λ added. IsTrue added ↔
+            (length self.old.rules < MAX_RULE_FILES)) }
         ensures after { IfOk result (λ added. self.new ≡ with_rules self.old bytes.now) }
         ensures err { OnErr result (self.new ≡ self.old) }
     {

@@ -7,6 +7,7 @@ ghost use Rattle.shroud.specs.Laws.{FollowsAll, Update};
 /// nothing.
 #[tactic(auto, using(crate::specs::LawsLemmas::follows_all))]
 pub fn follows_all_worlds()
-    ensures { (rules : List Kind) (width height clients : ℕ) (updates : List Update) (last : Update) →
+    ensures { (rules : List Kind) (width height clients : ℕ) (updates : List Update) (last : Update)
+        →
         FollowsAll rules width height clients updates last }
 {}

@@ -1,5 +1,6 @@
 ghost use Rattle.std.specs.Prelude.{◌≡◌, ◌<◌, ◌≤◌, ◌+◌, ◌%◌, ◌^◌, ◌⊎◌, true, length, IfOk};
-ghost use Rattle.sync_hash.specs.Kept.{has_id, is_at, number_in, numbers_of, numbers_sum, place_for};
+ghost use Rattle.sync_hash.specs.Kept.{has_id, is_at, number_in, numbers_of, numbers_sum};
+ghost use Rattle.sync_hash.specs.Kept.{place_for};
 ghost use Rattle.sync_hash.specs.Kept.{with_number, with_numbers, without_number};
 
 use crate::actor_bytes::actor_number;

@@ -1,13 +1,15 @@
 ghost use Rattle.std.specs.Prelude.{◌≤◌, length};
 ghost use Rattle.std.specs.List.{All};
 ghost use Rattle.game_model.specs.World.{HasClients};
-ghost use Rattle.sync_hash.specs.FitsFields.{ActivityFits, ActorFits, BuildFits, FitsFields, LegFits};
+ghost use Rattle.sync_hash.specs.FitsFields.{ActivityFits, ActorFits, BuildFits, FitsFields};
+ghost use Rattle.sync_hash.specs.FitsFields.{LegFits};
 
 use activities::Activity;
 use game_model::{Actor, Build, Leg, MAX_ACTORS, World};
 
 /// A law of worlds that code holds: they fit the fields of the hashed bytes, if they have one cash
-/// and one departure flag for each of 1 to `MAX_CLIENTS` clients, and at most [`MAX_ACTORS`] actors.
+/// and one departure flag for each of 1 to `MAX_CLIENTS` clients, and at most [`MAX_ACTORS`]
+/// actors.
 pub fn world_fits(w: &World)
     requires clients { HasClients w.now }
     requires actors { length w.now.actors ≤ MAX_ACTORS }

@@ -25,10 +25,10 @@
 //! | cell with ore: x, y, ore | 1 each |
 //!
 //! The hash is the sum of the numbers of all these lists, modulo 2^64. [`world_hash`] computes it
-//! from nothing, and [`world_hash_1`] that of the first version, whose header has no pace. A [`Hasher`]
-//! keeps the number of each actor and each cell, is told of what changed alone, and gives the same
-//! hash at the cost of the header. The bytes are fed to the hash field by field, so that no call but
-//! [`Hasher::create`] takes memory.
+//! from nothing, and [`world_hash_1`] that of the first version, whose header has no pace. A
+//! [`Hasher`] keeps the number of each actor and each cell, is told of what changed alone, and
+//! gives the same hash at the cost of the header. The bytes are fed to the hash field by field, so
+//! that no call but [`Hasher::create`] takes memory.
 #![tactic(auto)]
 
 mod actor_bytes;

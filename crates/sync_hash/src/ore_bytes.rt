@@ -36,7 +36,8 @@ pub(crate) fn cell_at(width: u8, height: u8, place: usize) -> CPos
 
 /// The number of each cell, row by row.
 pub(crate) fn cell_numbers(alloc: Global, ore: &Ore) -> Result<Vec<u64>, NoMemory>
-    ensures value { IfOk result (λ numbers. numbers.items ≡ cell_numbers ore.now.width 0 ore.now.cells) }
+    ensures value { IfOk result (λ numbers. numbers.items ≡
+        cell_numbers ore.now.width 0 ore.now.cells) }
     ensures whole { IfOk result (λ numbers. length numbers.items ≡ ore.now.width * ore.now.height) }
 {
     let cells = ore.as_slice();

@@ -1,5 +1,6 @@
 //! No files, a list that is too large for a case, and the limit of a forest. All other files with
-//! what is printed of them, or with their fault, are recorded command lines in the crate `case_runs`.
+//! what is printed of them, or with their fault, are recorded command lines in the crate
+//! `case_runs`.
 
 use std::alloc::{AllocError, Global};
 use std::test::Fail;

@@ -103,7 +103,8 @@ impl Scene {
 
     /// The actor's first activity is a Move.
     fn walk(&mut self, id: u32, goal: CPos, waits: u8)
-        requires first { IsSomeAnd (living_of self.old.world.actors id) (DoesFirst (Move goal waits)) }
+        requires first { IsSomeAnd (living_of self.old.world.actors id)
+            (DoesFirst (Move goal waits)) }
         ensures { self.new ≡ record self.old {
           world = with_way self.old.setup self.old.world (living_of self.old.world.actors id);
         } }
@@ -125,7 +126,8 @@ impl Scene {
 
     /// The actor's first activity is an Attack.
     fn fight(&mut self, id: u32, target: u32, waits: u8)
-        requires first { IsSomeAnd (living_of self.old.world.actors id) (DoesFirst (Attack target waits)) }
+        requires first { IsSomeAnd (living_of self.old.world.actors id)
+            (DoesFirst (Attack target waits)) }
         requires drawn { self.old.world.drawn < 2 ^ 64 - 1 }
         ensures { self.new ≡ record self.old {
           world = with_way self.old.setup self.old.world (living_of self.old.world.actors id);

@@ -5,7 +5,8 @@ ghost use Rattle.game_model.specs.World.{living_of};
 ghost use Rattle.game_tick.specs.Acts.{acts_after, with_acts};
 ghost use Rattle.game_model.specs.Grid.{is_on};
 ghost use Rattle.game_orders.specs.declared.order.Order.TheVariants.{Attack, Harvest, Move, Stop};
-ghost use Rattle.game_tick.specs.Orders.{after_order, attacking, changed_if, harvesting, is_target, moving, own_of, stopping, told};
+ghost use Rattle.game_tick.specs.Orders.{after_order, attacking, changed_if, harvesting, is_target};
+ghost use Rattle.game_tick.specs.Orders.{moving, own_of, stopping, told};
 ghost use Rattle.rule_traits.specs.Rules.{moves};
 ghost use Rattle.game_model.specs.Kinds.{gathers, kind_of};
 ghost use Rattle.tick_core.specs.Ordered.{IsReady};
@@ -130,7 +131,8 @@ fn harvest_fits(rules: &Rules, map: &Map, kind: u16, cell: CPos) -> bool
 
 /// Whether an order to attack the actor of an id fits an actor.
 fn attack_fits(t: &ActorTable, rules: &Rules, a: &Actor, target: u32) -> bool
-    ensures { result ≡ (is_some (kind_of rules.now a.now.kind).armament && is_target rules.now a.now (living_of t.now.actors target)) }
+    ensures { result ≡ (is_some (kind_of rules.now a.now.kind).armament && is_target rules.now a.now
+        (living_of t.now.actors target)) }
 {
     is_armed(rules, a.kind) && is_target(t, rules, a, target)
 }
@@ -208,7 +210,10 @@ fn order_attack(
 
 /// A client's order to do nothing more, given to the actor of an id.
 fn order_stop(t: &mut ActorTable, rules: &Rules, client: u8, id: u32)
-    ensures { t.new ≡ record t.old { actors = changed_if rules.now t.old.actors stopping (own_of t.old.actors client id) } }
+    ensures { t.new ≡ record t.old {
+      actors = changed_if rules.now t.old.actors stopping
+          (own_of t.old.actors client id);
+    } }
 {
     let _ = rules;
     let Some(_) = own_of(t, client, id) else {
@@ -221,7 +226,10 @@ impl Scene {
     /// A client's order to move to a cell, given to the actor of an id.
     pub(crate) fn order_move(&mut self, client: u8, id: u32, cell: CPos, queued: bool)
         requires ready { IsReady self.old.setup self.old.world self.old.world }
-        ensures { self.new ≡ (record self.old { world = after_order self.old.setup self.old.world client (Move id cell queued) }) }
+        ensures { self.new ≡ (record self.old {
+          world = after_order self.old.setup self.old.world
+              client (Move id cell queued);
+        }) }
     {
         order_move(
             &mut self.table,
@@ -237,7 +245,10 @@ impl Scene {
     /// A client's order to attack the actor `target`, given to the actor of an id.
     pub(crate) fn order_attack(&mut self, client: u8, id: u32, target: u32, queued: bool)
         requires ready { IsReady self.old.setup self.old.world self.old.world }
-        ensures { self.new ≡ (record self.old { world = after_order self.old.setup self.old.world client (Attack id target queued) }) }
+        ensures { self.new ≡ (record self.old {
+          world = after_order self.old.setup self.old.world
+              client (Attack id target queued);
+        }) }
     {
         order_attack(
             &mut self.table,
@@ -253,7 +264,10 @@ impl Scene {
     /// A client's order to harvest a cell, given to the actor of an id.
     pub(crate) fn order_harvest(&mut self, client: u8, id: u32, cell: CPos, queued: bool)
         requires ready { IsReady self.old.setup self.old.world self.old.world }
-        ensures { self.new ≡ (record self.old { world = after_order self.old.setup self.old.world client (Harvest id cell queued) }) }
+        ensures { self.new ≡ (record self.old {
+          world = after_order self.old.setup self.old.world
+              client (Harvest id cell queued);
+        }) }
     {
         order_harvest(
             &mut self.table,
@@ -269,7 +283,10 @@ impl Scene {
     /// A client's order to do nothing more, given to the actor of an id.
     pub(crate) fn order_stop(&mut self, client: u8, id: u32)
         requires ready { IsReady self.old.setup self.old.world self.old.world }
-        ensures { self.new ≡ (record self.old { world = after_order self.old.setup self.old.world client (Stop id) }) }
+        ensures { self.new ≡ (record self.old {
+          world = after_order self.old.setup self.old.world
+              client (Stop id);
+        }) }
     {
         order_stop(&mut self.table, &self.rules, client, id);
     }

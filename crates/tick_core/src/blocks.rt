@@ -43,7 +43,8 @@ pub(crate) fn blocks_of(
 /// Marks the cell of an actor that is a building.
 fn mark(blocks: &mut Blocks, rules: &Rules, a: &Actor)
     requires { IsOn blocks.old.width blocks.old.height a.now.cell }
-    ensures { blocks.new ≡ (if is_building rules.now a.now then with_cell blocks.old a.now.cell true else blocks.old) }
+    ensures { blocks.new ≡ (if is_building rules.now a.now then with_cell blocks.old a.now.cell true
+        else blocks.old) }
 {
     if is_building(rules, a) {
         blocks.set(a.cell, true);
@@ -53,7 +54,8 @@ fn mark(blocks: &mut Blocks, rules: &Rules, a: &Actor)
 /// Clears the cell of an actor that is a building without health.
 fn unmark(blocks: &mut Blocks, rules: &Rules, a: &Actor)
     requires { IsOn blocks.old.width blocks.old.height a.now.cell }
-    ensures { blocks.new ≡ (if not (is_alive a.now) && is_building rules.now a.now then with_cell blocks.old a.now.cell false else blocks.old) }
+    ensures { blocks.new ≡ (if not (is_alive a.now) && is_building rules.now a.now then with_cell
+        blocks.old a.now.cell false else blocks.old) }
 {
     if !is_alive(a) && is_building(rules, a) {
         blocks.set(a.cell, false);

@@ -35,7 +35,10 @@ impl Scene {
     /// Takes the numbers of the actors without health out.
     fn forget_the_dead(&self, hasher: &mut Hasher)
         requires { hasher.old.actors ≡ map numbered self.now.world.actors }
-        ensures { hasher.new ≡ (record hasher.old { actors = map numbered (filter is_alive self.now.world.actors) }) }
+        ensures { hasher.new ≡ (record hasher.old {
+          actors = map numbered
+              (filter is_alive self.now.world.actors);
+        }) }
     {
         forget_the_dead(&self.table, hasher);
     }
@@ -44,7 +47,10 @@ impl Scene {
 /// Takes the numbers of the actors without health out.
 fn forget_the_dead(table: &ActorTable, hasher: &mut Hasher)
     requires { hasher.old.actors ≡ map numbered table.now.actors }
-    ensures { hasher.new ≡ (record hasher.old { actors = map numbered (filter is_alive table.now.actors) }) }
+    ensures { hasher.new ≡ (record hasher.old {
+      actors = map numbered
+          (filter is_alive table.now.actors);
+    }) }
 {
     for i in 0..table.len() {
         let Some(actor) = table.nth_actor(i) else {

@@ -143,7 +143,8 @@ impl Game {
     /// All of the world but its actors and its ore. The world is valid after as many frames as the
     /// game has made steps.
     pub fn head(&self) -> &Head
-        ensures value { world_with result.now self.now.world.actors self.now.world.ore ≡ self.now.world }
+        ensures value { world_with result.now self.now.world.actors self.now.world.ore ≡
+            self.now.world }
         ensures valid { IsValidWorld self.now.setup self.now.steps self.now.world }
         ensures clients { HasClients self.now.world }
     {

@@ -1,5 +1,6 @@
 ghost use Rattle.std.specs.Prelude.{◌≡◌, ◌≤◌, length, IfOk};
-ghost use Rattle.game_model.specs.World.{full_health_of, new_body, opening_actors, owner_in, start_of};
+ghost use Rattle.game_model.specs.World.{full_health_of, new_body, opening_actors, owner_in};
+ghost use Rattle.game_model.specs.World.{start_of};
 ghost use Rattle.game_orders.specs.declared.limits.TheConstants.{MAX_CLIENTS};
 ghost use Rattle.rule_traits.specs.Rules.{kind_at};
 
@@ -12,8 +13,8 @@ use game_model::{
 use rule_traits::Rules;
 use std::alloc::Global;
 
-/// The opening world of a match: tick 0, nothing drawn, nobody departed, one turn a frame, the map's
-/// cash for each client, the map's ore, and the map's actors with ids from 1 on.
+/// The opening world of a match: tick 0, nothing drawn, nobody departed, one turn a frame, the
+/// map's cash for each client, the map's ore, and the map's actors with ids from 1 on.
 #[tactic(auto, unfolding(game_model::specs::World::start_of))]
 pub(crate) fn opening_world(
     alloc: Global,
@@ -68,7 +69,8 @@ fn opening_actors(
 
 /// The body of an actor of the map: at full health, with nothing to do.
 fn opening_body(rules: &Rules, start: &Start, clients: u8) -> Body
-    ensures { result ≡ new_body (owner_in clients start.now.owner) start.now.facing (full_health_of (kind_at rules.now start.now.kind)) }
+    ensures { result ≡ new_body (owner_in clients start.now.owner) start.now.facing
+        (full_health_of (kind_at rules.now start.now.kind)) }
 {
     Body {
         owner: owner_in(clients, start.owner),

@@ -15,7 +15,10 @@ impl Scene {
     pub(crate) fn apply_order(&mut self, client: u8, order: &Order)
         requires client { client < clients_of self.old.world }
         requires ready { IsReady self.old.setup self.old.world self.old.world }
-        ensures { self.new ≡ (record self.old { world = after_order self.old.setup self.old.world client order.now }) }
+        ensures { self.new ≡ (record self.old {
+          world = after_order self.old.setup self.old.world
+              client order.now;
+        }) }
     {
         match order {
             Order::Move {
@@ -45,7 +48,10 @@ impl Scene {
     fn order_produce(&mut self, client: u8, id: u32, kind: u16)
         requires client { client < clients_of self.old.world }
         requires ready { IsReady self.old.setup self.old.world self.old.world }
-        ensures { self.new ≡ (record self.old { world = after_order self.old.setup self.old.world client (Produce id kind) }) }
+        ensures { self.new ≡ (record self.old {
+          world = after_order self.old.setup self.old.world
+              client (Produce id kind);
+        }) }
     {
         let head = &mut self.head;
         produce(
@@ -61,7 +67,10 @@ impl Scene {
     /// A client's order to take back the last build of the actor of an id.
     fn order_cancel(&mut self, client: u8, id: u32)
         requires ready { IsReady self.old.setup self.old.world self.old.world }
-        ensures { self.new ≡ (record self.old { world = after_order self.old.setup self.old.world client (Cancel id) }) }
+        ensures { self.new ≡ (record self.old {
+          world = after_order self.old.setup self.old.world
+              client (Cancel id);
+        }) }
     {
         let head = &mut self.head;
         cancel(&mut self.table, &mut head.cash, &self.rules, client, id);
@@ -70,7 +79,10 @@ impl Scene {
     /// Sets the pace of the frames that follow, where the host sets it within its limits.
     fn set_pace(&mut self, client: u8, ticks: u8)
         requires ready { IsReady self.old.setup self.old.world self.old.world }
-        ensures { self.new ≡ (record self.old { world = after_order self.old.setup self.old.world client (Pace ticks) }) }
+        ensures { self.new ≡ (record self.old {
+          world = after_order self.old.setup self.old.world
+              client (Pace ticks);
+        }) }
     {
         if client == 0 && (1..=MAX_PACE).contains(&ticks) {
             self.head.pace = ticks;
@@ -81,7 +93,10 @@ impl Scene {
     fn donate(&mut self, client: u8, to: u8, amount: u32)
         requires client { client < clients_of self.old.world }
         requires ready { IsReady self.old.setup self.old.world self.old.world }
-        ensures { self.new ≡ (record self.old { world = after_order self.old.setup self.old.world client (Donate to amount) }) }
+        ensures { self.new ≡ (record self.old {
+          world = after_order self.old.setup self.old.world
+              client (Donate to amount);
+        }) }
     {
         if self.donation_fits(client, to, amount) {
             let left = self.head.cash.get(client) - amount;

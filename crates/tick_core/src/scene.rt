@@ -197,7 +197,10 @@ impl Scene {
     /// One turn more.
     pub(crate) fn count_turn(&mut self)
         requires { self.old.world.tick + 1 < 2 ^ 32 }
-        ensures { self.new ≡ (record self.old { world = record self.old.world { tick = self.old.world.tick + 1 } }) }
+        ensures { self.new ≡ (record self.old {
+          world = record self.old.world
+              { tick = self.old.world.tick + 1 };
+        }) }
     {
         self.head.tick += 1;
     }

@@ -31,7 +31,9 @@ impl LiveWorld {
         requires more { self.old.world.tick + self.old.world.pace < 2 ^ 32 }
         requires draws { self.old.world.drawn + 2 ^ 16 < 2 ^ 64 }
         requires ready { IsReady self.old.setup self.old.world self.old.world }
-        ensures { self.new ≡ (record self.old { world = tick_of self.old.setup self.old.world f.now }) }
+        ensures { self.new ≡ (record self.old {
+          world = tick_of self.old.setup self.old.world f.now;
+        }) }
     {
         let turns = self.scene.head.pace;
         self.let_depart(f);
@@ -59,7 +61,10 @@ impl LiveWorld {
     fn apply_plays(&mut self, f: &Frame)
         requires whole { length f.now ≡ clients_of self.old.world }
         requires ready { IsReady self.old.setup self.old.world self.old.world }
-        ensures world { self.new ≡ (record self.old { world = with_orders self.old.setup self.old.world f.now }) }
+        ensures world { self.new ≡ (record self.old {
+          world = with_orders self.old.setup
+              self.old.world f.now;
+        }) }
         ensures ready { IsReady self.old.setup self.old.world self.new.world }
     {
         for c in 0..self.clients() {
@@ -73,7 +78,10 @@ impl LiveWorld {
     fn apply_entry(&mut self, client: u8, entry: &Entry)
         requires client { client < clients_of self.old.world }
         requires ready { IsReady self.old.setup self.old.world self.old.world }
-        ensures { self.new ≡ (record self.old { world = after_entry self.old.setup self.old.world client entry.now }) }
+        ensures { self.new ≡ (record self.old {
+          world = after_entry self.old.setup self.old.world
+              client entry.now;
+        }) }
     {
         match entry {
             Entry::Play(orders) => self.apply_orders(client, orders),
@@ -85,7 +93,10 @@ impl LiveWorld {
     fn apply_orders(&mut self, client: u8, orders: &Orders)
         requires client { client < clients_of self.old.world }
         requires ready { IsReady self.old.setup self.old.world self.old.world }
-        ensures { self.new ≡ (record self.old { world = after_orders self.old.setup self.old.world client orders.now }) }
+        ensures { self.new ≡ (record self.old {
+          world = after_orders self.old.setup self.old.world
+              client orders.now;
+        }) }
     {
         for i in 0..orders.len() {
             if let Some(order) = orders.get(i) {
@@ -98,7 +109,10 @@ impl LiveWorld {
     fn apply_order(&mut self, client: u8, order: &Order)
         requires client { client < clients_of self.old.world }
         requires ready { IsReady self.old.setup self.old.world self.old.world }
-        ensures { self.new ≡ (record self.old { world = after_order self.old.setup self.old.world client order.now }) }
+        ensures { self.new ≡ (record self.old {
+          world = after_order self.old.setup self.old.world
+              client order.now;
+        }) }
     {
         self.scene.apply_order(client, order);
         let subject = subject_of(order);
@@ -111,7 +125,10 @@ impl LiveWorld {
     fn run_turns(&mut self, turns: u8)
         requires tick { self.old.world.tick + turns < 2 ^ 32 }
         requires draws { self.old.world.drawn + 2 ^ 12 * turns < 2 ^ 64 }
-        ensures { self.new ≡ (record self.old { world = after_turns self.old.setup turns self.old.world }) }
+        ensures { self.new ≡ (record self.old {
+          world = after_turns self.old.setup turns
+              self.old.world;
+        }) }
     {
         for _turn in 0..turns {
             self.run_turn();

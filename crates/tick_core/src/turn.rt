@@ -1,4 +1,6 @@
-ghost use Rattle.std.specs.Prelude.{◌≡◌, ℕ, ◌==◌, ◌+◌, ◌-◌, ◌≤◌, ◌<◌, ◌^◌, ◌&&◌, ◌||◌, [], true, false, not, if◌then◌else◌, is_some, length, map, slice_get, IfSome, None, Some};
+ghost use Rattle.std.specs.Prelude.{◌≡◌, ℕ, ◌==◌, ◌+◌, ◌-◌, ◌≤◌, ◌<◌, ◌^◌, ◌&&◌, ◌||◌, [], true};
+ghost use Rattle.std.specs.Prelude.{false, not, if◌then◌else◌, is_some, length, map, slice_get};
+ghost use Rattle.std.specs.Prelude.{IfSome, None, Some};
 ghost use Rattle.actor_table.specs.Idle.{IsIdle};
 ghost use Rattle.game_model.specs.declared.actor.Actor.{Actor};
 ghost use Rattle.game_model.specs.Grid.{IsOn};
@@ -9,7 +11,8 @@ ghost use Rattle.game_tick.specs.Turn.{after_step, after_steps, after_turn};
 ghost use Rattle.sync_hash.specs.Kept.{numbered};
 ghost use Rattle.tick_core.specs.Live.{AreLive, LivesOf};
 ghost use Rattle.tick_core.specs.Scene.{IsActing};
-ghost use Rattle.tick_core.specs.Telling.{HasPlaceFor, cell_of, target_of, told_of, told_ore, with_some};
+ghost use Rattle.tick_core.specs.Telling.{HasPlaceFor, cell_of, target_of, told_of, told_ore};
+ghost use Rattle.tick_core.specs.Telling.{with_some};
 ghost use Rattle.tick_core.specs.Touched.{KeptBut};
 ghost use Rattle.tick_core.specs.Waiting.{IsDone, IsWaiting};
 
@@ -77,8 +80,8 @@ fn effects_of(table: &ActorTable, id: u32) -> StepEffects
     }
 }
 
-/// Whether the actor of an id, if it lives, waits for a unit that it has built, and has nothing else
-/// to do.
+/// Whether the actor of an id, if it lives, waits for a unit that it has built, and has nothing
+/// else to do.
 fn is_waiting(table: &ActorTable, id: u32) -> bool
     ensures { result ≡ true → IfSome (living_of table.now.actors id) IsWaiting }
 {
@@ -141,12 +144,14 @@ fn update_actor_numbers(
     target: Option<u32>,
     added: Option<u32>,
 ) -> bool
-    requires { KeptBut (with_some id (with_some target (with_some added []))) hasher.old.actors table.now.actors }
+    requires { KeptBut (with_some id (with_some target (with_some added []))) hasher.old.actors
+        table.now.actors }
     ensures numbers { hasher.new.actors ≡ map numbered table.now.actors }
     ensures cells { hasher.new.cells ≡ hasher.old.cells }
     ensures width { hasher.new.width ≡ hasher.old.width }
     ensures height { hasher.new.height ≡ hasher.old.height }
-    ensures living { result ≡ false → AreLive (with_some id (with_some target (with_some added []))) table.now.actors }
+    ensures living { result ≡ false → AreLive (with_some id (with_some target (with_some added [])))
+        table.now.actors }
 {
     let _ids_rise = table.len();
     let own = update_actor_number(table, hasher, id);
@@ -210,8 +215,8 @@ impl Scene {
         effects_of(&self.table, id)
     }
 
-    /// Whether it is known that a step leaves the actor at a place as it is. It takes no look at the
-    /// actor.
+    /// Whether it is known that a step leaves the actor at a place as it is. It takes no look at
+    /// the actor.
     fn is_idle_at(&self, i: usize) -> bool
         ensures { (id : ℕ) → result ≡ true → slice_get (ids_of self.now.world.actors) i ≡ Some id →
             IfSome (living_of self.now.world.actors id) IsIdle }
@@ -219,8 +224,8 @@ impl Scene {
         is_idle_at(&self.table, i)
     }
 
-    /// Whether the actor at a place, which has this id, lives. It is found at once, where an id would
-    /// be searched.
+    /// Whether the actor at a place, which has this id, lives. It is found at once, where an id
+    /// would be searched.
     fn lives_at(&self, i: usize, id: u32) -> bool
         requires { slice_get (ids_of self.now.world.actors) i ≡ Some id }
         ensures { result ≡ false → IfSome (living_of self.now.world.actors id) IsIdle }
@@ -245,12 +250,14 @@ impl Scene {
         target: Option<u32>,
         added: Option<u32>,
     ) -> bool
-        requires { KeptBut (with_some id (with_some target (with_some added []))) hasher.old.actors self.now.world.actors }
+        requires { KeptBut (with_some id (with_some target (with_some added []))) hasher.old.actors
+            self.now.world.actors }
         ensures numbers { hasher.new.actors ≡ map numbered self.now.world.actors }
         ensures cells { hasher.new.cells ≡ hasher.old.cells }
         ensures width { hasher.new.width ≡ hasher.old.width }
         ensures height { hasher.new.height ≡ hasher.old.height }
-        ensures living { result ≡ false → AreLive (with_some id (with_some target (with_some added []))) self.now.world.actors }
+        ensures living { result ≡ false → AreLive (with_some id
+            (with_some target (with_some added []))) self.now.world.actors }
     {
         update_actor_numbers(&self.table, hasher, id, target, added)
     }
@@ -272,7 +279,10 @@ impl LiveWorld {
     pub(crate) fn run_turn(&mut self)
         requires tick { self.old.world.tick + 1 < 2 ^ 32 }
         requires draws { self.old.world.drawn + 2 ^ 12 < 2 ^ 64 }
-        ensures world { self.new ≡ (record self.old { world = after_turn self.old.setup self.old.world }) }
+        ensures world { self.new ≡ (record self.old {
+          world = after_turn self.old.setup
+              self.old.world;
+        }) }
         ensures drawn { self.new.world.drawn ≤ self.old.world.drawn + MAX_ACTORS }
     {
         self.step_all();
@@ -283,7 +293,10 @@ impl LiveWorld {
     /// Each actor that is there makes its step, by rising id.
     fn step_all(&mut self)
         requires { self.old.world.drawn + 2 ^ 12 < 2 ^ 64 }
-        ensures world { self.new ≡ (record self.old { world = after_steps self.old.setup self.old.world (ids_of self.old.world.actors) }) }
+        ensures world { self.new ≡ (record self.old {
+          world = after_steps self.old.setup
+              self.old.world (ids_of self.old.world.actors);
+        }) }
         ensures few { length self.old.world.actors ≤ MAX_ACTORS }
     {
         for i in 0..self.scene.actors() {
@@ -294,7 +307,10 @@ impl LiveWorld {
     /// One turn more.
     fn count_turn(&mut self)
         requires { self.old.world.tick + 1 < 2 ^ 32 }
-        ensures { self.new ≡ (record self.old { world = record self.old.world { tick = self.old.world.tick + 1 } }) }
+        ensures { self.new ≡ (record self.old {
+          world = record self.old.world
+              { tick = self.old.world.tick + 1 };
+        }) }
     {
         self.scene.count_turn();
     }
@@ -320,11 +336,14 @@ impl LiveWorld {
         }
     }
 
-    /// The step of the actor of an id by its parts, and the telling: of the actor itself where it may
-    /// have changed, of who was hit, and of who came out. It is noted where one of them has died.
+    /// The step of the actor of an id by its parts, and the telling: of the actor itself where it
+    /// may have changed, of who was hit, and of who came out. It is noted where one of them has
+    /// died.
     fn step_busy(&mut self, id: u32)
         requires { self.old.world.drawn < 2 ^ 64 - 1 }
-        ensures { self.new ≡ (record self.old { world = after_step self.old.setup self.old.world id }) }
+        ensures { self.new ≡ (record self.old {
+          world = after_step self.old.setup self.old.world id;
+        }) }
     {
         self.scene.recall_invariant();
         let next_id = self.scene.next_id();

@@ -25,10 +25,10 @@ use std::fmt::Write;
 use tick_core::{Game, GameMaker};
 use world_text::{PrintFault, Printer};
 
-/// The command `worlds` over the bytes of a replay's file with this name, of a match with this rules
-/// number: prints the kinds and the map, the world after each number of frames from `from` on in
-/// steps of `every`, at most `to` or else all, and how many worlds those are. `every` 0 is as 1. It
-/// returns:
+/// The command `worlds` over the bytes of a replay's file with this name, of a match with this
+/// rules number: prints the kinds and the map, the world after each number of frames from `from` on
+/// in steps of `every`, at most `to` or else all, and how many worlds those are. `every` 0 is as 1.
+/// It returns:
 ///
 /// - `DONE`, exactly the text was printed;
 /// - `REFUSED_FILE`, the file is refused and that was printed: with its first fault, as
@@ -36,8 +36,8 @@ use world_text::{PrintFault, Printer};
 /// - `FAULT_WRITE`, a write failed, and a prefix of the text was printed;
 /// - `OUT_OF_MEMORY`, a prefix was printed.
 ///
-/// Beside the bytes and the replay that is read of them it takes memory for one world and a piece of
-/// text, however long that replay is.
+/// Beside the bytes and the replay that is read of them it takes memory for one world and a piece
+/// of text, however long that replay is.
 pub fn print_worlds<K: Sink>(
     alloc: Global,
     name: &str,

@@ -89,8 +89,9 @@ pub(super) static ASKED_OFTEN: [Part; 3] = [
     },
 ];
 
-/// Goals of which the last four are kept at first, and one more whenever one comes back, at most 32: of
-/// the first 32 goals 28 are searched for twice. None of the walks to them enters the cells asked from.
+/// Goals of which the last four are kept at first, and one more whenever one comes back, at most
+/// 32: of the first 32 goals 28 are searched for twice. None of the walks to them enters the cells
+/// asked from.
 pub(super) static MANY_GOALS: [Part; 4] = [
     Part {
         building: None,

@@ -1,7 +1,7 @@
 use Rattle.std.proofs.Common.{subst, sym, arith}
 use Rattle.order_packets.specs.Feed.{Fed}
 use Rattle.match_net.specs.declared.piece.Piece.{Piece}
-use Rattle.match_net.specs.Taking.{Counts, TakesPiece}
+use Rattle.match_net.specs.PieceTaking.{Counts, TakesPiece}
 use Rattle.match_net.proofs.GreetingLemmas.{Waiting, waiting_first, greets_decided, greets_ended, greets_lost, spilled}
 use Rattle.match_net.proofs.first_packet.greet_counted.Goals as goal
 

@@ -1,5 +1,6 @@
 use Rattle.std.proofs.Common.{ℕ, List, drop, Option, subst, ap, sym, ◌∙◌}
 use Rattle.std.specs.Option.{option_map}
+use Rattle.game_io.specs.NetState.{NetState}
 use Rattle.report_line.specs.declared.reports.Reports.{Reports}
 use Rattle.report_line.specs.Reports.{AreNewEnds}
 use Rattle.match_serve.specs.Seats.{PieceState, AreNewPieces}
@@ -23,4 +24,4 @@ returns-clause-served g c =
     let same = c.listen.ensures.coming in
     c.in_ok-served.ensures.served (g.N.Net.state c.args.net.now).coming
     (subst (λ (k : Option (List (List ℕ))). AreNewPieces c.args.invite.now.clients c.in_ok-table.table c.args.invite.now c.in_ok-reports.field-0.receiver k 0 c.into_vec-2.result.items) same all)
-    (c.in_ok-pieces.ensures.coming ∙ ap (option_map (drop c.args.invite.now.clients)) same)
+    (ap (λ (n : NetState). n.coming) c.stop_listening.ensures ∙ c.in_ok-pieces.ensures.coming ∙ ap (option_map (drop c.args.invite.now.clients)) same)

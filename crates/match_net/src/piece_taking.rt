@@ -1,7 +1,7 @@
 //! How bytes go from a link to a feeder.
 ghost use Rattle.std.specs.Prelude.{◌≡◌, ◌<◌, ◌≤◌, ◌+◌, ◌^◌, None, length, IfOk, OnErr};
 ghost use Rattle.match_net.specs.declared.limits.TheConstants.{PIECE_BYTES};
-ghost use Rattle.match_net.specs.Taking.{Counts, TakesPiece, TookAtMost};
+ghost use Rattle.match_net.specs.PieceTaking.{Counts, TakesPiece, TookAtMost};
 
 use crate::limits::PIECE_BYTES;
 use crate::piece::Piece;

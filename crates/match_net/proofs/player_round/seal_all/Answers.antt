@@ -1,6 +1,6 @@
 use Rattle.std.proofs.Common.{arith}
 use Rattle.match_net.proofs.TickLemmas.{sealed_step, sealed_end}
-use Rattle.match_net.proofs.rounds.seal_all.Goals as goal
+use Rattle.match_net.proofs.player_round.seal_all.Goals as goal
 
 pub loop-n-preserved : goal.loop-n-preserved
 loop-n-preserved g c =

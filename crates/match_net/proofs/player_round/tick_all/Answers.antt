@@ -1,6 +1,6 @@
 use Rattle.std.proofs.Common.{sym, ◌∙◌, arith}
 use Rattle.match_net.proofs.TickLemmas.{ticks_step, ticks_stop, ticks_end}
-use Rattle.match_net.proofs.rounds.tick_all.Goals as goal
+use Rattle.match_net.proofs.player_round.tick_all.Goals as goal
 
 pub loop-turn-preserved : goal.loop-turn-preserved
 loop-turn-preserved g c =

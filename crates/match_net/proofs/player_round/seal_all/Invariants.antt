@@ -1,6 +1,6 @@
 use Rattle.std.proofs.Common.{◌≡◌, ◌-◌, ◌++◌}
 use Rattle.match_net.specs.Playing.{sealed_bytes}
-use Rattle.match_net.proofs.rounds.seal_all.Given as goal
+use Rattle.match_net.proofs.player_round.seal_all.Given as goal
 
 abbrev pub invariant-loop-n : goal.invariant-loop-n
 invariant-loop-n g l =

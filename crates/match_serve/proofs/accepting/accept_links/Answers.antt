@@ -1,6 +1,6 @@
 use Rattle.std.proofs.Common.{arith}
 use Rattle.match_serve.proofs.AcceptLemmas.{accepted_none, accepted_more, accepted_first, first_end, four_left, two_left}
-use Rattle.match_serve.proofs.accepting.accept_each.Goals as goal
+use Rattle.match_serve.proofs.accepting.accept_links.Goals as goal
 
 pub loop-client-init : goal.loop-client-init
 loop-client-init g c = rw c.new-pieces.ensures (accepted_none _ _ _ _ _ c.requires.opening c.requires.share c.requires.none_given c.requires.ends)

@@ -1,6 +1,6 @@
 use Rattle.std.proofs.Common.{rules}
-use Rattle.match_net.proofs.TakingLemmas.{wider_ok, wider_err}
-use Rattle.match_net.proofs.taking.take_counted.Goals as goal
+use Rattle.match_net.proofs.PieceTakingLemmas.{wider_ok, wider_err}
+use Rattle.match_net.proofs.piece_taking.take_counted.Goals as goal
 
 pub returns-clause-ok : goal.returns-clause-ok
 returns-clause-ok g c = wider_ok _ _ _ _ _ _ _ _ _ (search rules) c.feed_from.ensures.ok

@@ -1,7 +1,7 @@
 use Rattle.std.proofs.Common.{◌≡◌, ◌-◌}
 use Rattle.game_orders.specs.declared.limits.TheConstants.{MAX_FRAMES}
 use Rattle.match_net.specs.Playing.{telling, ticks}
-use Rattle.match_net.proofs.rounds.tick_all.Given as goal
+use Rattle.match_net.proofs.player_round.tick_all.Given as goal
 
 abbrev pub invariant-loop-turn : goal.invariant-loop-turn
 invariant-loop-turn g l =

@@ -6,7 +6,7 @@ use Rattle.std.specs.Option.{option_map}
 use Rattle.game_io.specs.SourceState.{SourceState}
 use Rattle.order_packets.specs.Feed.{Fed}
 use Rattle.match_net.specs.declared.piece.Piece.{Piece}
-use Rattle.match_net.specs.Taking.{Took, Counts, TookAtMost, TakesPiece}
+use Rattle.match_net.specs.PieceTaking.{Took, Counts, TookAtMost, TakesPiece}
 
 -- Before the first piece nothing is taken.
 pub took_nothing : (left : Option (List ℕ)) → Took left left []

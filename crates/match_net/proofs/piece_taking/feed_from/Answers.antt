@@ -1,9 +1,9 @@
 use Rattle.std.proofs.Common.{length, take, rules, ap, arith}
 use Rattle.std.proofs.lemmas.List.{length-take}
 use Rattle.match_net.specs.declared.piece.Piece.TheVariants as piece
-use Rattle.match_net.specs.Taking.{TakesPiece}
-use Rattle.match_net.proofs.TakingLemmas.{took_so}
-use Rattle.match_net.proofs.taking.feed_from.Goals as goal
+use Rattle.match_net.specs.PieceTaking.{TakesPiece}
+use Rattle.match_net.proofs.PieceTakingLemmas.{took_so}
+use Rattle.match_net.proofs.piece_taking.feed_from.Goals as goal
 
 pub returns-in-Ok-eq0-clause-ok : goal.returns-in-Ok-eq0-clause-ok
 returns-in-Ok-eq0-clause-ok g c =
