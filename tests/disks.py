@@ -1,5 +1,5 @@
 """What is left of a file that is written over while its disk fills or the program is killed, and servers and players
-whose output goes away. It takes minutes, so it is run by `tests/run --long`, or by itself: disks.py PROGRAM."""
+whose output goes away. The kills take minutes, so they are run with `--long` alone. By itself: disks.py [--long] PROGRAM."""
 import contextlib, os, random, re, signal, subprocess, sys, tempfile, time
 
 from harness import PATIENCE, Ran, free_address, lacking, run, with_examples
@@ -186,15 +186,16 @@ class Disks:
             self.tally.check(f'{name} | head -n 1', ran.status in wanted, ran)
 
 
-def run_all(tally, program):
+def run_all(tally, program, is_long):
     with tempfile.TemporaryDirectory() as folder:
         it = Disks(tally, program, folder)
         if os.geteuid():
             tally.skip('disks that fill', 'only the superuser may mount one')
         else:
             it.of_full()
-        it.of_kills_at_calls()
-        it.of_kills()
+        if is_long:
+            it.of_kills_at_calls()
+            it.of_kills()
         it.of_left()
         it.of_outputs()
         it.of_heads()
@@ -203,6 +204,6 @@ def run_all(tally, program):
 if __name__ == '__main__':
     from harness import Tally
     told = Tally()
-    run_all(told, os.path.abspath(sys.argv[1]))
+    run_all(told, os.path.abspath(sys.argv[-1]), '--long' in sys.argv)
     print(f'{told.passed} passed, {told.failed} failed, {told.skipped} skipped')
     sys.exit(1 if told.failed else 0)

@@ -6,10 +6,11 @@ use Rattle.game_model.specs.declared.actor.Actor.{Actor}
 use Rattle.game_model.specs.declared.actor.Leg.{Leg}
 use Rattle.tick_core.specs.Game.{GameState}
 use Rattle.c_worlds.specs.declared.actors.CActor.{CActor}
+use Rattle.c_worlds.specs.declared.actors.TheConstants.{NO_DIRECTION}
 
--- 8: it is on no leg.
+-- The direction of a leg.
 abbrev pub dir_of : Option Leg → ℕ
-dir_of None = 8
+dir_of None = NO_DIRECTION
 dir_of (Some leg) = leg.dir
 
 abbrev pub progress_of : Option Leg → ℕ

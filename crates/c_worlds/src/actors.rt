@@ -10,6 +10,9 @@ use game_model::{Actor, Leg};
 use std::alloc::Global;
 use tick_core::Game;
 
+/// The direction of an actor that is on no leg.
+pub const NO_DIRECTION: u32 = 8;
+
 /// An actor, as C reads it.
 #[repr(C)]
 #[derive(Drop)]
@@ -18,7 +21,7 @@ pub struct CActor {
     pub id: u32,
     /// The number of its kind, from 0.
     pub kind: u32,
-    /// The client that owns it, or 255.
+    /// The client that owns it, or 255 where it is neutral.
     pub owner: u32,
     /// The column of its cell: on a leg that of the leg's end.
     pub x: u32,
@@ -44,15 +47,17 @@ pub struct CActor {
     pub builds: u32,
 }
 
+/// The direction of a leg, or [`NO_DIRECTION`].
 fn dir(leg: Option<Leg>) -> u32
     ensures { result ≡ dir_of leg }
 {
     match leg {
         Some(leg) => u32::from(leg.dir),
-        None => 8,
+        None => NO_DIRECTION,
     }
 }
 
+/// The units of a leg that lie behind, or 0 without a leg.
 fn progress(leg: Option<Leg>) -> u32
     ensures { result ≡ progress_of leg }
 {
@@ -62,6 +67,7 @@ fn progress(leg: Option<Leg>) -> u32
     }
 }
 
+/// The number of the first activity, or 0 where there is none.
 fn doing(acts: &Queue) -> u32
     ensures { result ≡ doing_of acts.now }
 {
@@ -74,6 +80,7 @@ fn doing(acts: &Queue) -> u32
     }
 }
 
+/// An actor as C reads it.
 fn c_actor(a: &Actor) -> CActor
     ensures { result ≡ c_actor_of a.now }
 {
@@ -95,7 +102,7 @@ fn c_actor(a: &Actor) -> CActor
     }
 }
 
-/// Writes all actors by rising id to the front.
+/// Writes all actors by rising id to the beginning of an array.
 fn write_actors(game: &Game, out: &mut [CActor])
     requires { length game.now.world.actors ≤ length out.old }
     ensures { out.new ≡ map c_actor_of game.now.world.actors

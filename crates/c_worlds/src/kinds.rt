@@ -109,6 +109,7 @@ fn last_traits(kind: &Kind) -> u32
         + 16 * flag(kind, Trait::RevealsShroud)
 }
 
+/// A kind as C reads it.
 fn c_kind(kind: &Kind) -> CKind
     ensures { result ≡ c_kind_of kind.now }
 {
@@ -144,6 +145,7 @@ fn c_kind(kind: &Kind) -> CKind
     }
 }
 
+/// Writes a kind, where the rules have its number.
 fn kind_to(made: &Made, kind: u32, out: &mut CKind) -> u32
     ensures code { result ≡ one_code (kind_told kind made.now) }
     ensures out { out.new ≡ one_out (kind_told kind made.now) out.old }
@@ -175,6 +177,7 @@ pub fn setup_kind(setup: &mut Object, alloc: Global, kind: u32, out: &mut CKind)
     code
 }
 
+/// Writes the name of a kind and its length, where the rules have its number.
 fn name_to(made: &Made, kind: u32, out: &mut [u8], needed: &mut usize) -> u32
     ensures code { result ≡ list_code (name_told kind made.now) (length out.old) }
     ensures out { out.new ≡ list_out (name_told kind made.now) out.old }

@@ -47,6 +47,7 @@ fn code_of(added: Result<bool, NoMemory>) -> u32
     }
 }
 
+/// Adds a copy of a file to a setup, as [`setup_add`] does.
 fn add_to(stage: &mut Stage, alloc: Global, what: u32, bytes: &[u8]) -> u32
     ensures code { result ≢ NO_MEMORY → result ≡ stage_add_code stage.old what }
     ensures after { result ≢ NO_MEMORY → stage.new ≡ stage_added stage.old what bytes.now }
@@ -84,6 +85,7 @@ pub fn setup_add(setup: &mut Object, alloc: Global, what: u32, bytes: &[u8]) -> 
     code
 }
 
+/// Reads the files of a setup, as [`setup_read`] does.
 fn read_in(stage: &mut Stage, alloc: Global, at: &mut CFault) -> u32
     ensures code { result ≢ NO_MEMORY → result ≡ stage_code stage.old }
     ensures after { result ≢ NO_MEMORY → stage.new ≡ stage_after stage.old }
@@ -124,6 +126,7 @@ pub fn setup_read(setup: &mut Object, alloc: Global, at: &mut CFault) -> u32
     code
 }
 
+/// The same setup, read anew from copies of its files, or the code for why there is none.
 fn again(stage: &Stage, alloc: Global) -> Result<Box<Kept>, u32>
     ensures code { IfErr result (λ code. code ≢ NO_MEMORY → stage.now.made ≡ None) }
     ensures wrong { IfErr result (λ code. code ≢ NO_MEMORY → code ≡ WRONG_OBJECT) }

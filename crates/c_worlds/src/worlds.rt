@@ -33,6 +33,7 @@ fn read_frame(gone: &[bool], bytes: &[u8]) -> Option<Frame>
     }
 }
 
+/// Steps a game by the frame that the bytes spell, as [`world_step`] does.
 fn step_game(game: &mut Game, bytes: &[u8]) -> u32
     ensures code { result ≡ game_code game.old bytes.now }
     ensures after { game.new ≡ game_stepped game.old bytes.now }
@@ -67,6 +68,8 @@ pub fn world_step(world: &mut Object, alloc: Global, bytes: &[u8]) -> u32
     code
 }
 
+/// The opening world of a match of so many clients over these rules and this map, or the code for why
+/// there is none.
 fn make_world(alloc: Global, made: &Made, seed: u32, clients: u32) -> Result<Box<Kept>, u32>
     ensures code { IfErr result (λ code. code ≢ NO_MEMORY
         → code ≡ code_with (Some made.now) clients) }
@@ -75,7 +78,7 @@ fn make_world(alloc: Global, made: &Made, seed: u32, clients: u32) -> Result<Box
     ensures refused { IfErr result (λ code. code ≢ NO_MEMORY
         → made_with (Some made.now) seed clients ≡ None) }
 {
-    if clients == 0 || clients > 16 {
+    if clients == 0 || clients > u32::from(MAX_CLIENTS) {
         return Err(BAD_ARGUMENT);
     }
     let Ok(game) = made.maker.make(alloc, seed, clients as u8) else {
