@@ -98,17 +98,17 @@ fn run_request<D: Disk, K: Sink>(
 fn run_drill_query<D: Disk, K: Sink>(
     alloc: Global,
     query: &MatchQuery<'_>,
-    record: Option<&str>,
+    record_file: Option<&str>,
     disk: &mut D,
     out: &mut K,
 ) -> u8
     requires { length query.now.rules ≤ MAX_FILES }
-    ensures { let name = option_map (λ name. name.now) record.entry in
+    ensures { let name = option_map (λ name. name.now) record_file.entry in
         let old = environment (D.state disk.old) (K.state out.old) in
         let new = environment (D.state disk.new) (K.state out.new) in
         RunsRequest (Drill (plain_match query.now) name) result (causes_of name old new) old new }
 {
-    match record {
+    match record_file {
         Some(name) => run_recorded_script(alloc, query, name, disk, out),
         None => run_script(alloc, query, disk, out),
     }
