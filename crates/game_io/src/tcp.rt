@@ -36,7 +36,7 @@ pub struct Tcp<'a, R: Sockets<Listener = TcpListener, Stream = TcpStream> + Cloc
     stop: Option<&'a AtomicBool>,
     /// Where this turns true every link fails.
     cut: Option<Arc<AtomicBool>>,
-    /// The address of the other side of the link that was accepted last.
+    /// The address of the other side of the last link that came.
     from: Option<SocketAddr>,
     /// True once it has waited in vain: then no more links are waited for.
     is_over: bool,
@@ -203,7 +203,7 @@ impl<'a, R: Sockets<Listener = TcpListener, Stream = TcpStream> + Clock> Transpo
     }
 
     fn came_from(&self) -> Option<SocketAddr> {
-        self.from
+        if self.is_over { None } else { self.from }
     }
 }
 
