@@ -1,13 +1,18 @@
 //! The program `lockstep`: it hands its arguments, the real files and the real output to `run`, or,
-//! where the command is one of that call's, to `run_waiting`, with links over TCP and its input.
+//! where the command is one of that call's, to `run_waiting`, with the devices of a host: links, a
+//! console, a log and clocks.
 #![tactic(auto)]
 
 use command_answers::OUT_OF_MEMORY;
-use game_io::{FileDisk, NoGate, StdSink, StdSource, TcpNet};
-use match_commands::{may_wait, run, run_waiting};
-use std::io::{ErrorKind, Input};
+use game_io::{FileDisk, StdSink, Tcp, TransportNet, WatchedGate};
+use host_devices::{
+    HostConsole, HostDesk, HostWatch, cut_late_links, flush_log, limit_lobby, read_typed,
+    write_log,
+};
+use match_commands::{host_options, may_wait, run, run_waiting};
+use std::io::ErrorKind;
 use std::process::ExitCode;
-use std::{env, io};
+use std::{env, io, thread};
 
 /// The arguments of the command line. Arguments that are not UTF-8 are refused, as an empty command
 /// line is.
@@ -17,6 +22,14 @@ fn words_of(rt: &HostRuntime) -> io::Result<Vec<String>> {
         words.push(word)?;
     }
     Ok(words)
+}
+
+/// Whether the command is the one of a host.
+fn is_serve(words: &[String]) -> bool {
+    match words.get(1) {
+        Some(command) => command.as_str() == "serve",
+        None => false,
+    }
 }
 
 fn main(rt: HostRuntime) -> ExitCode {
@@ -32,9 +45,35 @@ fn main(rt: HostRuntime) -> ExitCode {
     if !may_wait(&words) {
         return ExitCode::from(run(rt.alloc(), &words, &mut disk, &mut out));
     }
-    let mut net = TcpNet::new(&rt);
-    let mut console = StdSource::new(rt.reader());
-    ExitCode::from(run_waiting(
+    let Ok(options) = host_options(rt.alloc(), &words) else {
+        return ExitCode::from(OUT_OF_MEMORY);
+    };
+    let Ok(desk) = HostDesk::create(&rt, rt.alloc(), options.is_quiet, options.patience) else {
+        return ExitCode::from(OUT_OF_MEMORY);
+    };
+    let (Ok(watch), Ok(cut)) = (HostWatch::new(rt, &desk), desk.cut()) else {
+        return ExitCode::from(OUT_OF_MEMORY);
+    };
+    if is_serve(&words) {
+        let (Ok(typing), Ok(logging), Ok(cutting)) = (
+            HostDesk::share(&desk),
+            HostDesk::share(&desk),
+            HostDesk::share(&desk),
+        ) else {
+            return ExitCode::from(OUT_OF_MEMORY);
+        };
+        // Nobody waits for these three, and the process ends without them.
+        if thread::spawn(&rt, move || read_typed(&rt, &typing)).is_err()
+            || thread::spawn(&rt, move || write_log(&rt, &logging)).is_err()
+            || thread::spawn(&rt, move || cut_late_links(&rt, &cutting)).is_err()
+        {
+            return ExitCode::from(OUT_OF_MEMORY);
+        }
+    }
+    let mut net = TransportNet::over(Tcp::hosted(&rt, desk.stop(), cut));
+    limit_lobby(&mut net, options.lobby);
+    let mut console = HostConsole::new(&rt, &desk);
+    let status = run_waiting(
         &rt,
         rt.alloc(),
         &words,
@@ -42,6 +81,8 @@ fn main(rt: HostRuntime) -> ExitCode {
         &mut out,
         &mut net,
         &mut console,
-        &NoGate,
-    ))
+        &WatchedGate::new(watch),
+    );
+    flush_log(&rt, &desk);
+    ExitCode::from(status)
 }
