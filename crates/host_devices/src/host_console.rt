@@ -3,7 +3,7 @@ ghost use Rattle.std.specs.Prelude.{◌≡◌, ◌≤◌, length, None};
 use crate::host_desk::HostDesk;
 use crate::match_standing::Given;
 use crate::moments::rest;
-use crate::typed::{LINE_END, LINE_ROOM, kick_text};
+use crate::typed::{LINE_END, LINE_ROOM, MAX_CLIENTS, kick_text};
 use arrayvec::ArrayVec;
 use base::FaultCount;
 use game_io::{Failed, Source};
@@ -42,7 +42,8 @@ fn next_line<R: Wait + Clock>(rt: &R, desk: &HostDesk) -> Result<ArrayVec<u8, LI
     for _look in rt.forever() {
         let mut line = ArrayVec::new();
         match desk.give(rt) {
-            Given::Kick(client) => return Ok(kick_text(client)),
+            Given::Kick(client) if client < MAX_CLIENTS => return Ok(kick_text(client)),
+            Given::Kick(_) => {}
             Given::Blank => {
                 line.push(LINE_END);
                 return Ok(line);

@@ -36,6 +36,16 @@ pub struct HostDesk {
 /// One desk, which several threads have.
 pub type SharedDesk = Arc<HostDesk>;
 
+/// The same desk for four others: a watch, and the threads that read, write and cut; and the flag that
+/// turns true once the links are to fail.
+pub type DeskShares = (
+    SharedDesk,
+    SharedDesk,
+    SharedDesk,
+    SharedDesk,
+    Arc<AtomicBool>,
+);
+
 impl HostDesk {
     /// The desk of a match that begins now. Where it is quiet nothing is logged. With `patience` a
     /// frame is waited for so many seconds, and the links once all have left. Out of memory is its
@@ -68,19 +78,20 @@ impl HostDesk {
         )?)
     }
 
-    /// The same desk, for another thread. Out of memory is the one error.
-    pub fn share(desk: &SharedDesk) -> Result<SharedDesk, NoMemory> {
-        Arc::try_clone(desk)
+    /// The same desk, for four others, and the flag of the links. Out of memory is the one error.
+    pub fn shares(desk: &SharedDesk) -> Result<DeskShares, NoMemory> {
+        Ok((
+            Arc::try_clone(desk)?,
+            Arc::try_clone(desk)?,
+            Arc::try_clone(desk)?,
+            Arc::try_clone(desk)?,
+            Arc::try_clone(&desk.cut)?,
+        ))
     }
 
     /// True once `stop` was typed: no more links are to be waited for.
     pub fn stop(&self) -> &AtomicBool {
         &self.stop
-    }
-
-    /// True once the links are to fail. Out of memory is the one error.
-    pub fn cut(&self) -> Result<Arc<AtomicBool>, NoMemory> {
-        Arc::try_clone(&self.cut)
     }
 
     /// The links are to fail from now on.

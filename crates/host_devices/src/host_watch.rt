@@ -1,5 +1,4 @@
-use crate::host_desk::{HostDesk, SharedDesk};
-use base::NoMemory;
+use crate::host_desk::SharedDesk;
 use game_io::{MatchEvent, Watch};
 use std::sync::Wait;
 use std::time::Clock;
@@ -13,12 +12,9 @@ pub struct HostWatch<R: Wait + Clock + Drop> {
 }
 
 impl<R: Wait + Clock + Drop> HostWatch<R> {
-    /// The watch that notes at this desk. Out of memory is its one error.
-    pub fn new(rt: R, desk: &SharedDesk) -> Result<Self, NoMemory> {
-        Ok(HostWatch {
-            rt,
-            desk: HostDesk::share(desk)?,
-        })
+    /// The watch that notes at this desk.
+    pub fn new(rt: R, desk: SharedDesk) -> Self {
+        HostWatch { rt, desk }
     }
 }
 

@@ -22,7 +22,7 @@ mod typed_reader;
 mod waits;
 
 pub use host_console::HostConsole;
-pub use host_desk::{HostDesk, SharedDesk};
+pub use host_desk::{DeskShares, HostDesk, SharedDesk};
 pub use host_watch::HostWatch;
 pub use log_writer::{flush_log, write_log};
 pub use typed_reader::read_typed;

@@ -1,13 +1,13 @@
 //! What a line of the console says.
-ghost use Rattle.std.specs.Prelude.{◌≡◌, ◌<◌, ◌++◌, ◌∷◌, []};
+ghost use Rattle.std.specs.Prelude.{◌≡◌, ◌<◌, ◌++◌, ◌∷◌, [], codes, IfSome, IfNone, true};
 ghost use Rattle.game_io.specs.declared.net.TheConstants.{MAX_LINKS};
-ghost use Rattle.host_devices.specs.Typed.{Says, kick_line};
+ghost use Rattle.host_devices.specs.Typed.{KicksNobody, Says, kick_line, kicks_client, stops};
 
 use arrayvec::ArrayVec;
 use game_io::MAX_LINKS;
 
 /// A line ends with it.
-pub(crate) const LINE_END: u8 = b'\n';
+pub(crate) const LINE_END: u8 = 10;
 
 /// Room for the longest line that says something, its end, and one more byte.
 pub(crate) const LINE_ROOM: usize = 9;
@@ -30,21 +30,60 @@ pub(crate) enum Typed {
 pub(crate) fn what_is_typed(line: &[u8]) -> Typed
     ensures { Says line.now result }
 {
-    if line == b"stop".as_slice() {
+    if is_stop(line) {
         return Typed::Stop;
     }
-    for client in 0..MAX_CLIENTS {
-        if line == kick_bytes(client).as_slice() {
-            return Typed::Kick(client);
-        }
+    match kicked_by(line) {
+        Some(client) => Typed::Kick(client),
+        None => Typed::Other,
     }
-    Typed::Other
 }
 
-/// The line that kicks a client, without the byte that ends it.
-fn kick_bytes(client: u8) -> ArrayVec<u8, LINE_ROOM>
+/// Whether the line ends the match.
+fn is_stop(line: &[u8]) -> bool
+    ensures { result ≡ stops line.now }
+{
+    line == b"stop".as_slice()
+}
+
+/// The client that the line kicks.
+fn kicked_by(line: &[u8]) -> Option<u8>
+    ensures below { IfSome result (λ client. client < MAX_LINKS) }
+    ensures kicks { IfSome result (λ client. kicks_client client line.now ≡ true) }
+    ensures nobody { IfNone result (KicksNobody line.now) }
+{
+    for client in 0..MAX_CLIENTS {
+        if is_kick(line, client) {
+            return Some(client);
+        }
+    }
+    None
+}
+
+/// Whether the line kicks this client.
+fn is_kick(line: &[u8], client: u8) -> bool
     requires { client < MAX_LINKS }
-    ensures { result.items ≡ kick_line client }
+    ensures { result ≡ kicks_client client line.now }
+{
+    if client < 10 {
+        line == [b'k', b'i', b'c', b'k', b' ', b'0' + client].as_slice()
+    } else {
+        line == [
+            b'k',
+            b'i',
+            b'c',
+            b'k',
+            b' ',
+            b'0' + client / 10,
+            b'0' + client % 10,
+        ]
+        .as_slice()
+    }
+}
+
+/// How a line begins that kicks a client.
+fn kick_head() -> ArrayVec<u8, LINE_ROOM>
+    ensures { result.items ≡ codes "kick " }
 {
     let mut line = ArrayVec::new();
     line.push(b'k');
@@ -52,10 +91,6 @@ fn kick_bytes(client: u8) -> ArrayVec<u8, LINE_ROOM>
     line.push(b'c');
     line.push(b'k');
     line.push(b' ');
-    if client >= 10 {
-        line.push(b'0' + client / 10);
-    }
-    line.push(b'0' + client % 10);
     line
 }
 
@@ -64,7 +99,14 @@ pub(crate) fn kick_text(client: u8) -> ArrayVec<u8, LINE_ROOM>
     requires { client < MAX_LINKS }
     ensures { result.items ≡ kick_line client ++ 10 ∷ [] }
 {
-    let mut line = kick_bytes(client);
+    let mut line = kick_head();
+    if client < 10 {
+        line.push(b'0' + client);
+        line.push(LINE_END);
+        return line;
+    }
+    line.push(b'0' + client / 10);
+    line.push(b'0' + client % 10);
     line.push(LINE_END);
     line
 }

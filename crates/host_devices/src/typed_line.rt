@@ -28,9 +28,4 @@ impl TypedLine {
         self.bytes.clear();
         typed
     }
-
-    /// Whether it has no byte.
-    pub fn is_empty(&self) -> bool {
-        self.bytes.is_empty()
-    }
 }
