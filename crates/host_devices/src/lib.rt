@@ -16,6 +16,8 @@ mod log_line;
 mod log_writer;
 mod match_standing;
 mod moments;
+#[cfg(test)]
+mod tests;
 mod typed;
 mod typed_line;
 mod typed_reader;
