@@ -2,7 +2,7 @@
 import concurrent.futures, os, re, resource, signal, socket, subprocess, tempfile, time
 
 from harness import PATIENCE, Ran, free_address, run
-from links import Links, Started, connected, hello, play_of
+from links import Links, connected, hello, play_of
 
 # A player is let go after so many seconds, and a seat stays empty after as many.
 CLOCK = 2
@@ -147,9 +147,11 @@ class LeftAlone(Links):
         players = [self.play(server, 'three') for _ in range(2)]
         played, served = [it.ended() for it in players], server.ended()
         self.tally.same('an empty seat: play', [it.status for it in played], [0, 0])
-        self.tally.check('an empty seat: its column', b'column 2 0 left\nlink 0 ended\n' in served.out and b'\nlink 2 ended\n' in served.out, served)
+        self.tally.check('an empty seat: its column',
+                         b'column 2 0 left\nlink 0 ended\n' in served.out and b'\nlink 2 ended\n' in served.out, served)
         lines = server.lines()
-        self.tally.check('an empty seat: the log', {b'client 2 has no link', b'client 2 leaves at frame 0', b'client 2 does not greet: its link ended'} <= {*lines}, lines)
+        said = {b'client 2 has no link', b'client 2 leaves at frame 0', b'client 2 does not greet: its link ended'}
+        self.tally.check('an empty seat: the log', said <= {*lines}, lines)
         self.same_world('an empty seat', served, server)
         server = Server(self, 3, '--lobby 1')
         served = server.ended()
@@ -168,7 +170,8 @@ class LeftAlone(Links):
         server.say(b'stop\n')
         played, served = player.ended(), server.ended()
         self.tally.check('stop in the lobby: play', played.status == 0, played)
-        self.tally.check('stop in the lobby: the log', {b'client 1 has no link', b'client 2 has no link'} <= {*server.lines()}, server.lines())
+        said = {b'client 1 has no link', b'client 2 has no link'}
+        self.tally.check('stop in the lobby: the log', said <= {*server.lines()}, server.lines())
         self.same_world('stop in the lobby', served, server)
         server = Server(self, 2, f'--patience {CLOCK * 2}', stdin=subprocess.PIPE)
         link = self.silent(server, hello() + play_of(0))
@@ -217,27 +220,35 @@ class LeftAlone(Links):
                 self.same_world(name, served, server)
             if 2 in closed or options:
                 self.tally.same(f'{name}: the log', server.lines(), [])
+        for is_full in (True, False):
+            self.unread_log(is_full)
+
+    def unread_log(self, is_full):
+        """A log whose pipe is full, or has no reader any more."""
         reader, writer = os.pipe()
-        os.set_blocking(writer, False)
-        try:
-            while os.write(writer, bytes(4096)):
-                pass
-        except BlockingIOError:
-            os.set_blocking(writer, True)
-        server = Started(self.program, f'serve --at {free_address()} --clients 1 --lobby 1', self.folder)
-        server.ended()
+        if is_full:
+            os.set_blocking(writer, False)
+            try:
+                while os.write(writer, bytes(4096)):
+                    pass
+            except BlockingIOError:
+                os.set_blocking(writer, True)
+        else:
+            os.close(reader)
         at = free_address()
-        child = subprocess.Popen([self.program, 'serve', '--at', at, '--clients', '1'], cwd=self.folder, stdin=subprocess.DEVNULL,
-                                 stdout=subprocess.PIPE, stderr=writer)
+        child = subprocess.Popen([self.program, 'serve', '--at', at, '--clients', '1'], cwd=self.folder,
+                                 stdin=subprocess.DEVNULL, stdout=subprocess.PIPE, stderr=writer)
         played = self.start(f'play --at {at} --script three.script').ended()
         try:
             out, _ = child.communicate(timeout=PATIENCE)
         except subprocess.TimeoutExpired:
             child.kill()
             out, _ = child.communicate()
-        self.tally.check('a log that nobody reads', played.status == child.returncode == 0 and b'\nserver frames 3 ' in out, (played, child.returncode, out))
-        os.close(reader)
+        self.tally.check(f'a log that nobody reads: full {is_full}',
+                         played.status == child.returncode == 0 and b'\nserver frames 3 ' in out, (played, child.returncode, out))
         os.close(writer)
+        if is_full:
+            os.close(reader)
 
     def of_late(self):
         """A player after the last seat, and one where nobody listens, try for half a minute."""
