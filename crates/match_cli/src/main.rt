@@ -1,17 +1,24 @@
 //! The program `lockstep`: it hands its arguments, the real files and the real output to `run`, or,
-//! where the command is one of that call's, to `run_waiting`, with links over TCP and its input.
+//! where the command is one of that call's, to `run_waiting`, with the devices of a host: links, a
+//! console, a log and clocks.
 #![tactic(auto)]
 
 use command_answers::OUT_OF_MEMORY;
-use game_io::{FileDisk, NoGate, StdSink, StdSource, TcpNet};
-use match_commands::{may_wait, run, run_waiting};
-use std::io::{ErrorKind, Input};
+use game_io::{FileDisk, StdSink, Tcp, TransportNet, WatchedGate};
+use host_devices::{
+    DeskShares, HostConsole, HostDesk, HostWatch, SharedDesk, cut_late_links, flush_log,
+    limit_lobby, read_typed, write_log,
+};
+use match_commands::{HostOptions, host_options, may_wait, run, run_waiting};
+use std::alloc::AllocError;
+use std::fs::File;
+use std::io::ErrorKind;
 use std::process::ExitCode;
-use std::{env, io};
+use std::time::Clock;
+use std::{env, io, thread};
 
-/// The arguments of the command line. Arguments that are not UTF-8 are refused, as an empty command
-/// line is.
-fn words_of(rt: &HostRuntime) -> io::Result<Vec<String>> {
+/// The arguments of the command line.
+fn arguments_of(rt: &HostRuntime) -> io::Result<Vec<String>> {
     let mut words = Vec::new(rt.alloc());
     for word in env::args(rt)? {
         words.push(word)?;
@@ -19,29 +26,83 @@ fn words_of(rt: &HostRuntime) -> io::Result<Vec<String>> {
     Ok(words)
 }
 
+/// The same. Arguments that are not UTF-8 are refused, as an empty command line is. Out of memory is
+/// the one error.
+fn words_of(rt: &HostRuntime) -> Result<Vec<String>, AllocError> {
+    match arguments_of(rt) {
+        Ok(words) => Ok(words),
+        Err(error) if error.kind() == ErrorKind::OutOfMemory => Err(AllocError),
+        Err(_) => Ok(Vec::new(rt.alloc())),
+    }
+}
+
+/// Files in the places of the standard streams that are closed, so that no socket comes there, to
+/// which the log or the text would be written.
+fn hold_streams(rt: &HostRuntime) -> io::Result<(File, File, File)> {
+    let first = File::open(rt, "/dev/null")?;
+    let second = File::open(rt, "/dev/null")?;
+    Ok((first, second, File::open(rt, "/dev/null")?))
+}
+
+/// What the words say of the devices, and the desk that these share, once for `main` and once for each
+/// of four. Out of memory is the one error.
+fn desk_of<R: Clock + AllocGlobal>(
+    rt: &R,
+    words: &[String],
+    is_unheld: bool,
+) -> Result<(HostOptions, SharedDesk, DeskShares), AllocError> {
+    let options = host_options(rt.alloc(), words)?;
+    let is_quiet = options.is_quiet || is_unheld;
+    let desk = HostDesk::create(rt, rt.alloc(), is_quiet, options.patience)?;
+    let shares = HostDesk::shares(&desk)?;
+    Ok((options, desk, shares))
+}
+
+/// Whether the command is the one of a host.
+fn is_serve(words: &[String]) -> bool {
+    match words.get(1) {
+        Some(command) => command.as_str() == "serve",
+        None => false,
+    }
+}
+
 fn main(rt: HostRuntime) -> ExitCode {
-    let words = match words_of(&rt) {
-        Ok(words) => words,
-        Err(error) if error.kind() == ErrorKind::OutOfMemory => {
-            return ExitCode::from(OUT_OF_MEMORY);
-        }
-        Err(_) => Vec::new(rt.alloc()),
+    let Ok(words) = words_of(&rt) else {
+        return ExitCode::from(OUT_OF_MEMORY);
     };
     let mut disk = FileDisk::new(&rt);
     let mut out = StdSink::new(io::writer(&rt));
     if !may_wait(&words) {
         return ExitCode::from(run(rt.alloc(), &words, &mut disk, &mut out));
     }
-    let mut net = TcpNet::new(&rt);
-    let mut console = StdSource::new(rt.reader());
-    ExitCode::from(run_waiting(
+    let held = hold_streams(&rt);
+    let Ok((options, desk, shares)) = desk_of(&rt, &words, held.is_err()) else {
+        return ExitCode::from(OUT_OF_MEMORY);
+    };
+    let (noting, typing, logging, cutting, cut) = shares;
+    // Nobody waits for these threads, and the process ends without them.
+    if is_serve(&words)
+        && (thread::spawn(&rt, move || read_typed(&rt, &typing)).is_err()
+            || thread::spawn(&rt, move || write_log(&rt, &logging)).is_err()
+            || thread::spawn(&rt, move || cut_late_links(&rt, &cutting)).is_err())
+    {
+        return ExitCode::from(OUT_OF_MEMORY);
+    }
+    let mut net = TransportNet::over(Tcp::hosted(&rt, desk.stop(), cut));
+    limit_lobby(&mut net, options.lobby);
+    let mut console = HostConsole::new(&rt, &desk);
+    let gate = WatchedGate::new(HostWatch::new(rt, noting));
+    let alloc = rt.alloc();
+    let status = run_waiting(
         &rt,
-        rt.alloc(),
+        alloc,
         &words,
         &mut disk,
         &mut out,
         &mut net,
         &mut console,
-        &NoGate,
-    ))
+        &gate,
+    );
+    flush_log(&rt, &desk);
+    ExitCode::from(status)
 }

@@ -1,0 +1,68 @@
+use crate::match_standing::Said;
+use game_io::{MatchEvent, NoGreeting};
+use std::fmt;
+use std::fmt::{Display, Formatter, Write};
+
+/// A line of the log.
+#[derive(Clone, Copy, Debug, PartialEq, Eq)]
+pub(crate) struct LogLine {
+    /// When it was said, in thousandths of a second since the host's start.
+    pub at: u64,
+    /// What is said.
+    pub said: Said,
+}
+
+impl Display for LogLine {
+    fn fmt<W: Write>(&self, f: &mut Formatter<W>) -> fmt::Result {
+        write!(f, "{}.{:03} ", self.at / 1_000, self.at % 1_000)?;
+        match self.said {
+            Said::Happened(event) => write_event(f, event),
+            Said::Stands { frames, waits_for } => {
+                write!(f, "frames {frames}")?;
+                match waits_for {
+                    Some(client) => write!(f, ", waits for client {client}"),
+                    None => Ok(()),
+                }
+            }
+        }
+    }
+}
+
+/// Writes what happened.
+fn write_event<W: Write>(f: &mut Formatter<W>, event: MatchEvent) -> fmt::Result {
+    match event {
+        MatchEvent::Listens { at: Some(at) } => write!(f, "listens at {at}"),
+        MatchEvent::Listens { at: None } => write!(f, "listens"),
+        MatchEvent::LinkCame {
+            client,
+            from: Some(from),
+        } => write!(f, "client {client} has a link from {from}"),
+        MatchEvent::LinkCame { client, from: None } => write!(f, "client {client} has no link"),
+        MatchEvent::Greets { client } => write!(f, "client {client} greets"),
+        MatchEvent::GreetsNot { client, why } => {
+            write!(f, "client {client} does not greet: {}", reason(why))
+        }
+        MatchEvent::WaitsFor { frame, client } => {
+            write!(f, "frames {frame}, waits for client {client}")
+        }
+        MatchEvent::Departs { client, frame } => write!(
+            f,
+            "client {client} leaves at frame {frame}"
+        ),
+        MatchEvent::Ticked { frames } => write!(f, "frames {frames}"),
+        MatchEvent::Over { frames } => write!(f, "frames {frames}, the match is over"),
+    }
+}
+
+/// Why a link does not greet, in words.
+fn reason(why: NoGreeting) -> &'static str {
+    match why {
+        NoGreeting::OtherVersion => "another version",
+        NoGreeting::OtherRules => "other rules or another map",
+        NoGreeting::NoHello => "another packet than a greeting",
+        NoGreeting::NoPacket => "bytes that are no packet",
+        NoGreeting::Ended => "its link ended",
+        NoGreeting::Lost => "its link failed",
+        NoGreeting::NoMemory => "out of memory",
+    }
+}
