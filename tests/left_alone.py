@@ -24,8 +24,8 @@ def soon():
 class Server:
     """A server whose log is read as it comes."""
 
-    def __init__(self, it, clients, options='', **how):
-        self.it, self.at, self.name = it, free_address(), f'{time.monotonic_ns()}.replay'
+    def __init__(self, it, clients, options='', at=None, **how):
+        self.at, self.name = at or free_address(), f'{time.monotonic_ns()}.replay'
         self.log = open(os.path.join(it.folder, self.name + '.log'), 'wb+')
         words = f'serve --at {self.at} --clients {clients} --record {self.name} {options}'
         closed = how.pop('closed', ())
@@ -79,7 +79,10 @@ class LeftAlone(Links):
             file.write('script 1 1\n' + '0\n' * FRAMES)
 
     def play(self, server, script='many'):
-        return self.start(f'play --at {server.at} --script {script}.script')
+        return self.play_at(server.at, script)
+
+    def play_at(self, at, script):
+        return self.start(f'play --at {at} --script {script}.script')
 
     def silent(self, server, said=hello()):
         link = connected(server.at)
@@ -143,8 +146,11 @@ class LeftAlone(Links):
 
     def of_empty_seat(self):
         """Nobody comes to one of three seats, and then to none."""
-        server = Server(self, 3, f'--lobby {CLOCK}')
-        players = [self.play(server, 'three') for _ in range(2)]
+        # They are there before the server, so that they come at once.
+        at = free_address()
+        players = [self.play_at(at, 'three') for _ in range(2)]
+        time.sleep(CLOCK / 2)
+        server = Server(self, 3, f'--lobby {CLOCK}', at)
         played, served = [it.ended() for it in players], server.ended()
         self.tally.same('an empty seat: play', [it.status for it in played], [0, 0])
         self.tally.check('an empty seat: its column',
@@ -182,7 +188,7 @@ class LeftAlone(Links):
         took = server.when(b'client 1 leaves at frame ') - server.when(b'client 1 has a link from ')
         played, served = player.ended(), server.ended()
         self.tally.check('stop in the match: before the clock', took < CLOCK * 2, server.lines())
-        self.tally.check('stop in the match: all are kicked', b'\nlink 1 ' in served.out and b'link 0 lost\n' in served.out, served)
+        self.tally.check('stop in the match: its links', re.search(rb'\nlink 0 (lost|kicked \d+)\nlink 1 ', served.out), served)
         self.tally.same('stop in the match: play', played.status, 0)
         self.same_world('stop in the match', served, server)
         link.close()
