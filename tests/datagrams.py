@@ -173,6 +173,18 @@ class Flood:
         self.thread.join()
 
 
+def wait_for_links(first, links):
+    """Waits until the server has so many links, at ports from the first one on."""
+    until = time.monotonic() + PATIENCE
+    while time.monotonic() < until:
+        try:
+            udp_socket(first + links - 1).close()
+        except OSError:
+            return
+        time.sleep(0.02)
+    raise TimeoutError('a link does not come')
+
+
 def memory_of(process):
     """The most memory that it has had, in kB."""
     with open(f'/proc/{process.pid}/status') as file:
@@ -238,6 +250,7 @@ class Datagrams:
             other = Dialled(at)
             self.tally.check('--udp-ports', first <= other.port <= first + 9, other.port)
             players = [self.play(f'udp:{at}', 'long') for _ in range(2)]
+            wait_for_links(first, 3)
             flood = Flood([int(at.split(':')[1]), *range(first, first + 4)] if is_hostile else (), 1)
             for gram in (b'', b'\1', data(0, b'')[:6], bytes(2000), data(0, bytes(MOST + 1)), struct.pack('<BI', ACK, 9), b'\3\3', b'\7'):
                 other.send(gram)
@@ -283,19 +296,20 @@ class Datagrams:
 
     def of_killed(self):
         """A killed player is noticed: its column is left, and the others play on. A server that ends is noticed, too."""
-        at = free_address()
-        server = self.serve(f'udp:{at}', 2)
+        at, first = free_address(), random.randrange(33_000, 60_000)
+        server = self.serve(f'udp:{at}', 2, f'--udp-ports {first}-{first + 1}')
         players = [self.play(f'udp:{at}', 'long') for _ in range(2)]
-        time.sleep(0.5)
+        wait_for_links(first, 2)
+        time.sleep(0.3)
         players[0].child.kill()
         players[0].ended()
         played, served = players[1].ended(), server.ended()
         held = played.status == served.status == 0 and b'frames 1500 ' in played.out and b' lost\n' in served.out
         self.tally.check('datagrams: a killed player', held, (played, served))
         at = free_address()
-        server = self.serve(f'udp:{at}', 2)
+        server = self.serve(f'udp:{at}', 2, f'--udp-ports {first}-{first + 1}')
         player = self.play(f'udp:{at}')
-        time.sleep(0.5)
+        wait_for_links(first, 1)
         server.child.kill()
         server.ended()
         self.tally.same('datagrams: a killed server', player.ended(), Ran(4, b'fault link\n'))

@@ -2,5 +2,5 @@
 use Rattle.std.specs.Prelude.{ℕ, List, ◌∷◌, []}
 
 -- What such an address begins with: `udp:`.
-pub udp_prefix : List ℕ
+abbrev pub udp_prefix : List ℕ
 udp_prefix = 117 ∷ 100 ∷ 112 ∷ 58 ∷ []

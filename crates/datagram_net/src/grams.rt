@@ -3,8 +3,8 @@ ghost use Rattle.std.specs.Prelude.{◌≡◌, ◌↔◌, IsTrue, IfOk, take, le
 ghost use Rattle.datagram_link.specs.Grams.{IsPayload, data_bytes};
 ghost use Rattle.datagram_link.specs.declared.limits.TheConstants.{MAX_PAYLOAD};
 
-use datagram_link::{Datagram, MAX_PAYLOAD, Payload, write_datagram};
 use base::NoMemory;
+use datagram_link::{Datagram, MAX_PAYLOAD, Payload, write_datagram};
 use std::alloc::Global;
 
 /// A Call.
@@ -29,15 +29,16 @@ pub(crate) fn is_data(gram: &[u8]) -> bool {
 }
 
 /// The next payload of bytes that are to be sent: the first of them, as many as fit.
+#[tactic(auto, using(std::proofs::lemmas::List::take_all))]
 pub(crate) fn next_payload(bytes: &[u8]) -> &[u8]
     ensures first { result.now ≡ take MAX_PAYLOAD bytes.now }
     ensures few { length result.now ≤ MAX_PAYLOAD }
     ensures some { 0 < length bytes.now → 0 < length result.now }
 {
-    match bytes.get(..MAX_PAYLOAD as usize) {
-        Some(first) => first,
-        None => bytes,
+    if bytes.len() <= MAX_PAYLOAD as usize {
+        return bytes;
     }
+    &bytes[..MAX_PAYLOAD as usize]
 }
 
 /// The bytes of a Data.

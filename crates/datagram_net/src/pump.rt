@@ -5,8 +5,8 @@ use crate::link_post::LinkPost;
 use datagram_link::Arrival;
 use game_io::Failed;
 use std::alloc::Global;
-use std::sync::atomic::{AtomicBool, Ordering};
 use std::sync::Arc;
+use std::sync::atomic::{AtomicBool, Ordering};
 
 /// What makes the turns of a link, whatever its halves do.
 #[derive(Drop)]
@@ -83,6 +83,7 @@ impl Pump {
         let Some(mut state) = self.link.seize() else {
             return false;
         };
+        let kept_waiting = (state.is_empty(), state.is_full());
         if self.cut.load(Ordering::SeqCst) {
             state.cut(self.alloc);
         } else if came.is_err() || self.quiet >= MAX_QUIET {
@@ -101,8 +102,9 @@ impl Pump {
             self.lingered = self.lingered.saturating_add(1);
         }
         let is_over = is_left && (state.is_acknowledged() || self.lingered > LINGER_TURNS);
+        let has_changed = kept_waiting != (state.is_empty(), state.is_full());
         drop(state);
-        if self.quiet == 0 {
+        if has_changed {
             self.link.changed.notify_all();
         }
         goes_on && !is_over

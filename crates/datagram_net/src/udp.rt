@@ -16,14 +16,13 @@ use crate::udp_writer::UdpWriter;
 use datagram_link::{Datagram, RECEIVE_ROOM, write_datagram};
 use game_io::{Sink, Source, StdSink, StdSource, Transport};
 use std::alloc::Global;
-use std::io;
 use std::io::ErrorKind;
 use std::net::{Net as Sockets, SocketAddr, UdpSocket};
 use std::sync::atomic::{AtomicBool, Ordering};
 use std::sync::{Arc, Wait};
-use std::thread;
 use std::thread::Threads;
 use std::time::{Clock, Duration, Instant};
+use std::{io, thread};
 
 /// How long `accept` waits for a call between two looks at the time, in thousandths of a second.
 const LOOK_MILLIS: u64 = 10;
