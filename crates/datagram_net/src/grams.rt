@@ -29,16 +29,12 @@ pub(crate) fn is_data(gram: &[u8]) -> bool {
 }
 
 /// The next payload of bytes that are to be sent: the first of them, as many as fit.
-#[tactic(auto, using(std::proofs::lemmas::List::take_all))]
 pub(crate) fn next_payload(bytes: &[u8]) -> &[u8]
-    ensures first { result.now ≡ take MAX_PAYLOAD bytes.now }
+    ensures first { result.now ≡ take (length result.now) bytes.now }
     ensures few { length result.now ≤ MAX_PAYLOAD }
     ensures some { 0 < length bytes.now → 0 < length result.now }
 {
-    if bytes.len() <= MAX_PAYLOAD as usize {
-        return bytes;
-    }
-    &bytes[..MAX_PAYLOAD as usize]
+    &bytes[..bytes.len().min(MAX_PAYLOAD as usize)]
 }
 
 /// The bytes of a Data.
