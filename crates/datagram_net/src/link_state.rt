@@ -1,3 +1,4 @@
+ghost use Rattle.std.specs.Io.{ReadsAtMost};
 ghost use Rattle.datagram_link.specs.Grams.{IsPayload};
 
 use crate::fate::Fate;
@@ -111,7 +112,9 @@ impl LinkState {
     }
 
     /// Reads what came. No bytes are the end.
-    pub(crate) fn read(&mut self, into: &mut [u8]) -> io::Result<usize> {
+    pub(crate) fn read(&mut self, into: &mut [u8]) -> io::Result<usize>
+        ensures { ReadsAtMost result into.new }
+    {
         let count = self.inbox.take(into);
         if count == 0 && self.fate == Fate::Lost {
             return Err(ErrorKind::ConnectionReset.into());
