@@ -3,13 +3,10 @@
 #![tactic(auto)]
 
 use command_answers::OUT_OF_MEMORY;
-use datagram_net::{ByAddress, Udp};
-use game_io::{FileDisk, NoGate, StdSink, StdSource, Tcp, TransportNet};
-use match_commands::{PortRange, host_options, may_wait, run, run_waiting};
+use game_io::{FileDisk, NoGate, StdSink, StdSource, TcpNet};
+use match_commands::{may_wait, run, run_waiting};
 use std::io::{ErrorKind, Input};
 use std::process::ExitCode;
-use std::sync::Arc;
-use std::sync::atomic::AtomicBool;
 use std::{env, io};
 
 /// The arguments of the command line. Arguments that are not UTF-8 are refused, as an empty command
@@ -35,19 +32,7 @@ fn main(rt: HostRuntime) -> ExitCode {
     if !may_wait(&words) {
         return ExitCode::from(run(rt.alloc(), &words, &mut disk, &mut out));
     }
-    let stop = AtomicBool::new(false);
-    let Ok(cut) = Arc::new(rt.alloc(), AtomicBool::new(false)) else {
-        return ExitCode::from(OUT_OF_MEMORY);
-    };
-    let Ok(options) = host_options(rt.alloc(), &words) else {
-        return ExitCode::from(OUT_OF_MEMORY);
-    };
-    let ports = match options.udp_ports {
-        Some(PortRange { first, last }) => Some((first, last)),
-        None => None,
-    };
-    let udp = Udp::new(&rt, rt.alloc(), ports, &stop, cut);
-    let mut net = TransportNet::over(ByAddress::new(Tcp::new(&rt), udp));
+    let mut net = TcpNet::new(&rt);
     let mut console = StdSource::new(rt.reader());
     ExitCode::from(run_waiting(
         &rt,
