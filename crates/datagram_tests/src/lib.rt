@@ -2,4 +2,6 @@
 #![tactic(auto)]
 
 #[cfg(test)]
+mod sockets;
+#[cfg(test)]
 mod turns;

@@ -4,6 +4,7 @@
 #![tactic(auto)]
 
 use command_answers::OUT_OF_MEMORY;
+use datagram_net::{ByAddress, Udp};
 use game_io::{FileDisk, StdSink, Tcp, TransportNet, WatchedGate};
 use host_devices::{
     DeskShares, HostConsole, HostDesk, HostWatch, SharedDesk, cut_late_links, flush_log,
@@ -14,6 +15,7 @@ use std::alloc::AllocError;
 use std::fs::File;
 use std::io::ErrorKind;
 use std::process::ExitCode;
+use std::sync::Arc;
 use std::time::Clock;
 use std::{env, io, thread};
 
@@ -58,6 +60,14 @@ fn desk_of<R: Clock + AllocGlobal>(
     Ok((options, desk, shares))
 }
 
+/// The first and the last port of the links over UDP, if they are given.
+fn udp_ports(options: &HostOptions) -> Option<(u16, u16)> {
+    match options.udp_ports {
+        Some(ports) => Some((ports.first, ports.last)),
+        None => None,
+    }
+}
+
 /// Whether the command is the one of a host.
 fn is_serve(words: &[String]) -> bool {
     match words.get(1) {
@@ -80,6 +90,9 @@ fn main(rt: HostRuntime) -> ExitCode {
         return ExitCode::from(OUT_OF_MEMORY);
     };
     let (noting, typing, logging, cutting, cut) = shares;
+    let Ok(udp_cut) = Arc::try_clone(&cut) else {
+        return ExitCode::from(OUT_OF_MEMORY);
+    };
     // Nobody waits for these threads, and the process ends without them.
     if is_serve(&words)
         && (thread::spawn(&rt, move || read_typed(&rt, &typing)).is_err()
@@ -88,7 +101,9 @@ fn main(rt: HostRuntime) -> ExitCode {
     {
         return ExitCode::from(OUT_OF_MEMORY);
     }
-    let mut net = TransportNet::over(Tcp::hosted(&rt, desk.stop(), cut));
+    let tcp = Tcp::hosted(&rt, desk.stop(), cut);
+    let udp = Udp::new(&rt, rt.alloc(), udp_ports(&options), desk.stop(), udp_cut);
+    let mut net = TransportNet::over(ByAddress::new(tcp, udp));
     limit_lobby(&mut net, options.lobby);
     let mut console = HostConsole::new(&rt, &desk);
     let gate = WatchedGate::new(HostWatch::new(rt, noting));
