@@ -10,6 +10,7 @@ use std::{process, thread};
 
 /// How many pieces each side writes, and their length: more than a window of payloads has.
 const PIECES: u8 = 200;
+
 const LENGTH: usize = 300;
 
 /// Listens over UDP at the first of these ports at which it can, and answers where.
@@ -109,7 +110,13 @@ fn bytes_come_both_ways_and_then_the_end(rt: HostRuntime) -> Result<(), Fail> {
 fn a_link_that_is_cut_fails(rt: HostRuntime) -> Result<(), Fail> {
     let stop = AtomicBool::new(false);
     let cut = Arc::new(rt.alloc(), AtomicBool::new(false))?;
-    let host = Udp::new(&rt, rt.alloc(), Some((40_000, 40_099)), &stop, Arc::try_clone(&cut)?);
+    let host = Udp::new(
+        &rt,
+        rt.alloc(),
+        Some((40_000, 40_099)),
+        &stop,
+        Arc::try_clone(&cut)?,
+    );
     let never = Arc::new(rt.alloc(), AtomicBool::new(false))?;
     let guest = Udp::new(&rt, rt.alloc(), None, &stop, never);
     let mut host = TransportNet::over(ByAddress::new(Tcp::new(&rt), host));
