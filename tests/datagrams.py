@@ -254,7 +254,9 @@ class Datagrams:
             flood = Flood([int(at.split(':')[1]), *range(first, first + 4)] if is_hostile else (), 1)
             for gram in (b'', b'\1', data(0, b'')[:6], bytes(2000), data(0, bytes(MOST + 1)), struct.pack('<BI', ACK, 9), b'\3\3', b'\7'):
                 other.send(gram)
-            time.sleep(0.3)
+            for _ in range(10):
+                most.append((is_hostile, memory_of(server.child)))
+                time.sleep(0.05)
             other.send(data(0, b'\1\1' + bytes(200)))
             self.tally.same('datagrams: a payload after others that are none', other.highest_ack(0.3), 1)
             until = time.monotonic() + PATIENCE
@@ -297,14 +299,22 @@ class Datagrams:
     def of_killed(self):
         """A killed player is noticed: its column is left, and the others play on. A server that ends is noticed, too."""
         at, first = free_address(), random.randrange(33_000, 60_000)
-        server = self.serve(f'udp:{at}', 2, f'--udp-ports {first}-{first + 1}')
-        players = [self.play(f'udp:{at}', 'long') for _ in range(2)]
-        wait_for_links(first, 2)
-        time.sleep(0.3)
+        server = self.start(f'serve --at udp:{at} --clients 3 --udp-ports {first}-{first + 2}')
+        players = []
+        for links in (1, 2):
+            players.append(self.start(f'play --at udp:{at} --script short.script'))
+            wait_for_links(first, links)
+        # Without rules and a map. The match waits for the third client, until it says farewell.
+        third = Dialled(at)
+        third.send(data(0, hello()))
+        self.tally.same('datagrams: a greeting of the third', third.highest_ack(0.5), 1)
         players[0].child.kill()
         players[0].ended()
+        third.send(data(1, b'\1\0\4'))
+        self.tally.same('datagrams: a farewell of the third', third.highest_ack(0.5), 2)
+        third.socket.close()
         played, served = players[1].ended(), server.ended()
-        held = played.status == served.status == 0 and b'frames 1500 ' in played.out and b' lost\n' in served.out
+        held = played.status == served.status == 0 and b'frames 100 ' in played.out and b'link 0 lost\n' in served.out
         self.tally.check('datagrams: a killed player', held, (played, served))
         at = free_address()
         server = self.serve(f'udp:{at}', 2, f'--udp-ports {first}-{first + 1}')
