@@ -33,7 +33,7 @@ def call(words, folder=None, seconds=PATIENCE * 10, **how):
 
 class Library:
     # The files of a test program beside its own.
-    BESIDE = {'engine': ('words',)}
+    BESIDE = {'engine': ('words', 'match')}
 
     def __init__(self, tally, program, folder, is_long):
         self.tally, self.program, self.folder, self.is_long = tally, program, folder, is_long
@@ -99,6 +99,9 @@ class Library:
         ran = call([self.program, 'drill', '--script', script, '--record', record, *words])
         if ran[0] != 0:
             return f'the program: {ran}'
+        status, out, said = call([*engine, 'drill', '--script', script, *words])
+        if (status, out) != (0, ran[1]):
+            return f'drill {number}: status {status}, {said[-300:]!r}; {script}'
         for name in ('replay', 'worlds'):
             want = recorded.as_engine(name, call([self.program, name, '--file', record, *words])[1])
             status, out, said = call([*engine, name, '--file', record, *words])
@@ -109,7 +112,8 @@ class Library:
         return None
 
     def of_drills(self, engine, name, count, made):
-        """The battle, made matches and random games: the hash after each frame, and each world, are the program's."""
+        """The battle, made matches and random games. Of peers and a server, among which packets are lost, repeated and
+        reordered: each answer, and the hashes of all. Of the replay: the hash after each frame, and each world."""
         with open(f'{TOP}/examples/battle/battle.drill', encoding='utf-8') as it:
             jobs = [('battle', it.read(), BATTLE)]
         jobs += [(f'made{it}', made_drill(it), SAMPLE) for it in made]
@@ -130,7 +134,8 @@ class Library:
             it.write(random_drill(3, 60 if self.is_long else 6))
         call([self.program, 'drill', '--script', script, '--record', record, '--map', *SAMPLE])
         battle = f'{TOP}/examples/battle/battle.replay'
-        for words in (['worlds', '--file', battle, '--map', *BATTLE], ['worlds', '--file', record, '--map', *SAMPLE],
+        for words in (['drill', '--script', script, '--map', *SAMPLE],
+                      ['worlds', '--file', battle, '--map', *BATTLE], ['worlds', '--file', record, '--map', *SAMPLE],
                       ['check', '--map', *SAMPLE]):
             want = call([self.program, *words])
             status, out, said = call([engine, '--refuse', *words], seconds=PATIENCE * 60)
