@@ -241,8 +241,8 @@ uint32_t lockstep_greeted(lockstep_object *setup, const uint8_t *bytes, size_t l
 /* The server's first packet to a client. BAD_ARGUMENT: no match has these terms. */
 uint32_t lockstep_welcome(const lockstep_terms *terms, lockstep_packet *out);
 
-/* What a client reads of the server's first packet. REFUSED: `out->me` is the code, and nothing else
- * is written. BAD_BYTES: neither one whole welcome nor a refusal. */
+/* What a client reads of the server's first packet. REFUSED: `out->me` is the code, and nothing
+ * else is written. BAD_BYTES: neither one whole welcome nor a refusal. */
 uint32_t lockstep_welcomed(const uint8_t *bytes, size_t len, lockstep_terms *out);
 
 /* ---- Peers: a client of a match ---- */
@@ -281,11 +281,11 @@ uint32_t lockstep_server_create(lockstep_object *server, lockstep_object *setup,
                                 uint32_t seed);
 
 /* Takes a packet of a client: a play, a report, or a farewell, which is lockstep_server_drop.
- * Of a play: OK, REPEAT, CONFLICT; AHEAD: the client's play for the frame `told` is awaited; LEFT: the
- * client departed at the frame `told`; FULL: 262,144 frames. Of a report: OK; REPEAT: the first for a
- * frame stays; BEYOND. IGNORED: a greeting. BAD_ARGUMENT: no such client. BAD_BYTES: not one whole
- * packet. Only OK changes the server. After CONFLICT, AHEAD or BAD_BYTES the client is not to be
- * trusted: drop it. */
+ * Of a play: OK, REPEAT, CONFLICT; AHEAD: the play for the frame `told` comes first, and this one has
+ * to be sent again; LEFT: the client departed at the frame `told`; FULL: 262,144 frames. Of a report:
+ * OK; REPEAT: the first for a frame stays; BEYOND. A farewell of a client that has departed: LEFT. OK of
+ * a farewell: `told` is the frame. IGNORED: a greeting. BAD_ARGUMENT: no such client. BAD_BYTES: not
+ * one whole packet. Only OK changes the server. After CONFLICT or BAD_BYTES drop the client. */
 uint32_t lockstep_server_up(lockstep_object *server, uint32_t client, const uint8_t *bytes,
                             size_t len, uint32_t *told);
 

@@ -1,5 +1,5 @@
-/* Each code of each call, but for the FULL of the last frame of a world, a peer and a server; and what
- * a setup says of kinds.
+/* Each code of each call, but for the FULL of the last frame of a world, a peer and a server; and
+ * what a setup says of kinds.
  *
  * usage: codes MAP RULES
  *
@@ -251,8 +251,8 @@ static void try_greeting(lockstep_object *setup) {
 
 static const lockstep_play empty_play = LOCKSTEP_PLAY;
 
-/* A packet of the server: an entry of a client at a frame, a play of so many byte pairs or, at 255, a
- * departure. */
+/* A packet of the server: the entry of a client at a frame, a play that orders this pace, or, at 255,
+ * a departure. */
 static lockstep_packet entry_of(uint8_t client, uint32_t frame, uint8_t pace) {
   lockstep_packet packet = {11, {9, 0, 19}};
   packet.bytes[3] = client;
@@ -332,7 +332,7 @@ static void try_peer(lockstep_object *setup) {
   let_go(&peer);
 }
 
-/* A play of a client for a frame, an order of which has this pace. */
+/* A client's packet: its play for a frame, which orders this pace. */
 static lockstep_packet play_of(uint32_t frame, uint8_t pace) {
   lockstep_packet packet = {10, {8, 0, 2}};
   lockstep_put_(packet.bytes + 3, frame);

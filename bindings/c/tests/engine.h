@@ -32,7 +32,7 @@ uint64_t long_at(const uint8_t *bytes);
 
 /* ---- Commands ---- */
 
-/* The head of a world, a peer or a server; and the end of a line with what the program prints of it. */
+/* The head of a world, a peer or a server; and what the program prints of it at a line's end. */
 lockstep_head head_of(lockstep_object *any);
 void print_summary(lockstep_object *any, FILE *out);
 

@@ -1,5 +1,5 @@
-/* The command `drill` of `engine`: peers and a server of the library, and packets between them that are
- * lost, repeated and reordered. */
+/* The command `drill` of `engine`: peers and a server of the library, and packets between them that
+ * are lost, repeated and reordered. */
 #include "engine.h"
 
 #include <stdlib.h>
@@ -221,7 +221,8 @@ static void print_column(match *it, uint32_t client, FILE *out) {
   lockstep_packet packet;
   uint32_t plays = 0;
   bool left = false;
-  while (!left && ASK(lockstep_server_entry(&it->server, client, plays, &packet)) != LOCKSTEP_NONE) {
+  while (!left) {
+    if (ASK(lockstep_server_entry(&it->server, client, plays, &packet)) == LOCKSTEP_NONE) break;
     must(last_code(), "lockstep_server_entry");
     left = tag_of(&packet) != PLAY;
     plays += !left;

@@ -161,6 +161,21 @@ class Library:
         words = [*before.split(), groups, str(frames), *SAMPLE]
         self.answers(f'groups on threads{name}', words, found and found[1] + b'\n', seconds=PATIENCE * 30)
 
+    # ---- Over TCP ----
+
+    def of_joined(self, joined, name, frames, before=''):
+        """A client in C beside a bot of the program, both of the program's server: one hash."""
+        address = free_address()
+        files = ['--map', *SAMPLE]
+        words = ([self.program, 'serve', '--at', address, '--clients', '2', '--lag', '3', '--seed', '5', *files],
+                 [self.program, 'play', '--at', address, '--bot', '--frames', str(frames), *files],
+                 [*before.split(), joined, address.rsplit(':', 1)[1], str(frames), *SAMPLE])
+        with ThreadPoolExecutor(3) as pool:
+            ends = list(pool.map(call, words))
+        found = re.search(rb'server (frames \d+ hash \w+)', ends[0][1])
+        same = found and ends[2][:2] == (0, found[1] + b'\n') and found[1].startswith(b'frames %d ' % frames)
+        self.tally.check(f'a client of serve{name}', same, ends)
+
     # ---- The page and the demo ----
 
     def of_page(self):
@@ -231,7 +246,8 @@ def run_parts(it):
     it.of_page()
     engine, codes, bytes_of = (it.build(name) for name in ('engine', 'codes', 'bytes'))
     groups = it.build('groups', sources=['groups'], libraries='-pthread')
-    if not (engine and codes and bytes_of and groups):
+    joined = it.build('joined')
+    if not (engine and codes and bytes_of and groups and joined):
         return
     it.of_codes(codes, '')
     it.of_recorded([engine], '')
@@ -239,6 +255,7 @@ def run_parts(it):
     it.of_refused(engine)
     it.of_bytes(bytes_of, '', 10_000_000 if is_long else 1_000_000)
     it.of_groups(groups, '', 500 if is_long else 100)
+    it.of_joined(joined, '', 200)
     small = it.build('groups', '-O2 -DSTACK=81920', sources=['groups'], libraries='-pthread')
     if small:
         it.of_groups(small, ', 64 KB of stack for a call', 100)
@@ -264,5 +281,6 @@ def run_parts(it):
     it.of_codes(codes, ', valgrind', VALGRIND)
     it.of_recorded([*VALGRIND.split(), engine], ', valgrind', 3 if is_long else 40)
     it.of_drills([*VALGRIND.split(), engine], ', valgrind', 10 if is_long else 1, ())
+    it.of_joined(joined, ', valgrind', 40, VALGRIND)
     it.of_groups(groups, ', helgrind', 60 if is_long else 10, 'valgrind -q --tool=helgrind --error-exitcode=98')
     timed('valgrind', begun)
