@@ -281,11 +281,12 @@ uint32_t lockstep_server_create(lockstep_object *server, lockstep_object *setup,
                                 uint32_t seed);
 
 /* Takes a packet of a client: a play, a report, or a farewell, which is lockstep_server_drop.
- * Of a play: OK, REPEAT, CONFLICT; AHEAD: the play for the frame `told` comes first, and this one has
- * to be sent again; LEFT: the client departed at the frame `told`; FULL: 262,144 frames. Of a report:
- * OK; REPEAT: the first for a frame stays; BEYOND. A farewell of a client that has departed: LEFT. OK of
- * a farewell: `told` is the frame. IGNORED: a greeting. BAD_ARGUMENT: no such client. BAD_BYTES: not
- * one whole packet. Only OK changes the server. After CONFLICT or BAD_BYTES drop the client. */
+ * Of a play: OK, REPEAT, CONFLICT; AHEAD: the play for the frame `told` comes first, and this
+ * one has to be sent again; LEFT: the client departed at the frame `told`; FULL: 262,144 frames.
+ * Of a report: OK; REPEAT: the first for a frame stays; BEYOND. A farewell of a client that has
+ * departed: LEFT. OK of a farewell: `told` is the frame. IGNORED: a greeting. BAD_ARGUMENT: no
+ * such client. BAD_BYTES: not one whole packet. Only OK changes the server. After CONFLICT or
+ * BAD_BYTES drop the client. */
 uint32_t lockstep_server_up(lockstep_object *server, uint32_t client, const uint8_t *bytes,
                             size_t len, uint32_t *told);
 

@@ -2,10 +2,10 @@
  *
  * usage: bytes CALLS SEED MAP RULES
  *
- * Each call's bytes end where a page begins that can't be read: a byte too many ends the program by a
- * signal. Checked of each step: it answers OK or BAD_BYTES, and at BAD_BYTES the world stays as it was;
- * of each packet: the call has such a code; of changed rules: they are read, or have a fault within
- * their lines. */
+ * Each call's bytes end where a page begins that can't be read: a byte too many ends the program
+ * by a signal. Checked of each step: it answers OK or BAD_BYTES, and at BAD_BYTES the world stays
+ * as it was; of each packet: the call has such a code; of changed rules: they are read, or have a
+ * fault within their lines. */
 #define _DEFAULT_SOURCE
 #include "common.h"
 
@@ -115,8 +115,8 @@ static void step(trial *it) {
   if (hash_of(&it->world) != before) die("bad bytes, and the world has changed");
 }
 
-/* Puts a packet at the end of the page, of a client or of the server, spoiled or not. Gives where it
- * begins. */
+/* Puts a packet at the end of the page, of a client or of the server, spoiled or not. Gives where
+ * it begins. */
 static uint8_t *random_packet(trial *it, bool is_up, size_t *len) {
   static const uint8_t tags[2][4] = {{19, 19, 19, 20}, {2, 2, 2, 3}};
   uint8_t bytes[MOST_BYTES] = {0}, play[256];

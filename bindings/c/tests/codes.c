@@ -251,8 +251,8 @@ static void try_greeting(lockstep_object *setup) {
 
 static const lockstep_play empty_play = LOCKSTEP_PLAY;
 
-/* A packet of the server: the entry of a client at a frame, a play that orders this pace, or, at 255,
- * a departure. */
+/* A packet of the server: the entry of a client at a frame, a play that orders this pace, or, at
+ * 255, a departure. */
 static lockstep_packet entry_of(uint8_t client, uint32_t frame, uint8_t pace) {
   lockstep_packet packet = {11, {9, 0, 19}};
   packet.bytes[3] = client;

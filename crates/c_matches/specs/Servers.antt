@@ -51,9 +51,11 @@ create_code None setup clients = code_with (made_in setup) clients
 create_code (Some held) setup clients = code.WRONG_OBJECT
 
 -- The server before its first call, over the opening world.
+abbrev pub fresh_of : Made → (clients seed : ℕ) → GameServer
+fresh_of made clients seed = fresh_server clients (game_start made.maker seed clients)
+
 abbrev pub opening_server : Made → (clients seed : ℕ) → Kept
-opening_server made clients seed =
-    kept.Server (fresh_server clients (game_start made.maker seed clients))
+opening_server made clients seed = kept.Server (fresh_of made clients seed)
 
 abbrev pub made_with : Option Made → (clients seed : ℕ) → Option Kept
 made_with None clients seed = None
