@@ -1,5 +1,5 @@
 -- The lengths of packets, and what stands behind them.
-use Rattle.std.proofs.Common.{arith, ◌≡◌, ◌≢◌, ◌≤◌, ℕ, zero, suc, List, [], ◌∷◌, ◌++◌, length, drop, Some, Ok, refl}
+use Rattle.std.proofs.Common.{arith, ◌≡◌, ◌≢◌, ◌≤◌, ℕ, zero, suc, List, [], ◌∷◌, ◌++◌, length, drop, None, Some, Ok, refl, ap}
 use Rattle.std.proofs.lemmas.List.{length-append}
 use Rattle.wire_bytes.specs.Field.{field_bytes}
 use Rattle.wire_bytes.specs.FieldLemmas.{field_length}
@@ -94,3 +94,22 @@ pub all_taken : {P : Type 0} (first : FirstPacket P) (bytes : List ℕ) (packet 
     first ≡ Ok (Some (packet, drop taken bytes)) → taken ≡ length bytes → alone first ≡ Some packet
 unfolding alone
 all_taken first bytes packet taken is all = rw (is, nothing_left bytes taken all) refl
+
+-- What stands behind the first n elements, where there are more.
+record LeftOver {A : Type 0} (xs : List A) (n : ℕ) : Type 0 where
+  pub first : A
+  pub more : List A
+  pub is : drop n xs ≡ first ∷ more
+
+left_over : {A : Type 0} (xs : List A) (n : ℕ) → n ≤ length xs → n ≢ length xs → LeftOver xs n
+left_over [] zero most other = absurd (other refl)
+left_over [] (suc n) most other = absurd (omega arith)
+left_over (x ∷ xs) zero most other = record { first = x; more = xs; is = refl }
+left_over (x ∷ xs) (suc n) most other =
+    let rest = left_over xs n (omega arith) (λ same. other (ap suc same)) in record { first = rest.first; more = rest.more; is = rest.is }
+
+-- A packet that leaves bytes doesn't stand alone.
+pub some_left : {P : Type 0} (first : FirstPacket P) (bytes : List ℕ) (packet : P) (taken : ℕ) →
+    first ≡ Ok (Some (packet, drop taken bytes)) → taken ≤ length bytes → taken ≢ length bytes → alone first ≡ None
+unfolding alone
+some_left first bytes packet taken is most other = let rest = left_over bytes taken most other in rw (is, rest.is) refl

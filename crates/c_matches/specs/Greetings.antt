@@ -11,8 +11,9 @@ use Rattle.c_matches.specs.declared.answer.Answer.{Answer}
 use Rattle.c_matches.specs.declared.greetings.TheConstants.{VERSION, OTHER_VERSION, OTHER_RULES}
 use Rattle.c_matches.specs.declared.greetings.TheConstants.{NO_HELLO}
 use Rattle.c_matches.specs.declared.terms.CTerms.{CTerms}
+use Rattle.c_matches.specs.declared.terms.Terms.{Terms}
 use Rattle.c_matches.specs.Answers.{only, telling}
-use Rattle.c_matches.specs.Terms.{are_terms}
+use Rattle.c_matches.specs.Terms.{terms_in}
 
 -- A client's greeting.
 abbrev pub hello_told : Made → Result (List ℕ) ℕ
@@ -33,10 +34,12 @@ greeting_answer None made = only BAD_BYTES
 greeting_answer (Some packet) made = up_answer packet made
 
 -- The server's welcome.
+abbrev pub welcome_by : Option Terms → Result (List ℕ) ℕ
+welcome_by None = Err BAD_ARGUMENT
+welcome_by (Some terms) = Ok (down_bytes (Welcome terms.me terms.clients terms.lag terms.seed))
+
 abbrev pub welcome_told : CTerms → Result (List ℕ) ℕ
-welcome_told terms =
-    if are_terms terms then Ok (down_bytes (Welcome terms.me terms.clients terms.lag terms.seed))
-    else Err BAD_ARGUMENT
+welcome_told terms = welcome_by (terms_in terms)
 
 -- What the server's first packet says to a client.
 abbrev pub welcome_code : Option Down → ℕ

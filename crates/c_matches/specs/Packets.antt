@@ -1,6 +1,6 @@
 -- Packets and plays, as C hands them over.
 use Rattle.std.specs.Prelude.{ℕ, List, [], ◌∷◌, ◌++◌, length, drop, false}
-use Rattle.std.specs.Prelude.{Option, None, Some, Result, Ok, Err}
+use Rattle.std.specs.Prelude.{Option, None, Some, Result, Ok, Err, slice_get}
 use Rattle.game_orders.specs.declared.entry.Entry.{Entry}
 use Rattle.game_orders.specs.declared.entry.Entry.TheVariants.{Play, Leave}
 use Rattle.game_orders.specs.declared.order.Order.{Order}
@@ -34,12 +34,15 @@ up_in bytes = alone (packet_at up_at bytes)
 abbrev pub down_in : List ℕ → Option Down
 down_in bytes = alone (packet_at down_at bytes)
 
--- The orders of a play that stands alone.
+abbrev pub play_of : Option Entry → Option (List Order)
+play_of None = None
+play_of (Some (Play orders)) = Some orders
+play_of (Some Leave) = None
+
+-- The orders of the first client of a frame.
 abbrev pub orders_of : Option (List Entry) → Option (List Order)
 orders_of None = None
-orders_of (Some []) = None
-orders_of (Some (Play orders ∷ entries)) = Some orders
-orders_of (Some (Leave ∷ entries)) = None
+orders_of (Some entries) = play_of (slice_get entries 0)
 
 -- The orders of the play that the bytes are: those of a frame of one client.
 abbrev pub orders_in : List ℕ → Option (List Order)

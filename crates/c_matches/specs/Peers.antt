@@ -25,10 +25,11 @@ use Rattle.c_objects.specs.declared.kept.Kept.TheVariants as kept
 use Rattle.c_worlds.specs.Held.{made_in}
 use Rattle.c_matches.specs.declared.answer.Answer.{Answer}
 use Rattle.c_matches.specs.declared.terms.CTerms.{CTerms}
+use Rattle.c_matches.specs.declared.terms.Terms.{Terms}
 use Rattle.c_matches.specs.Answers.{only, telling, answer_by}
 use Rattle.c_matches.specs.Held.{peer_in, with_peer}
 use Rattle.c_matches.specs.Packets.{down_in}
-use Rattle.c_matches.specs.Terms.{are_terms}
+use Rattle.c_matches.specs.Terms.{terms_in}
 use Rattle.c_matches.specs.Ticks.{ticked_answer}
 
 -- A peer of the game.
@@ -37,23 +38,30 @@ GamePeer = PeerState GameState
 
 -- ---- making one
 
+abbrev pub code_by : Option Terms → ℕ
+code_by None = code.BAD_ARGUMENT
+code_by (Some terms) = code.OK
+
 abbrev pub code_with : Option Made → CTerms → ℕ
 code_with None terms = code.WRONG_OBJECT
-code_with (Some made) terms = if are_terms terms then code.OK else code.BAD_ARGUMENT
+code_with (Some made) terms = code_by (terms_in terms)
 
 abbrev pub create_code : (object setup : Option Kept) → CTerms → ℕ
 create_code None setup terms = code_with (made_in setup) terms
 create_code (Some held) setup terms = code.WRONG_OBJECT
 
 -- The peer before its first call, over the opening world.
-abbrev pub opening_peer : Made → CTerms → GamePeer
+abbrev pub opening_peer : Made → Terms → GamePeer
 opening_peer made terms =
     fresh_peer terms.me terms.clients terms.lag (game_start made.maker terms.seed terms.clients)
 
+abbrev pub made_by : Made → Option Terms → Option Kept
+made_by made None = None
+made_by made (Some terms) = Some (kept.Peer (opening_peer made terms))
+
 abbrev pub made_with : Option Made → CTerms → Option Kept
 made_with None terms = None
-made_with (Some made) terms =
-    if are_terms terms then Some (kept.Peer (opening_peer made terms)) else None
+made_with (Some made) terms = made_by made (terms_in terms)
 
 abbrev pub created : (object setup : Option Kept) → CTerms → Option Kept
 created None setup terms = made_with (made_in setup) terms

@@ -3,14 +3,14 @@ ghost use Rattle.c_objects.specs.declared.code.TheConstants.{NO_MEMORY};
 ghost use Rattle.c_worlds.specs.Held.{made_in, told_of};
 ghost use Rattle.c_worlds.specs.Told.{one_code};
 ghost use Rattle.c_matches.specs.Answers.{answer_by, told_in};
-ghost use Rattle.c_matches.specs.Greetings.{down_told, greeting_answer, hello_told, up_answer};
+ghost use Rattle.c_matches.specs.Greetings.{greeting_answer, hello_told, up_answer};
 ghost use Rattle.c_matches.specs.Greetings.{welcome_code, welcome_out, welcome_told};
 ghost use Rattle.c_matches.specs.Packets.{down_in, packet_out, up_in};
 
 use crate::answer::Answer;
 use crate::packet::{CPacket, give_down, give_up};
 use crate::packet_reading::packet_in;
-use crate::terms::{CTerms, are_terms};
+use crate::terms::{CTerms, terms_in};
 use c_objects::{BAD_ARGUMENT, BAD_BYTES, OK, Object, REFUSED, WRONG_OBJECT};
 use c_worlds::made_of;
 use order_packets::{Down, Up};
@@ -111,13 +111,13 @@ pub fn welcome(terms: &CTerms, alloc: Global, out: &mut CPacket) -> u32
     ensures out { result ≢ NO_MEMORY → out.new ≡ packet_out (welcome_told terms.now) out.old }
     ensures memory { result ≡ NO_MEMORY → out.new ≡ out.old }
 {
-    if !are_terms(terms) {
+    let Some(terms) = terms_in(terms) else {
         return BAD_ARGUMENT;
-    }
+    };
     let packet = Down::Welcome {
-        client: terms.me as u8,
-        clients: terms.clients as u8,
-        lag: terms.lag as u8,
+        client: terms.me,
+        clients: terms.clients,
+        lag: terms.lag,
         seed: terms.seed,
     };
     give_down(alloc, &packet, out)

@@ -25,4 +25,4 @@ pub use peer_packets::{peer_report, peer_seal};
 pub use peers::{peer_create, peer_deliver, peer_tick};
 pub use server_frames::{CAlarm, server_alarm, server_entry, server_tick};
 pub use servers::{server_create, server_drop, server_up};
-pub use terms::CTerms;
+pub use terms::{CTerms, Terms};

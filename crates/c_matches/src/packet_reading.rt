@@ -1,4 +1,4 @@
-ghost use Rattle.std.specs.Prelude.{◌≡◌, ◌∷◌, [], false, option_map};
+ghost use Rattle.std.specs.Prelude.{◌≡◌};
 ghost use Rattle.order_packets.specs.PacketReading.{packet_at};
 ghost use Rattle.c_matches.specs.Packets.{alone, orders_in};
 

@@ -1,16 +1,16 @@
-ghost use Rattle.std.specs.Prelude.{◌≡◌, ◌≢◌, true, None, Some, IfErr, IfOk, OnOk};
+ghost use Rattle.std.specs.Prelude.{◌≡◌, ◌≢◌, ◌<◌, ◌≤◌, None, Some, IfErr, IfOk, OnOk};
+ghost use Rattle.game_orders.specs.declared.limits.TheConstants.{MAX_CLIENTS, MAX_LAG};
 ghost use Rattle.c_objects.specs.declared.code.TheConstants.{NO_MEMORY, OK};
-ghost use Rattle.c_matches.specs.Answers.{answer_by, only, told_in};
-ghost use Rattle.c_matches.specs.Held.{peer_in, with_peer};
+ghost use Rattle.c_matches.specs.Answers.{only, told_in};
 ghost use Rattle.c_matches.specs.Packets.{down_in};
 ghost use Rattle.c_matches.specs.Peers.{code_with, create_code, created, deliver_answer, delivered};
 ghost use Rattle.c_matches.specs.Peers.{down_answer, down_delivered, entry_answer, entry_delivered};
-ghost use Rattle.c_matches.specs.Peers.{made_with, receipt_answer, tick_answer_of, ticked};
+ghost use Rattle.c_matches.specs.Peers.{made_by, made_with, receipt_answer, tick_answer_of, ticked};
 ghost use Rattle.c_matches.specs.Ticks.{ticked_answer};
 
 use crate::answer::Answer;
 use crate::packet_reading::packet_in;
-use crate::terms::{CTerms, are_terms};
+use crate::terms::{CTerms, Terms, terms_in};
 use base::NoMemory;
 use c_objects::{
     BAD_ARGUMENT, BAD_BYTES, BEYOND, CONFLICT, IGNORED, Kept, NO_MEMORY, NOT_YET, OK, OVER, Object,
@@ -25,14 +25,16 @@ use setup_files::Made;
 use std::alloc::Global;
 use tick_core::Game;
 
-/// The peer of a match of these terms that a match has, over the opening world.
-fn fresh_peer(alloc: Global, made: &Made, terms: &CTerms) -> Result<Box<Kept>, NoMemory>
-    requires { are_terms terms.now ≡ true }
-    ensures { IfOk result (λ kept. Some kept.value ≡ made_with (Some made.now) terms.now) }
+/// The peer of a match of these terms, over the opening world.
+fn fresh_peer(alloc: Global, made: &Made, terms: Terms) -> Result<Box<Kept>, NoMemory>
+    requires own { terms.me < terms.clients }
+    requires most { terms.clients ≤ MAX_CLIENTS }
+    requires least_lag { 1 ≤ terms.lag }
+    requires most_lag { terms.lag ≤ MAX_LAG }
+    ensures { IfOk result (λ kept. Some kept.value ≡ made_by made.now (Some terms)) }
 {
-    let game = made.maker.make(alloc, terms.seed, terms.clients as u8)?;
-    let me = terms.me as u8;
-    let peer = Peer::create(alloc, me, terms.clients as u8, terms.lag as u8, game)?;
+    let game = made.maker.make(alloc, terms.seed, terms.clients)?;
+    let peer = Peer::create(alloc, terms.me, terms.clients, terms.lag, game)?;
     Ok(Box::new(alloc, Kept::Peer(peer))?)
 }
 
@@ -45,9 +47,9 @@ fn make_peer(alloc: Global, made: &Made, terms: &CTerms) -> Result<Box<Kept>, u3
     ensures refused { IfErr result (λ code. code ≢ NO_MEMORY
         → made_with (Some made.now) terms.now ≡ None) }
 {
-    if !are_terms(terms) {
+    let Some(terms) = terms_in(terms) else {
         return Err(BAD_ARGUMENT);
-    }
+    };
     match fresh_peer(alloc, made, terms) {
         Ok(kept) => Ok(kept),
         Err(_) => Err(NO_MEMORY),
