@@ -1,5 +1,5 @@
 -- The lengths of packets, and what stands behind them.
-use Rattle.std.proofs.Common.{arith, ◌≡◌, ◌≢◌, ◌≤◌, ℕ, zero, suc, List, [], ◌∷◌, ◌++◌, length, drop, None, Some, Ok, refl, ap}
+use Rattle.std.proofs.Common.{arith, ◌≡◌, ◌≢◌, ◌≤◌, ℕ, zero, suc, List, [], ◌∷◌, ◌++◌, length, drop, Option, None, Some, Ok, refl, ap, subst}
 use Rattle.std.proofs.lemmas.List.{length-append}
 use Rattle.wire_bytes.specs.Field.{field_bytes}
 use Rattle.wire_bytes.specs.FieldLemmas.{field_length}
@@ -11,6 +11,7 @@ use Rattle.order_packets.specs.declared.down.Down.TheVariants.{Welcome, Refused,
 use Rattle.order_packets.specs.declared.up.Up.{Up}
 use Rattle.order_packets.specs.declared.up.Up.TheVariants.{Hello, Orders, Sync, Bye}
 use Rattle.order_packets.specs.PacketBytes.{up_payload, down_payload, framed, up_bytes, down_bytes, FitsUp, FitsDown}
+use Rattle.order_packets.specs.First.{GivesFirst}
 use Rattle.order_packets.specs.PacketReading.{FirstPacket}
 use Rattle.c_matches.specs.Packets.{alone}
 
@@ -90,10 +91,11 @@ nothing_left (x ∷ xs) zero all = absurd (omega arith)
 nothing_left (x ∷ xs) (suc n) all = nothing_left xs n (omega arith)
 
 -- A packet that takes all bytes stands alone.
-pub all_taken : {P : Type 0} (first : FirstPacket P) (bytes : List ℕ) (packet : P) (taken : ℕ) →
-    first ≡ Ok (Some (packet, drop taken bytes)) → taken ≡ length bytes → alone first ≡ Some packet
+pub all_taken : {P : Type 0} (first : FirstPacket P) (bytes : List ℕ) (found : Option (P × ℕ)) (packet : P) (taken : ℕ) →
+    found ≡ Some (packet, taken) → GivesFirst bytes (Ok found) first → taken ≡ length bytes → Some packet ≡ alone first
 unfolding alone
-all_taken first bytes packet taken is all = rw (is, nothing_left bytes taken all) refl
+all_taken first bytes found packet taken same reads all =
+    let read = subst (λ it. GivesFirst bytes (Ok it) first) same reads in rw (read.0, nothing_left bytes taken all) refl
 
 -- What stands behind the first n elements, where there are more.
 record LeftOver {A : Type 0} (xs : List A) (n : ℕ) : Type 0 where
@@ -109,7 +111,9 @@ left_over (x ∷ xs) (suc n) most other =
     let rest = left_over xs n (omega arith) (λ same. other (ap suc same)) in record { first = rest.first; more = rest.more; is = rest.is }
 
 -- A packet that leaves bytes doesn't stand alone.
-pub some_left : {P : Type 0} (first : FirstPacket P) (bytes : List ℕ) (packet : P) (taken : ℕ) →
-    first ≡ Ok (Some (packet, drop taken bytes)) → taken ≤ length bytes → taken ≢ length bytes → alone first ≡ None
+pub some_left : {P : Type 0} (first : FirstPacket P) (bytes : List ℕ) (found : Option (P × ℕ)) (packet : P) (taken : ℕ) →
+    found ≡ Some (packet, taken) → GivesFirst bytes (Ok found) first → taken ≢ length bytes → None ≡ alone first
 unfolding alone
-some_left first bytes packet taken is most other = let rest = left_over bytes taken most other in rw (is, rest.is) refl
+some_left first bytes found packet taken same reads other =
+    let read = subst (λ it. GivesFirst bytes (Ok it) first) same reads in
+    let rest = left_over bytes taken read.1 other in rw (read.0, rest.is) refl

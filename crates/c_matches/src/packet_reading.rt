@@ -7,7 +7,6 @@ use game_orders::{Entry, Orders};
 use order_packets::{Packet, first_packet};
 
 /// The packet that the bytes are, with nothing behind it.
-#[tactic(auto, unfolding(crate::specs::Packets::alone), using(crate::proofs::PacketLemmas::all_taken, crate::proofs::PacketLemmas::some_left))]
 pub(crate) fn packet_in<P: Packet>(bytes: &[u8]) -> Option<P>
     ensures { result ≡ alone (packet_at P.at bytes.now) }
 {
