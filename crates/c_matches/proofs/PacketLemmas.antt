@@ -51,9 +51,9 @@ short_down_payload (Welcome client clients lag seed) fits =
     omega (
       arith,
       whole,
-      length-append c (n ++ l ++ s),
-      length-append n (l ++ s),
-      length-append l s,
+      length-append (c ++ n ++ l) s,
+      length-append (c ++ n) l,
+      length-append c n,
       field_length 1 17,
       field_length 1 client,
       field_length 1 clients,
@@ -69,8 +69,8 @@ short_down_payload (Entry client frame (Play orders)) fits =
     omega (
       arith,
       whole,
-      length-append c (f ++ orders_bytes orders),
-      length-append f (orders_bytes orders),
+      length-append (c ++ f) (orders_bytes orders),
+      length-append c f,
       field_length 1 19,
       field_length 1 client,
       field_length 4 frame,
@@ -86,7 +86,8 @@ pub short_down : (packet : Down) → FitsDown packet → length (down_bytes pack
 short_down packet fits = short_framed (down_payload packet) (short_down_payload packet fits)
 
 nothing_left : {A : Type 0} (xs : List A) (n : ℕ) → n ≡ length xs → drop n xs ≡ []
-nothing_left [] n all = grind all
+nothing_left [] zero all = refl
+nothing_left [] (suc n) all = refl
 nothing_left (x ∷ xs) zero all = absurd (omega arith)
 nothing_left (x ∷ xs) (suc n) all = nothing_left xs n (omega arith)
 

@@ -7,6 +7,7 @@ use game_orders::{Entry, Orders};
 use order_packets::{Packet, first_packet};
 
 /// The packet that the bytes are, with nothing behind it.
+#[tactic(auto, unfolding(crate::specs::Packets::alone))]
 pub(crate) fn packet_in<P: Packet>(bytes: &[u8]) -> Option<P>
     ensures { result ≡ alone (packet_at P.at bytes.now) }
 {
