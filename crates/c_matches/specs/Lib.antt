@@ -1,5 +1,6 @@
 pub mod Answers
 pub mod Greetings
+pub mod Histories
 pub mod Held
 pub mod Packets
 pub mod Peers

@@ -10,6 +10,7 @@
 
 mod answer;
 mod greetings;
+mod law;
 mod packet;
 mod packet_reading;
 mod peer_packets;
@@ -20,6 +21,7 @@ mod terms;
 
 pub use answer::Answer;
 pub use greetings::{greeted, hello, welcome, welcomed};
+pub use law::{peers_hold_the_agreed_world, servers_hold_the_agreed_world};
 pub use packet::CPacket;
 pub use peer_packets::{peer_report, peer_seal};
 pub use peers::{peer_create, peer_deliver, peer_tick};
