@@ -7,7 +7,8 @@
  * east, rows to the south. Frames and clients are counted from 0. Owner 255 is nobody.
  *
  * Codes. A call returns one of the codes below. From LOCKSTEP_BAD_BYTES on nothing has changed but
- * `at` and `needed`. Of several causes the first decides: WRONG_OBJECT, BAD_ARGUMENT, and then what
+ * `at` and `needed`. `told` is written only where a call says so. Of several causes the first
+ * decides: WRONG_OBJECT, BAD_ARGUMENT, and then what
  * the call names.
  *
  * Ownership. The caller owns an object's 16 bytes and all arrays, the library what the object
@@ -39,11 +40,22 @@ extern "C" {
 /* Within one number calls are only added. Compare with lockstep_abi(). */
 #define LOCKSTEP_ABI 1u
 
-/* Numbers that are left out are for calls to come. */
+/* Numbers that are left out are for calls to come. What each means is said at its calls. */
 enum {
   LOCKSTEP_OK = 0,
-  LOCKSTEP_NONE = 2,  /* there is no such thing */
+  LOCKSTEP_REPEAT = 1, /* the same is there already */
+  LOCKSTEP_NONE = 2,   /* there is no such thing */
+  LOCKSTEP_NOT_YET = 3,
+  LOCKSTEP_OVER = 4,
+  LOCKSTEP_TOO_EARLY = 5,
+  LOCKSTEP_LEFT = 6,
+  LOCKSTEP_BEYOND = 8, /* no match has such a frame */
+  LOCKSTEP_AHEAD = 9,
+  LOCKSTEP_CONFLICT = 10, /* another is there already */
+  LOCKSTEP_PAST = 11,
   LOCKSTEP_FULL = 12, /* no more files, or frames, fit */
+  LOCKSTEP_IGNORED = 13,
+  LOCKSTEP_REFUSED = 14,
   LOCKSTEP_BAD_BYTES = 32,
   LOCKSTEP_FAULT = 33, /* a fault of a rule file or the map */
   LOCKSTEP_BAD_ARGUMENT = 34,
@@ -60,7 +72,7 @@ enum {
 /* A pointer for no places. */
 #define LOCKSTEP_NIL(type) ((type *)64)
 
-/* What a setup or a world is held by. Begin with LOCKSTEP_EMPTY, write nothing.
+/* What a setup, a world, a peer or a server is held by. Begin with LOCKSTEP_EMPTY, write nothing.
  * To move it copy it, and set the old one to LOCKSTEP_EMPTY; two copies in use are an error. */
 typedef struct {
   void *at_;
@@ -81,6 +93,27 @@ typedef struct {
   uint8_t bytes[164];
 } lockstep_play;
 #define LOCKSTEP_PLAY {2, {1, 0}}
+
+/* A packet of docs/FORMATS.md, whole: its length in two bytes, then its payload. */
+typedef struct {
+  uint32_t len;
+  uint8_t bytes[260];
+} lockstep_packet;
+
+/* Under which a client plays. */
+typedef struct {
+  uint32_t me;      /* its number, below `clients` */
+  uint32_t clients; /* 1 to 16 */
+  uint32_t lag;     /* frames that it may seal ahead of its ticked ones, 1 to 64 */
+  uint32_t seed;
+} lockstep_terms;
+
+/* A client's world differs after this frame from the server's. */
+typedef struct {
+  uint32_t frame;
+  uint64_t got; /* the hash that the client reported */
+  uint64_t want;
+} lockstep_alarm;
 
 typedef struct {
   uint64_t hash;   /* the checksum */
@@ -194,16 +227,117 @@ uint32_t lockstep_world_create(lockstep_object *world, lockstep_object *setup, u
  * that has departed before. FULL: after 536,870,911 frames. It never answers NO_MEMORY. */
 uint32_t lockstep_world_step(lockstep_object *world, const uint8_t *bytes, size_t len);
 
-uint32_t lockstep_read_head(lockstep_object *world, lockstep_head *out);
+/* ---- The beginning of a link ---- */
+
+/* A client's first packet: the version of the packets, and the number of its setup's texts. */
+uint32_t lockstep_hello(lockstep_object *setup, lockstep_packet *out);
+
+/* Whether a link's first packet greets a match of this setup. REFUSED: `told` is the code to send
+ * (lockstep_refuse): 1 another version, 2 other rules or another map, 3 no greeting. BAD_BYTES: not
+ * one whole packet. */
+uint32_t lockstep_greeted(lockstep_object *setup, const uint8_t *bytes, size_t len,
+                          uint32_t *told);
+
+/* The server's first packet to a client. BAD_ARGUMENT: no match has these terms. */
+uint32_t lockstep_welcome(const lockstep_terms *terms, lockstep_packet *out);
+
+/* What a client reads of the server's first packet. REFUSED: `out->me` is the code, and nothing
+ * else is written. BAD_BYTES: neither one whole welcome nor a refusal. */
+uint32_t lockstep_welcomed(const uint8_t *bytes, size_t len, lockstep_terms *out);
+
+/* ---- Peers: a client of a match ---- */
+
+/* Makes an empty object the peer of a client, whose world is at the opening. BAD_ARGUMENT: no match
+ * has these terms. */
+uint32_t lockstep_peer_create(lockstep_object *peer, lockstep_object *setup,
+                              const lockstep_terms *terms);
+
+/* Takes an entry that the server sent, in whatever order. OK: it is new. REPEAT: it is there.
+ * CONFLICT: another of that client and frame is there. PAST: it contradicts what is there at the
+ * frame `told`: the client's departure before it, or, if it is a departure, an entry after it.
+ * BEYOND. IGNORED: a packet, but no entry. BAD_BYTES: not one whole packet, or of a client that the
+ * match has not. Only OK changes the peer. */
+uint32_t lockstep_peer_deliver(lockstep_object *peer, const uint8_t *bytes, size_t len,
+                               uint32_t *told);
+
+/* Steps the world by the next frame, where the entries of all clients are there. OK: that frame is
+ * `told`. NOT_YET: `told` is the least client that is missing. OVER: all have departed. It never
+ * answers NO_MEMORY. */
+uint32_t lockstep_peer_tick(lockstep_object *peer, uint32_t *told);
+
+/* Seals the client's next frame with a play, and gives the packet for the server. LEFT: its own
+ * departure has come. FULL: 262,144 frames are sealed. TOO_EARLY: as many are sealed ahead of the
+ * ticked ones as the lag allows; keep the play. BAD_BYTES: no play. Only OK changes the peer. */
+uint32_t lockstep_peer_seal(lockstep_object *peer, const uint8_t *bytes, size_t len,
+                            lockstep_packet *out);
+
+/* A packet for the server: the last ticked frame, and the hash after it. NONE: before a tick. */
+uint32_t lockstep_peer_report(lockstep_object *peer, lockstep_packet *out);
+
+/* ---- Servers ---- */
+
+/* Makes an empty object the server of a match of 1 to 16 clients, else BAD_ARGUMENT. */
+uint32_t lockstep_server_create(lockstep_object *server, lockstep_object *setup, uint32_t clients,
+                                uint32_t seed);
+
+/* Takes a packet of a client: a play, a report, or a farewell, which is lockstep_server_drop.
+ * Of a play: OK, REPEAT, CONFLICT; AHEAD: the play for the frame `told` comes first, and this
+ * one has to be sent again; LEFT: the client departed at the frame `told`; FULL: 262,144 frames.
+ * Of a report: OK; REPEAT: the first for a frame stays; BEYOND. A farewell of a client that has
+ * departed: LEFT. OK of a farewell: `told` is the frame. IGNORED: a greeting. BAD_ARGUMENT: no
+ * such client. BAD_BYTES: not one whole packet. Only OK changes the server. After CONFLICT or
+ * BAD_BYTES drop the client. */
+uint32_t lockstep_server_up(lockstep_object *server, uint32_t client, const uint8_t *bytes,
+                            size_t len, uint32_t *told);
+
+/* The client departs after the plays that it has. OK; LEFT: it has before. `told`: at which frame.
+ * BAD_ARGUMENT: no such client. It never answers NO_MEMORY. */
+uint32_t lockstep_server_drop(lockstep_object *server, uint32_t client, uint32_t *told);
+
+/* The packet with a client's entry at a frame, which is for all clients. NONE: it has none yet, or
+ * departed before. BAD_ARGUMENT: no such client. */
+uint32_t lockstep_server_entry(lockstep_object *server, uint32_t client, uint32_t frame,
+                               lockstep_packet *out);
+
+/* As lockstep_peer_tick. */
+uint32_t lockstep_server_tick(lockstep_object *server, uint32_t *told);
+
+/* The least frame after which a client reported another hash than the server's. NONE.
+ * BAD_ARGUMENT: no such client. */
+uint32_t lockstep_server_alarm(lockstep_object *server, uint32_t client, lockstep_alarm *out);
+
+/* ---- Reading: of a world, a peer or a server ---- */
+
+uint32_t lockstep_read_head(lockstep_object *any, lockstep_head *out);
 
 /* The actors by rising id, at most 2,048. */
-uint32_t lockstep_read_actors(lockstep_object *world, lockstep_actor *out, size_t places,
+uint32_t lockstep_read_actors(lockstep_object *any, lockstep_actor *out, size_t places,
                               size_t *needed);
 
 /* The ore of each cell, row by row, 0 to 90. */
-uint32_t lockstep_read_ore(lockstep_object *world, uint8_t *out, size_t places, size_t *needed);
+uint32_t lockstep_read_ore(lockstep_object *any, uint8_t *out, size_t places, size_t *needed);
 
 /* ---- Beside the library: inline, in C ---- */
+
+/* The length of the packet with which a stream begins, or 0 where it is not whole yet. Above 260 no
+ * packet begins so. */
+static inline size_t lockstep_packet_size(const uint8_t *bytes, size_t len) {
+  size_t size = len < 2 ? 0 : 2 + (size_t)bytes[0] + ((size_t)bytes[1] << 8);
+  return size > 260 || size <= len ? size : 0;
+}
+
+/* A client's farewell. */
+static inline lockstep_packet lockstep_bye(void) {
+  lockstep_packet packet = {3, {1, 0, 4}};
+  return packet;
+}
+
+/* What a server sends in place of a welcome. */
+static inline lockstep_packet lockstep_refuse(uint8_t code) {
+  lockstep_packet packet = {4, {2, 0, 18}};
+  packet.bytes[3] = code;
+  return packet;
+}
 
 /* The word of a fault's cause, as `check` prints it. */
 static inline const char *lockstep_cause(uint32_t cause) {

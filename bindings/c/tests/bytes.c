@@ -1,10 +1,11 @@
-/* Random bytes as frames of a world and as rules.
+/* Random bytes as frames of a world, as packets to a peer and to a server, and as rules.
  *
  * usage: bytes CALLS SEED MAP RULES
  *
- * Each call's bytes end where a page begins that can't be read: a byte too many ends the program by
- * a signal. Checked of each step: it answers OK or BAD_BYTES, and at BAD_BYTES the world stays as it
- * was; of changed rules: they are read, or have a fault within their lines. */
+ * Each call's bytes end where a page begins that can't be read: a byte too many ends the program
+ * by a signal. Checked of each step: it answers OK or BAD_BYTES, and at BAD_BYTES the world stays
+ * as it was; of each packet: the call has such a code; of changed rules: they are read, or have a
+ * fault within their lines. */
 #define _DEFAULT_SOURCE
 #include "common.h"
 
@@ -33,7 +34,7 @@ static uint8_t *guarded(size_t len) {
 enum { MOST_BYTES = 4096 };
 
 typedef struct {
-  lockstep_object setup, world;
+  lockstep_object setup, world, peer, server;
   uint8_t *end; /* of the bytes of a call */
   text rules;
   uint64_t taken, refused;
@@ -114,6 +115,80 @@ static void step(trial *it) {
   if (hash_of(&it->world) != before) die("bad bytes, and the world has changed");
 }
 
+/* Puts a packet at the end of the page, of a client or of the server, spoiled or not. Gives where
+ * it begins. */
+static uint8_t *random_packet(trial *it, bool is_up, size_t *len) {
+  static const uint8_t tags[2][4] = {{19, 19, 19, 20}, {2, 2, 2, 3}};
+  uint8_t bytes[MOST_BYTES] = {0}, play[256];
+  size_t at = 2;
+  uint8_t tag = draw(200) ? tags[is_up][draw(4)] : (uint8_t)draw(24);
+  bytes[at++] = tag;
+  if (!is_up) bytes[at++] = (uint8_t)draw(draw(50) ? 2 : 4);
+  lockstep_put_(bytes + at, draw(50) ? draw(30) : 262143 + draw(3));
+  at += 4;
+  if (tag == 3) {
+    at += 8;
+  } else if (tag != 20) {
+    size_t size = random_play(play, 16) - 1;
+    memcpy(bytes + at, play + 1, size);
+    at += size;
+  }
+  bytes[0] = (uint8_t)(at - 2);
+  *len = spoiled(bytes, at);
+  memcpy(it->end - *len, bytes, *len);
+  return it->end - *len;
+}
+
+/* Whether a call may answer this code. */
+static bool is_among(uint32_t code, const uint32_t *codes, size_t count) {
+  while (count > 0) {
+    if (codes[--count] == code) return true;
+  }
+  return false;
+}
+
+static void deliver(trial *it) {
+  static const uint32_t codes[7] = {LOCKSTEP_OK,     LOCKSTEP_REPEAT,  LOCKSTEP_CONFLICT,
+                                    LOCKSTEP_PAST,   LOCKSTEP_BEYOND,  LOCKSTEP_IGNORED,
+                                    LOCKSTEP_BAD_BYTES};
+  size_t len;
+  uint32_t told;
+  uint8_t *bytes = random_packet(it, false, &len);
+  if (!is_among(ASK(lockstep_peer_deliver(&it->peer, bytes, len, &told)), codes, 7))
+    die("peer_deliver: code %u", last_code());
+  it->taken += last_code() == LOCKSTEP_OK;
+  it->refused += last_code() == LOCKSTEP_BAD_BYTES;
+  while (ASK(lockstep_peer_tick(&it->peer, &told)) == LOCKSTEP_OK) {
+  }
+}
+
+static void up(trial *it) {
+  static const uint32_t codes[9] = {LOCKSTEP_OK,    LOCKSTEP_REPEAT,  LOCKSTEP_CONFLICT,
+                                    LOCKSTEP_LEFT,  LOCKSTEP_AHEAD,   LOCKSTEP_FULL,
+                                    LOCKSTEP_BEYOND, LOCKSTEP_IGNORED, LOCKSTEP_BAD_BYTES};
+  size_t len;
+  uint32_t told;
+  uint8_t *bytes = random_packet(it, true, &len);
+  if (!is_among(ASK(lockstep_server_up(&it->server, draw(2), bytes, len, &told)), codes, 9))
+    die("server_up: code %u", last_code());
+  it->taken += last_code() == LOCKSTEP_OK;
+  it->refused += last_code() == LOCKSTEP_BAD_BYTES;
+  while (ASK(lockstep_server_tick(&it->server, &told)) == LOCKSTEP_OK) {
+  }
+}
+
+/* Makes the world, the peer and the server anew. */
+static void begin(trial *it) {
+  lockstep_terms terms = {1, 2, 4, 0};
+  terms.seed = draw(1000);
+  let_go(&it->world);
+  let_go(&it->peer);
+  let_go(&it->server);
+  MUST(lockstep_world_create(&it->world, &it->setup, terms.seed, 2));
+  MUST(lockstep_peer_create(&it->peer, &it->setup, &terms));
+  MUST(lockstep_server_create(&it->server, &it->setup, 2, terms.seed));
+}
+
 /* A text of rules with bytes that are changed is read, or has a fault within its lines. */
 static void read_spoiled(trial *it) {
   lockstep_object setup = LOCKSTEP_EMPTY;
@@ -145,15 +220,20 @@ int main(int argc, char **argv) {
   it.end = guarded(it.rules.len > MOST_BYTES ? it.rules.len : MOST_BYTES);
   for (uint64_t i = 0; i < count; i++) {
     if (i % 500 == 0) {
-      let_go(&it.world);
-      MUST(lockstep_world_create(&it.world, &it.setup, draw(1000), 2));
+      begin(&it);
       read_spoiled(&it);
     }
-    step(&it);
+    switch (draw(4)) {
+      case 0: deliver(&it); break;
+      case 1: up(&it); break;
+      default: step(&it); break;
+    }
   }
   if (count >= 1000 && (it.taken < count / 10 || it.refused < count / 10))
-    die("%llu steps, %llu refused", (unsigned long long)it.taken, (unsigned long long)it.refused);
+    die("%llu taken, %llu refused", (unsigned long long)it.taken, (unsigned long long)it.refused);
   let_go(&it.world);
+  let_go(&it.peer);
+  let_go(&it.server);
   let_go(&it.setup);
   free(it.rules.bytes);
   if (blocks_held() != 0) die("%lld blocks were not freed", (long long)blocks_held());

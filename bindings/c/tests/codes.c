@@ -1,4 +1,5 @@
-/* Each code of each call, but for the FULL of a world's last frame; and what a setup says of kinds.
+/* Each code of each call, but for the FULL of the last frame of a world, a peer and a server; and
+ * what a setup says of kinds.
  *
  * usage: codes MAP RULES
  *
@@ -209,6 +210,212 @@ static void try_reading(lockstep_object *setup) {
   let_go(&world);
 }
 
+/* ---- The beginning of a link ---- */
+
+static void try_greeting(lockstep_object *setup) {
+  static const uint8_t other_version[13] = {11, 0, 1, 3, 0};
+  lockstep_object none = LOCKSTEP_EMPTY;
+  lockstep_packet packet = lockstep_bye();
+  lockstep_terms terms = {2, 2, 3, 7}, read = {9, 9, 9, 9};
+  uint32_t told = 99;
+  WANT(LOCKSTEP_REFUSED, lockstep_greeted(setup, packet.bytes, packet.len, &told));
+  EQUAL(told, 3);
+  WANT(LOCKSTEP_BAD_BYTES, lockstep_greeted(setup, packet.bytes, 2, &told));
+  WANT(LOCKSTEP_WRONG_OBJECT, lockstep_greeted(&none, packet.bytes, 2, &told));
+  WANT(LOCKSTEP_WRONG_OBJECT, lockstep_hello(&none, &packet));
+  WANT(LOCKSTEP_OK, lockstep_hello(setup, &packet));
+  WANT(LOCKSTEP_OK, lockstep_greeted(setup, packet.bytes, packet.len, &told));
+  WANT(LOCKSTEP_BAD_BYTES, lockstep_greeted(setup, packet.bytes, packet.len + 1, &told));
+  EQUAL(told, 3);
+  packet.bytes[5] ^= 1;
+  WANT(LOCKSTEP_REFUSED, lockstep_greeted(setup, packet.bytes, packet.len, &told));
+  EQUAL(told, 2);
+  WANT(LOCKSTEP_REFUSED, lockstep_greeted(setup, other_version, 13, &told));
+  EQUAL(told, 1);
+  WANT(LOCKSTEP_BAD_ARGUMENT, lockstep_welcome(&terms, &packet));
+  terms.me = 1;
+  terms.lag = 65;
+  WANT(LOCKSTEP_BAD_ARGUMENT, lockstep_welcome(&terms, &packet));
+  terms.lag = 3;
+  WANT(LOCKSTEP_OK, lockstep_welcome(&terms, &packet));
+  WANT(LOCKSTEP_BAD_BYTES, lockstep_welcomed(packet.bytes, packet.len - 1, &read));
+  WANT(LOCKSTEP_OK, lockstep_welcomed(packet.bytes, packet.len, &read));
+  EQUAL(memcmp(&terms, &read, sizeof terms), 0);
+  packet = lockstep_refuse(2);
+  WANT(LOCKSTEP_REFUSED, lockstep_welcomed(packet.bytes, packet.len, &read));
+  EQUAL(read.me, 2);
+  EQUAL(read.clients, 2);
+}
+
+/* ---- Peers and servers ---- */
+
+static const lockstep_play empty_play = LOCKSTEP_PLAY;
+
+/* A packet of the server: the entry of a client at a frame, a play that orders this pace, or, at
+ * 255, a departure. */
+static lockstep_packet entry_of(uint8_t client, uint32_t frame, uint8_t pace) {
+  lockstep_packet packet = {11, {9, 0, 19}};
+  packet.bytes[3] = client;
+  lockstep_put_(packet.bytes + 4, frame);
+  if (pace == 255) {
+    packet.len = 8;
+    packet.bytes[0] = 6;
+    packet.bytes[2] = 20;
+    return packet;
+  }
+  packet.bytes[8] = 1;
+  packet.bytes[9] = 8;
+  packet.bytes[10] = pace;
+  return packet;
+}
+
+#define DELIVER(code, peer, packet) \
+  (it = (packet), WANT(code, lockstep_peer_deliver(peer, it.bytes, it.len, &told)))
+
+static void try_delivering(lockstep_object *peer) {
+  lockstep_packet it;
+  uint32_t told = 99;
+  DELIVER(LOCKSTEP_OK, peer, entry_of(0, 3, 2));
+  DELIVER(LOCKSTEP_REPEAT, peer, entry_of(0, 3, 2));
+  DELIVER(LOCKSTEP_CONFLICT, peer, entry_of(0, 3, 4));
+  DELIVER(LOCKSTEP_BEYOND, peer, entry_of(0, 262144, 2));
+  DELIVER(LOCKSTEP_BAD_BYTES, peer, entry_of(2, 0, 2));
+  DELIVER(LOCKSTEP_IGNORED, peer, lockstep_refuse(1));
+  WANT(LOCKSTEP_BAD_BYTES, lockstep_peer_deliver(peer, it.bytes, it.len - 1, &told));
+  EQUAL(told, 99);
+  DELIVER(LOCKSTEP_PAST, peer, entry_of(0, 2, 255));
+  EQUAL(told, 3);
+  DELIVER(LOCKSTEP_OK, peer, entry_of(0, 4, 255));
+  DELIVER(LOCKSTEP_PAST, peer, entry_of(0, 5, 2));
+  EQUAL(told, 4);
+}
+
+static void try_peer(lockstep_object *setup) {
+  lockstep_object peer = LOCKSTEP_EMPTY, none = LOCKSTEP_EMPTY;
+  lockstep_terms terms = {1, 2, 2, 7}, bad = {2, 2, 2, 7};
+  lockstep_packet packet, it;
+  uint32_t told = 99;
+  WANT(LOCKSTEP_BAD_ARGUMENT, lockstep_peer_create(&peer, setup, &bad));
+  WANT(LOCKSTEP_WRONG_OBJECT, lockstep_peer_create(&peer, &none, &terms));
+  WANT(LOCKSTEP_OK, lockstep_peer_create(&peer, setup, &terms));
+  WANT(LOCKSTEP_WRONG_OBJECT, lockstep_peer_create(&peer, setup, &terms));
+  WANT(LOCKSTEP_WRONG_OBJECT, lockstep_world_step(&peer, empty_play.bytes, 2));
+  WANT(LOCKSTEP_WRONG_OBJECT, lockstep_peer_tick(setup, &told));
+  WANT(LOCKSTEP_WRONG_OBJECT, lockstep_peer_report(setup, &packet));
+  WANT(LOCKSTEP_WRONG_OBJECT, lockstep_peer_seal(setup, empty_play.bytes, 2, &packet));
+  WANT(LOCKSTEP_WRONG_OBJECT, lockstep_peer_deliver(setup, empty_play.bytes, 2, &told));
+  WANT(LOCKSTEP_NONE, lockstep_peer_report(&peer, &packet));
+  WANT(LOCKSTEP_NOT_YET, lockstep_peer_tick(&peer, &told));
+  EQUAL(told, 0);
+  try_delivering(&peer);
+  for (uint32_t frame = 0; frame < 3; frame++) DELIVER(LOCKSTEP_OK, &peer, entry_of(0, frame, 1));
+  WANT(LOCKSTEP_NOT_YET, lockstep_peer_tick(&peer, &told));
+  EQUAL(told, 1);
+  WANT(LOCKSTEP_BAD_BYTES, lockstep_peer_seal(&peer, empty_play.bytes, 1, &packet));
+  WANT(LOCKSTEP_OK, lockstep_peer_seal(&peer, empty_play.bytes, 2, &packet));
+  EQUAL(packet.len, 8);
+  EQUAL(packet.bytes[3], 0);
+  WANT(LOCKSTEP_OK, lockstep_peer_seal(&peer, empty_play.bytes, 2, &packet));
+  EQUAL(packet.bytes[3], 1);
+  WANT(LOCKSTEP_TOO_EARLY, lockstep_peer_seal(&peer, empty_play.bytes, 2, &packet));
+  DELIVER(LOCKSTEP_OK, &peer, entry_of(1, 0, 1));
+  WANT(LOCKSTEP_OK, lockstep_peer_tick(&peer, &told));
+  EQUAL(told, 0);
+  WANT(LOCKSTEP_OK, lockstep_peer_report(&peer, &packet));
+  EQUAL(packet.len, 15);
+  WANT(LOCKSTEP_OK, lockstep_peer_seal(&peer, empty_play.bytes, 2, &packet));
+  DELIVER(LOCKSTEP_OK, &peer, entry_of(1, 1, 255));
+  WANT(LOCKSTEP_LEFT, lockstep_peer_seal(&peer, empty_play.bytes, 2, &packet));
+  for (uint32_t frame = 1; frame < 4; frame++) MUST(lockstep_peer_tick(&peer, &told));
+  WANT(LOCKSTEP_OVER, lockstep_peer_tick(&peer, &told));
+  EQUAL(told, 3);
+  let_go(&peer);
+}
+
+/* A client's packet: its play for a frame, which orders this pace. */
+static lockstep_packet play_of(uint32_t frame, uint8_t pace) {
+  lockstep_packet packet = {10, {8, 0, 2}};
+  lockstep_put_(packet.bytes + 3, frame);
+  packet.bytes[7] = 1;
+  packet.bytes[8] = 8;
+  packet.bytes[9] = pace;
+  return packet;
+}
+
+/* A report of a frame, with a hash that no world has. */
+static lockstep_packet report_of(uint32_t frame) {
+  lockstep_packet packet = {15, {13, 0, 3}};
+  lockstep_put_(packet.bytes + 3, frame);
+  return packet;
+}
+
+#define UP(code, server, client, packet) \
+  (it = (packet), WANT(code, lockstep_server_up(server, client, it.bytes, it.len, &told)))
+
+static void try_ups(lockstep_object *server, lockstep_object *setup) {
+  lockstep_packet it;
+  uint32_t told = 99;
+  MUST(lockstep_hello(setup, &it));
+  WANT(LOCKSTEP_IGNORED, lockstep_server_up(server, 0, it.bytes, it.len, &told));
+  WANT(LOCKSTEP_BAD_BYTES, lockstep_server_up(server, 0, it.bytes, it.len - 1, &told));
+  UP(LOCKSTEP_BAD_ARGUMENT, server, 2, play_of(0, 1));
+  UP(LOCKSTEP_OK, server, 0, play_of(0, 1));
+  UP(LOCKSTEP_REPEAT, server, 0, play_of(0, 1));
+  UP(LOCKSTEP_CONFLICT, server, 0, play_of(0, 2));
+  UP(LOCKSTEP_OK, server, 0, report_of(0));
+  UP(LOCKSTEP_REPEAT, server, 0, report_of(0));
+  UP(LOCKSTEP_BEYOND, server, 0, report_of(262144));
+  EQUAL(told, 99);
+  UP(LOCKSTEP_AHEAD, server, 0, play_of(2, 1));
+  EQUAL(told, 1);
+}
+
+static void try_server(lockstep_object *setup) {
+  lockstep_object server = LOCKSTEP_EMPTY, none = LOCKSTEP_EMPTY;
+  lockstep_packet it;
+  lockstep_alarm alarm = {9, 9, 9};
+  uint32_t told = 99;
+  WANT(LOCKSTEP_BAD_ARGUMENT, lockstep_server_create(&server, setup, 0, 7));
+  WANT(LOCKSTEP_BAD_ARGUMENT, lockstep_server_create(&server, setup, 17, 7));
+  WANT(LOCKSTEP_WRONG_OBJECT, lockstep_server_create(&server, &none, 2, 7));
+  WANT(LOCKSTEP_OK, lockstep_server_create(&server, setup, 2, 7));
+  WANT(LOCKSTEP_WRONG_OBJECT, lockstep_server_create(&server, setup, 2, 7));
+  WANT(LOCKSTEP_WRONG_OBJECT, lockstep_peer_tick(&server, &told));
+  WANT(LOCKSTEP_WRONG_OBJECT, lockstep_server_tick(&none, &told));
+  WANT(LOCKSTEP_WRONG_OBJECT, lockstep_server_drop(setup, 0, &told));
+  WANT(LOCKSTEP_WRONG_OBJECT, lockstep_server_entry(setup, 0, 0, &it));
+  WANT(LOCKSTEP_WRONG_OBJECT, lockstep_server_alarm(setup, 0, &alarm));
+  WANT(LOCKSTEP_WRONG_OBJECT, lockstep_server_up(setup, 0, it.bytes, 0, &told));
+  try_ups(&server, setup);
+  WANT(LOCKSTEP_NOT_YET, lockstep_server_tick(&server, &told));
+  EQUAL(told, 1);
+  WANT(LOCKSTEP_NONE, lockstep_server_alarm(&server, 0, &alarm));
+  WANT(LOCKSTEP_BAD_ARGUMENT, lockstep_server_alarm(&server, 2, &alarm));
+  WANT(LOCKSTEP_BAD_ARGUMENT, lockstep_server_drop(&server, 2, &told));
+  WANT(LOCKSTEP_OK, lockstep_server_drop(&server, 1, &told));
+  EQUAL(told, 0);
+  WANT(LOCKSTEP_LEFT, lockstep_server_drop(&server, 1, &told));
+  UP(LOCKSTEP_LEFT, &server, 1, play_of(1, 1));
+  EQUAL(told, 0);
+  WANT(LOCKSTEP_OK, lockstep_server_tick(&server, &told));
+  EQUAL(told, 0);
+  WANT(LOCKSTEP_OK, lockstep_server_alarm(&server, 0, &alarm));
+  EQUAL(alarm.frame, 0);
+  EQUAL(alarm.got, 0);
+  EQUAL(alarm.want, hash_of(&server));
+  WANT(LOCKSTEP_OK, lockstep_server_entry(&server, 0, 0, &it));
+  EQUAL(it.len, 11);
+  WANT(LOCKSTEP_OK, lockstep_server_entry(&server, 1, 0, &it));
+  EQUAL(it.len, 8);
+  WANT(LOCKSTEP_NONE, lockstep_server_entry(&server, 0, 1, &it));
+  WANT(LOCKSTEP_BAD_ARGUMENT, lockstep_server_entry(&server, 2, 0, &it));
+  UP(LOCKSTEP_OK, &server, 0, lockstep_bye());
+  EQUAL(told, 1);
+  UP(LOCKSTEP_LEFT, &server, 0, lockstep_bye());
+  WANT(LOCKSTEP_OVER, lockstep_server_tick(&server, &told));
+  let_go(&server);
+}
+
 int main(int argc, char **argv) {
   lockstep_object setup;
   if (argc != 3) die("codes MAP RULES");
@@ -222,6 +429,9 @@ int main(int argc, char **argv) {
   try_making(&setup);
   try_steps(&setup);
   try_reading(&setup);
+  try_greeting(&setup);
+  try_peer(&setup);
+  try_server(&setup);
   let_go(&setup);
   EQUAL(blocks_held(), 0);
   return wrong ? 1 : 0;

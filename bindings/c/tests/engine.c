@@ -2,12 +2,14 @@
  *
  * usage: engine [--refuse] COMMAND ..
  *
+ *   drill --script FILE [--record FILE] [--map FILE] [RULES]
  *   local --script FILE [--map FILE] [RULES]
  *   replay --file FILE [--map FILE] [RULES]
  *   worlds --file FILE [--from N] [--to N] [--every N] [--map FILE] [RULES]
  *   check [--map FILE] RULES
  *
  * Files other than rules and map have to be ones that the program accepts, replays of its version.
+ * `drill` records nothing.
  * `check` prints nothing of what is skipped. `worlds` prints no kinds and no ground, and of an
  * actor's activities and builds a line `has` with their numbers and that of the first activity.
  *
@@ -65,13 +67,13 @@ static uint8_t next_part(replay *it) {
 
 /* ---- What is printed of a world ---- */
 
-static lockstep_head head_of(lockstep_object *any) {
+lockstep_head head_of(lockstep_object *any) {
   lockstep_head head;
   MUST(lockstep_read_head(any, &head));
   return head;
 }
 
-static void print_summary(lockstep_object *any, FILE *out) {
+void print_summary(lockstep_object *any, FILE *out) {
   lockstep_head head = head_of(any);
   fprintf(out, " hash %016llx actors %u cash", (unsigned long long)head.hash, head.actors);
   for (uint32_t c = 0; c < head.clients; c++) fprintf(out, " %u", head.cash[c]);
@@ -147,6 +149,7 @@ static request read_request(int count, char **list) {
     else if (!strcmp(option, "--from")) it.from = value;
     else if (!strcmp(option, "--to")) it.to = value;
     else if (!strcmp(option, "--every")) it.every = number_in(value);
+    else if (!strcmp(option, "--record")) it.record = value;
     else die("no option %s", option);
     if (value != list[i]) value[-1] = '=';
   }
@@ -314,7 +317,8 @@ typedef int answers(request *it, lockstep_object *setup, FILE *out);
 static const struct {
   const char *name;
   answers *answer;
-} commands[] = {{"local", answer_local},
+} commands[] = {{"drill", answer_drill},
+                {"local", answer_local},
                 {"replay", answer_replay},
                 {"worlds", answer_worlds},
                 {"check", answer_check}};

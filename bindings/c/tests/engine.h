@@ -32,13 +32,20 @@ uint64_t long_at(const uint8_t *bytes);
 
 /* ---- Commands ---- */
 
+/* The head of a world, a peer or a server; and what the program prints of it at a line's end. */
+lockstep_head head_of(lockstep_object *any);
+void print_summary(lockstep_object *any, FILE *out);
+
 #define MOST_RULES 64
 
 typedef struct {
-  const char *map, *script, *file, *from, *to;
+  const char *map, *script, *file, *from, *to, *record;
   uint32_t every;
   char *rules[MOST_RULES];
   int count;
 } request;
+
+/* A match of a drill (match.c). */
+int answer_drill(request *it, lockstep_object *setup, FILE *out);
 
 #endif

@@ -18,7 +18,13 @@ SAME(sizeof(lockstep_kind), 76);
 SAME(sizeof(lockstep_head), 184);
 SAME(offsetof(lockstep_head, gone), 116);
 SAME(sizeof(lockstep_actor), 56);
+SAME(sizeof(lockstep_packet), 264);
+SAME(sizeof(lockstep_terms), 16);
+SAME(sizeof(lockstep_alarm), 24);
+SAME(offsetof(lockstep_alarm, got), 8);
+SAME(LOCKSTEP_PAST, 11);
 SAME(LOCKSTEP_FULL, 12);
+SAME(LOCKSTEP_REFUSED, 14);
 SAME(LOCKSTEP_NO_MEMORY, 37);
 
 static bool bytes_are(const uint8_t *bytes, uint32_t len, const char *want, size_t want_len) {
@@ -69,8 +75,19 @@ static int check_positions(void) {
   return x == 3 * 1024 + 512 && y == 2 * 1024 + 512 + 768 ? 0 : 23;
 }
 
+/* 0 where packets have the bytes of docs/FORMATS.md. */
+static int check_packets(void) {
+  static const uint8_t two[5] = {1, 0, 4, 2, 0}, large[2] = {3, 1};
+  lockstep_packet bye = lockstep_bye(), refuse = lockstep_refuse(2);
+  if (!bytes_are(bye.bytes, bye.len, "\1\0\4", 3)) return 41;
+  if (!bytes_are(refuse.bytes, refuse.len, "\2\0\22\2", 4)) return 42;
+  if (lockstep_packet_size(two, 5) != 3 || lockstep_packet_size(two + 3, 2) != 0) return 43;
+  return lockstep_packet_size(two, 1) == 0 && lockstep_packet_size(large, 2) > 260 ? 0 : 44;
+}
+
 int main(void) {
   int wrong = check_orders();
+  if (!wrong) wrong = check_packets();
   if (!wrong) wrong = check_positions();
   if (!wrong && strcmp(lockstep_cause(35), "CellTaken") != 0) wrong = 31;
   if (!wrong && (strcmp(lockstep_cause(16), "?") != 0 || strcmp(lockstep_cause(99), "?") != 0))

@@ -33,7 +33,7 @@ def call(words, folder=None, seconds=PATIENCE * 10, **how):
 
 class Library:
     # The files of a test program beside its own.
-    BESIDE = {'engine': ('words',)}
+    BESIDE = {'engine': ('words', 'match')}
 
     def __init__(self, tally, program, folder, is_long):
         self.tally, self.program, self.folder, self.is_long = tally, program, folder, is_long
@@ -99,6 +99,9 @@ class Library:
         ran = call([self.program, 'drill', '--script', script, '--record', record, *words])
         if ran[0] != 0:
             return f'the program: {ran}'
+        status, out, said = call([*engine, 'drill', '--script', script, *words])
+        if (status, out) != (0, ran[1]):
+            return f'drill {number}: status {status}, {said[-300:]!r}; {script}'
         for name in ('replay', 'worlds'):
             want = recorded.as_engine(name, call([self.program, name, '--file', record, *words])[1])
             status, out, said = call([*engine, name, '--file', record, *words])
@@ -109,7 +112,8 @@ class Library:
         return None
 
     def of_drills(self, engine, name, count, made):
-        """The battle, made matches and random games: the hash after each frame, and each world, are the program's."""
+        """The battle, made matches and random games. Of peers and a server, among which packets are lost, repeated and
+        reordered: each answer, and the hashes of all. Of the replay: the hash after each frame, and each world."""
         with open(f'{TOP}/examples/battle/battle.drill', encoding='utf-8') as it:
             jobs = [('battle', it.read(), BATTLE)]
         jobs += [(f'made{it}', made_drill(it), SAMPLE) for it in made]
@@ -130,7 +134,8 @@ class Library:
             it.write(random_drill(3, 60 if self.is_long else 6))
         call([self.program, 'drill', '--script', script, '--record', record, '--map', *SAMPLE])
         battle = f'{TOP}/examples/battle/battle.replay'
-        for words in (['worlds', '--file', battle, '--map', *BATTLE], ['worlds', '--file', record, '--map', *SAMPLE],
+        for words in (['drill', '--script', script, '--map', *SAMPLE],
+                      ['worlds', '--file', battle, '--map', *BATTLE], ['worlds', '--file', record, '--map', *SAMPLE],
                       ['check', '--map', *SAMPLE]):
             want = call([self.program, *words])
             status, out, said = call([engine, '--refuse', *words], seconds=PATIENCE * 60)
@@ -155,6 +160,21 @@ class Library:
         found = re.search(rb'local (frames \d+ hash \w+)', call([self.program, 'local', '--script', script, '--map', *SAMPLE])[1])
         words = [*before.split(), groups, str(frames), *SAMPLE]
         self.answers(f'groups on threads{name}', words, found and found[1] + b'\n', seconds=PATIENCE * 30)
+
+    # ---- Over TCP ----
+
+    def of_joined(self, joined, name, frames, before=''):
+        """A client in C beside a bot of the program, both of the program's server: one hash."""
+        address = free_address()
+        files = ['--map', *SAMPLE]
+        words = ([self.program, 'serve', '--at', address, '--clients', '2', '--lag', '3', '--seed', '5', *files],
+                 [self.program, 'play', '--at', address, '--bot', '--frames', str(frames), *files],
+                 [*before.split(), joined, address.rsplit(':', 1)[1], str(frames), *SAMPLE])
+        with ThreadPoolExecutor(3) as pool:
+            ends = list(pool.map(call, words))
+        found = re.search(rb'server (frames \d+ hash \w+)', ends[0][1])
+        same = found and ends[2][:2] == (0, found[1] + b'\n') and found[1].startswith(b'frames %d ' % frames)
+        self.tally.check(f'a client of serve{name}', same, ends)
 
     # ---- The page and the demo ----
 
@@ -226,7 +246,8 @@ def run_parts(it):
     it.of_page()
     engine, codes, bytes_of = (it.build(name) for name in ('engine', 'codes', 'bytes'))
     groups = it.build('groups', sources=['groups'], libraries='-pthread')
-    if not (engine and codes and bytes_of and groups):
+    joined = it.build('joined')
+    if not (engine and codes and bytes_of and groups and joined):
         return
     it.of_codes(codes, '')
     it.of_recorded([engine], '')
@@ -234,6 +255,7 @@ def run_parts(it):
     it.of_refused(engine)
     it.of_bytes(bytes_of, '', 10_000_000 if is_long else 1_000_000)
     it.of_groups(groups, '', 500 if is_long else 100)
+    it.of_joined(joined, '', 200)
     small = it.build('groups', '-O2 -DSTACK=81920', sources=['groups'], libraries='-pthread')
     if small:
         it.of_groups(small, ', 64 KB of stack for a call', 100)
@@ -259,5 +281,6 @@ def run_parts(it):
     it.of_codes(codes, ', valgrind', VALGRIND)
     it.of_recorded([*VALGRIND.split(), engine], ', valgrind', 3 if is_long else 40)
     it.of_drills([*VALGRIND.split(), engine], ', valgrind', 10 if is_long else 1, ())
+    it.of_joined(joined, ', valgrind', 40, VALGRIND)
     it.of_groups(groups, ', helgrind', 60 if is_long else 10, 'valgrind -q --tool=helgrind --error-exitcode=98')
     timed('valgrind', begun)

@@ -11,7 +11,10 @@ mod handle;
 mod kept;
 mod object;
 
-pub use code::{BAD_ARGUMENT, BAD_BYTES, FAULT, FULL, NO_MEMORY, NO_ROOM, NONE, OK, WRONG_OBJECT};
+pub use code::{
+    AHEAD, BAD_ARGUMENT, BAD_BYTES, BEYOND, CONFLICT, FAULT, FULL, IGNORED, LEFT, NO_MEMORY,
+    NO_ROOM, NONE, NOT_YET, OK, OVER, PAST, REFUSED, REPEAT, TOO_EARLY, WRONG_OBJECT,
+};
 pub use handle::Handle;
 pub use kept::Kept;
 pub use object::Object;

@@ -24,4 +24,4 @@ pub use held::{game_of, made_of};
 pub use kinds::{CKind, setup_kind, setup_kind_name};
 pub use ore::read_ore;
 pub use setups::{MAP, RULES, setup_add, setup_create, setup_read, setup_share};
-pub use worlds::{world_create, world_step};
+pub use worlds::{read_frame, world_create, world_step};

@@ -16,6 +16,8 @@ ghost use Rattle.c_worlds.specs.Setups.{share_code, shared};
 ghost use Rattle.c_worlds.specs.Told.{list_code, list_needed, list_out, one_code, one_out};
 ghost use Rattle.c_worlds.specs.Worlds.{create_code, created, ore_told, step_code, stepped};
 
+mod matches;
+
 use c_objects::Object;
 use c_worlds::{CActor, CFault, CHead, CKind};
 use std::alloc::Global;

@@ -1,0 +1,9 @@
+pub mod Answers
+pub mod Greetings
+pub mod Histories
+pub mod Held
+pub mod Packets
+pub mod Peers
+pub mod Servers
+pub mod Terms
+pub mod Ticks
