@@ -72,16 +72,23 @@ def run(program, words, folder=EXAMPLES, stdin=subprocess.DEVNULL, stdout=subpro
     return Ran(child.returncode, out or b'', err)
 
 
+# The ports that were handed out.
+HANDED, HANDING = set(), threading.Lock()
+
+
 def free_address():
-    """A free address, with a port below those from which systems dial."""
+    """A free address, with a port below those from which systems dial, which no other test of this run has."""
     while True:
         port = random.randrange(20_000, 32_000)
-        with socket.socket() as probe:
+        with HANDING, socket.socket() as probe:
+            if port in HANDED:
+                continue
             try:
                 probe.bind(('127.0.0.1', port))
-                return f'127.0.0.1:{port}'
             except OSError:
-                pass
+                continue
+            HANDED.add(port)
+            return f'127.0.0.1:{port}'
 
 
 def with_examples(folder):
