@@ -1,6 +1,6 @@
 """`serve` and `play` at `udp:`: plain, through a relay that loses, repeats and holds back datagrams, beside hostile
 datagrams, and with a player that is killed."""
-import os, random, select, socket, struct, tempfile, threading, time
+import os, random, re, select, signal, socket, struct, tempfile, threading, time
 
 from harness import PATIENCE, Ran, free_address, with_examples
 from links import Started, hello
@@ -324,6 +324,24 @@ class Datagrams:
         server.ended()
         self.tally.same('datagrams: a killed server', player.ended(), Ran(4, b'fault link\n'))
 
+    def of_clocks(self):
+        """A player that is stopped is let go by the clock, and its link fails; nobody comes for the last seat."""
+        at, first = free_address(), random.randrange(33_000, 60_000)
+        server = self.start(f'serve --at udp:{at} --clients 3 --patience 1 --lobby 1 --udp-ports {first}-{first + 2}')
+        stopped = self.start(f'play --at udp:{at} --script short.script')
+        wait_for_links(first, 1)
+        stopped.child.send_signal(signal.SIGSTOP)
+        player = self.start(f'play --at udp:{at} --script short.script')
+        try:
+            played, served = player.ended(), server.ended()
+        finally:
+            stopped.child.kill()
+            stopped.ended()
+        world = re.search(rb'^server (frames 100 .*)$', served.out, re.M)
+        self.tally.check('datagrams: a stopped player', served.status == 0 and b'link 0 lost\n' in served.out and world, served)
+        self.tally.check('datagrams: the other plays on', played.status == 0 and world and world_of(played) == world[1], played)
+        self.tally.check('datagrams: nobody came', b'client 2 has no link\n' in served.err, served)
+
     def of_strangers(self):
         """After the last seat nobody answers a call; a known caller is told the same port again."""
         at = free_address()
@@ -368,5 +386,6 @@ def run_all(tally, program, is_long):
         it.of_hostile()
         it.of_flood()
         it.of_killed()
+        it.of_clocks()
         it.of_strangers()
         it.of_net()

@@ -2,6 +2,4 @@
 #![tactic(auto)]
 
 #[cfg(test)]
-mod sockets;
-#[cfg(test)]
 mod turns;
