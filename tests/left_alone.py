@@ -2,7 +2,7 @@
 import concurrent.futures, os, re, resource, signal, socket, subprocess, tempfile, time
 
 from harness import PATIENCE, Ran, free_address, run
-from links import Links, connected, hello, play_of
+from links import Links, connected, hello, packet, play_of
 
 # A player is let go after so many seconds, and a seat stays empty after as many.
 CLOCK = 2
@@ -143,6 +143,25 @@ class LeftAlone(Links):
         self.let_go('a deaf player', server, self.play(server))
         self.tally.check('a deaf player: its frames', b'client 0 leaves at frame %d' % (FRAMES // 2) in server.lines(), server.lines())
         link.close()
+
+    def of_ahead(self):
+        """One that sends 1,000 frames at once, while the other has played 3: a kick holds within the lag and one frame more."""
+        server = Server(self, 2, '--lag 2', stdin=subprocess.PIPE)
+        link = self.silent(server, hello() + b''.join(play_of(frame) for frame in range(1000)))
+        server.wait_for(b'client 0 has a link from ')
+        other = self.silent(server, hello() + b''.join(play_of(frame) for frame in range(3)))
+        server.wait_for(b'client 1 greets')
+        time.sleep(0.5)
+        server.say(b'kick 0\n')
+        # What the kick stops is ticked once the other has left.
+        time.sleep(0.5)
+        other.sendall(packet(b'\4'))
+        for it in (link, other, server.child.stdin):
+            it.close()
+        served = server.ended()
+        column = re.search(rb'^column 0 (\d+) left$', served.out, re.M)
+        self.tally.check('a client that is far ahead', served.status == 0 and column and 3 <= int(column[1]) <= 3 + 2 + 1, served)
+        self.same_world('a client that is far ahead', served, server)
 
     def of_empty_seat(self):
         """Nobody comes to one of three seats, and then to none."""
@@ -288,7 +307,7 @@ class LeftAlone(Links):
 def run_all(tally, program, is_long):
     with tempfile.TemporaryDirectory() as folder:
         it = LeftAlone(tally, program, folder)
-        parts = [it.of_stopped, it.of_silent, it.of_deaf, it.of_empty_seat, it.of_stop, it.of_fourth, it.of_names, it.of_quiet]
+        parts = [it.of_stopped, it.of_silent, it.of_deaf, it.of_ahead, it.of_empty_seat, it.of_stop, it.of_fourth, it.of_names, it.of_quiet]
         with concurrent.futures.ThreadPoolExecutor(4) as pool:
             for ran in [pool.submit(part) for part in parts + [it.of_late] * is_long]:
                 try:
