@@ -186,9 +186,9 @@ def wait_for_links(first, links):
 
 
 def memory_of(process):
-    """The most memory that it has had, in kB."""
+    """The most memory that it has had, in kB, or 0 once it has ended."""
     with open(f'/proc/{process.pid}/status') as file:
-        return next(int(line.split()[1]) for line in file if line.startswith('VmHWM'))
+        return next((int(line.split()[1]) for line in file if line.startswith('VmHWM')), 0)
 
 
 def world_of(ran):

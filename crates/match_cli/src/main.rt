@@ -101,7 +101,12 @@ fn main(rt: HostRuntime) -> ExitCode {
     {
         return ExitCode::from(OUT_OF_MEMORY);
     }
-    let tcp = Tcp::hosted(&rt, desk.stop(), cut);
+    // Only a clock cuts links. The sockets of others have no limits of time, so a process that is stopped
+    // and goes on keeps its links.
+    let tcp = match options.patience {
+        Some(_) => Tcp::hosted(&rt, desk.stop(), cut),
+        None => Tcp::until(&rt, desk.stop()),
+    };
     let udp = Udp::new(&rt, rt.alloc(), udp_ports(&options), desk.stop(), udp_cut);
     let mut net = TransportNet::over(ByAddress::new(tcp, udp));
     limit_lobby(&mut net, options.lobby);
