@@ -124,6 +124,30 @@ class LeftAlone(Links):
             stopped.child.kill()
             stopped.ended()
 
+    def of_continued(self):
+        """A player and then the server, stopped and continued: without a clock the match goes on."""
+        server = Server(self, 2)
+        player = self.play(server)
+        server.wait_for(b'client 0 has a link from ')
+        self.stop_awhile(player.child)
+        link = self.silent(server, hello() + b''.join(play_of(frame) for frame in range(FRAMES // 2)))
+        server.wait_for(b'client 1 greets')
+        for child in (player.child, server.child):
+            self.stop_awhile(child)
+        link.sendall(b''.join(play_of(frame) for frame in range(FRAMES // 2, FRAMES)) + packet(b'\4'))
+        link.close()
+        played, served = player.ended(), server.ended()
+        world = re.search(rb'^server (frames %d .*)$' % FRAMES, served.out, re.M)
+        held = played.status == served.status == 0 and world and world[1] in played.out
+        self.tally.check('a player and a server that are stopped and continued', held, (played, served))
+
+    @staticmethod
+    def stop_awhile(child):
+        child.send_signal(signal.SIGSTOP)
+        time.sleep(0.3)
+        child.send_signal(signal.SIGCONT)
+        time.sleep(0.2)
+
     def of_silent(self):
         """One that says nothing at all."""
         server = Server(self, 2, f'--patience {CLOCK}')
@@ -307,7 +331,7 @@ class LeftAlone(Links):
 def run_all(tally, program, is_long):
     with tempfile.TemporaryDirectory() as folder:
         it = LeftAlone(tally, program, folder)
-        parts = [it.of_stopped, it.of_silent, it.of_deaf, it.of_ahead, it.of_empty_seat, it.of_stop, it.of_fourth, it.of_names, it.of_quiet]
+        parts = [it.of_stopped, it.of_continued, it.of_silent, it.of_deaf, it.of_ahead, it.of_empty_seat, it.of_stop, it.of_fourth, it.of_names, it.of_quiet]
         with concurrent.futures.ThreadPoolExecutor(4) as pool:
             for ran in [pool.submit(part) for part in parts + [it.of_late] * is_long]:
                 try:
