@@ -49,7 +49,7 @@ enum {
   LOCKSTEP_OVER = 4,
   LOCKSTEP_TOO_EARLY = 5,
   LOCKSTEP_LEFT = 6,
-  LOCKSTEP_BEYOND = 8, /* no match has such a frame */
+  LOCKSTEP_NO_FRAME = 8, /* no match has such a frame */
   LOCKSTEP_AHEAD = 9,
   LOCKSTEP_CONFLICT = 10, /* another is there already */
   LOCKSTEP_PAST = 11,
@@ -255,7 +255,7 @@ uint32_t lockstep_peer_create(lockstep_object *peer, lockstep_object *setup,
 /* Takes an entry that the server sent, in whatever order. OK: it is new. REPEAT: it is there.
  * CONFLICT: another of that client and frame is there. PAST: it contradicts what is there at the
  * frame `told`: the client's departure before it, or, if it is a departure, an entry after it.
- * BEYOND. IGNORED: a packet, but no entry. BAD_BYTES: not one whole packet, or of a client that the
+ * NO_FRAME. IGNORED: a packet, but no entry. BAD_BYTES: not one whole packet, or of a client that the
  * match has not. Only OK changes the peer. */
 uint32_t lockstep_peer_deliver(lockstep_object *peer, const uint8_t *bytes, size_t len,
                                uint32_t *told);
@@ -283,7 +283,7 @@ uint32_t lockstep_server_create(lockstep_object *server, lockstep_object *setup,
 /* Takes a packet of a client: a play, a report, or a farewell, which is lockstep_server_drop.
  * Of a play: OK, REPEAT, CONFLICT; AHEAD: the play for the frame `told` comes first, and this
  * one has to be sent again; LEFT: the client departed at the frame `told`; FULL: 262,144 frames.
- * Of a report: OK; REPEAT: the first for a frame stays; BEYOND. A farewell of a client that has
+ * Of a report: OK; REPEAT: the first for a frame stays; NO_FRAME. A farewell of a client that has
  * departed: LEFT. OK of a farewell: `told` is the frame. IGNORED: a greeting. BAD_ARGUMENT: no
  * such client. BAD_BYTES: not one whole packet. Only OK changes the server. After CONFLICT or
  * BAD_BYTES drop the client. */

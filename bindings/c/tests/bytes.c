@@ -149,7 +149,7 @@ static bool is_among(uint32_t code, const uint32_t *codes, size_t count) {
 
 static void deliver(trial *it) {
   static const uint32_t codes[7] = {LOCKSTEP_OK,     LOCKSTEP_REPEAT,  LOCKSTEP_CONFLICT,
-                                    LOCKSTEP_PAST,   LOCKSTEP_BEYOND,  LOCKSTEP_IGNORED,
+                                    LOCKSTEP_PAST,   LOCKSTEP_NO_FRAME,  LOCKSTEP_IGNORED,
                                     LOCKSTEP_BAD_BYTES};
   size_t len;
   uint32_t told;
@@ -165,7 +165,7 @@ static void deliver(trial *it) {
 static void up(trial *it) {
   static const uint32_t codes[9] = {LOCKSTEP_OK,    LOCKSTEP_REPEAT,  LOCKSTEP_CONFLICT,
                                     LOCKSTEP_LEFT,  LOCKSTEP_AHEAD,   LOCKSTEP_FULL,
-                                    LOCKSTEP_BEYOND, LOCKSTEP_IGNORED, LOCKSTEP_BAD_BYTES};
+                                    LOCKSTEP_NO_FRAME, LOCKSTEP_IGNORED, LOCKSTEP_BAD_BYTES};
   size_t len;
   uint32_t told;
   uint8_t *bytes = random_packet(it, true, &len);

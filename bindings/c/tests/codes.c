@@ -278,7 +278,7 @@ static void try_delivering(lockstep_object *peer) {
   DELIVER(LOCKSTEP_OK, peer, entry_of(0, 3, 2));
   DELIVER(LOCKSTEP_REPEAT, peer, entry_of(0, 3, 2));
   DELIVER(LOCKSTEP_CONFLICT, peer, entry_of(0, 3, 4));
-  DELIVER(LOCKSTEP_BEYOND, peer, entry_of(0, 262144, 2));
+  DELIVER(LOCKSTEP_NO_FRAME, peer, entry_of(0, 262144, 2));
   DELIVER(LOCKSTEP_BAD_BYTES, peer, entry_of(2, 0, 2));
   DELIVER(LOCKSTEP_IGNORED, peer, lockstep_refuse(1));
   WANT(LOCKSTEP_BAD_BYTES, lockstep_peer_deliver(peer, it.bytes, it.len - 1, &told));
@@ -364,7 +364,7 @@ static void try_ups(lockstep_object *server, lockstep_object *setup) {
   UP(LOCKSTEP_CONFLICT, server, 0, play_of(0, 2));
   UP(LOCKSTEP_OK, server, 0, report_of(0));
   UP(LOCKSTEP_REPEAT, server, 0, report_of(0));
-  UP(LOCKSTEP_BEYOND, server, 0, report_of(262144));
+  UP(LOCKSTEP_NO_FRAME, server, 0, report_of(262144));
   EQUAL(told, 99);
   UP(LOCKSTEP_AHEAD, server, 0, play_of(2, 1));
   EQUAL(told, 1);

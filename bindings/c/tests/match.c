@@ -103,7 +103,7 @@ static void print_report(uint32_t code, uint32_t client, uint32_t frame, FILE *o
   switch (code) {
     case LOCKSTEP_OK: fprintf(out, "report %u %u", client, frame); return;
     case LOCKSTEP_REPEAT: fprintf(out, "report repeated %u %u", client, frame); return;
-    case LOCKSTEP_BEYOND: fprintf(out, "report beyond %u %u", client, frame); return;
+    case LOCKSTEP_NO_FRAME: fprintf(out, "report beyond %u %u", client, frame); return;
     default: die("a report: code %u", code);
   }
 }

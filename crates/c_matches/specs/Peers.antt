@@ -74,7 +74,7 @@ receipt_answer receipt.Kept = only code.OK
 receipt_answer receipt.Repeat = only code.REPEAT
 receipt_answer receipt.Conflict = only code.CONFLICT
 receipt_answer (receipt.Past frame) = telling code.PAST frame
-receipt_answer receipt.Beyond = only code.BEYOND
+receipt_answer receipt.Beyond = only code.NO_FRAME
 
 abbrev pub entry_answer : (client frame : ℕ) → entries.Entry → GamePeer → Answer
 entry_answer client frame entry peer =

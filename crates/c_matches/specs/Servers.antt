@@ -79,7 +79,7 @@ put_answer_of Full = only code.FULL
 abbrev pub report_answer_of : Reported → Answer
 report_answer_of reported.Kept = only code.OK
 report_answer_of reported.Repeat = only code.REPEAT
-report_answer_of reported.Beyond = only code.BEYOND
+report_answer_of reported.Beyond = only code.NO_FRAME
 
 abbrev pub leaving_answer : Leaving → Answer
 leaving_answer (FixedAt frame) = telling code.OK frame

@@ -13,8 +13,8 @@ use crate::packet_reading::packet_in;
 use crate::terms::{CTerms, Terms, terms_in};
 use base::NoMemory;
 use c_objects::{
-    BAD_ARGUMENT, BAD_BYTES, BEYOND, CONFLICT, IGNORED, Kept, NO_MEMORY, NOT_YET, OK, OVER, Object,
-    PAST, REPEAT, WRONG_OBJECT,
+    BAD_ARGUMENT, BAD_BYTES, CONFLICT, IGNORED, Kept, NO_FRAME, NO_MEMORY, NOT_YET, OK, OVER,
+    Object, PAST, REPEAT, WRONG_OBJECT,
 };
 use c_worlds::made_of;
 use frame_core::{Maker, TickAnswer};
@@ -96,7 +96,7 @@ fn answer_of(receipt: Receipt) -> Answer
         Receipt::Repeat => Answer::only(REPEAT),
         Receipt::Conflict => Answer::only(CONFLICT),
         Receipt::Past(frame) => Answer::telling(PAST, frame),
-        Receipt::Beyond => Answer::only(BEYOND),
+        Receipt::Beyond => Answer::only(NO_FRAME),
     }
 }
 
@@ -143,7 +143,7 @@ fn deliver(peer: &mut Peer<Game>, bytes: &[u8]) -> Answer
 /// Delivers a packet of the server to a peer, in any order. Only `OK` changes anything: the entry is
 /// new, and kept. `REPEAT`: it is there. `CONFLICT`: another one is. `PAST`: it contradicts what is
 /// kept at the frame that is told, a departure before it, or, where it is a departure, the least
-/// entry after it. `BEYOND`: no match has such a frame. `IGNORED`: the packet is no entry.
+/// entry after it. `NO_FRAME`: no match has such a frame. `IGNORED`: the packet is no entry.
 /// `BAD_BYTES` also where the match has no such client.
 pub fn peer_deliver(object: &mut Object, alloc: Global, bytes: &[u8], told: &mut u32) -> u32
     ensures code { result ≢ NO_MEMORY

@@ -12,7 +12,7 @@ use crate::answer::Answer;
 use crate::packet_reading::packet_in;
 use base::NoMemory;
 use c_objects::{
-    AHEAD, BAD_ARGUMENT, BAD_BYTES, BEYOND, CONFLICT, FULL, IGNORED, Kept, LEFT, NO_MEMORY, OK,
+    AHEAD, BAD_ARGUMENT, BAD_BYTES, CONFLICT, FULL, IGNORED, Kept, LEFT, NO_FRAME, NO_MEMORY, OK,
     Object, REPEAT, WRONG_OBJECT,
 };
 use c_worlds::made_of;
@@ -111,7 +111,7 @@ fn of_report(reported: Reported) -> Answer
     match reported {
         Reported::Kept => Answer::only(OK),
         Reported::Repeat => Answer::only(REPEAT),
-        Reported::Beyond => Answer::only(BEYOND),
+        Reported::Beyond => Answer::only(NO_FRAME),
     }
 }
 
@@ -163,7 +163,7 @@ fn up(server: &mut Server<Game>, client: u32, bytes: &[u8]) -> Answer
 /// Takes a packet of a client. Of orders: `OK` where they are new, `REPEAT` where they are there,
 /// `CONFLICT` where others are, `LEFT` where the client left before, at the frame that is told,
 /// `AHEAD` where those of the frame that is told come first, and `FULL` where a match has no more
-/// frames. Of a report: `OK`, `REPEAT` where one of the frame is there, which stays, and `BEYOND`
+/// frames. Of a report: `OK`, `REPEAT` where one of the frame is there, which stays, and `NO_FRAME`
 /// where no match has the frame. A farewell lets the client leave, as [`server_drop`] does. `IGNORED`
 /// for a greeting, `BAD_ARGUMENT` where the match has no such client. Only `OK` changes anything.
 pub fn server_up(

@@ -20,7 +20,7 @@ pub const TOO_EARLY: u32 = 5;
 pub const LEFT: u32 = 6;
 
 /// No match has such a frame.
-pub const BEYOND: u32 = 8;
+pub const NO_FRAME: u32 = 8;
 
 /// Entries before this one are missing.
 pub const AHEAD: u32 = 9;

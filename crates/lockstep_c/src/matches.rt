@@ -96,7 +96,7 @@ pub extern "C" fn lockstep_peer_create(
 /// Delivers a packet of the server to a peer, in any order. Only `OK` changes anything: the entry is
 /// new, and kept. `REPEAT`: it is there. `CONFLICT`: another one is. `PAST`: it contradicts what is
 /// kept at the frame that is told, a departure before it, or, where it is a departure, the least
-/// entry after it. `BEYOND`: no match has such a frame. `IGNORED`: the packet is no entry.
+/// entry after it. `NO_FRAME`: no match has such a frame. `IGNORED`: the packet is no entry.
 /// `BAD_BYTES` also where the match has no such client.
 #[unsafe(no_mangle)]
 pub extern "C" fn lockstep_peer_deliver(
@@ -186,7 +186,7 @@ pub extern "C" fn lockstep_server_create(
 /// Takes a packet of a client. Of orders: `OK` where they are new, `REPEAT` where they are there,
 /// `CONFLICT` where others are, `LEFT` where the client left before, at the frame that is told,
 /// `AHEAD` where those of the frame that is told come first, and `FULL` where a match has no more
-/// frames. Of a report: `OK`, `REPEAT` where one of the frame is there, which stays, and `BEYOND`
+/// frames. Of a report: `OK`, `REPEAT` where one of the frame is there, which stays, and `NO_FRAME`
 /// where no match has the frame. A farewell lets the client leave, as [`lockstep_server_drop`]
 /// does. `IGNORED`
 /// for a greeting, `BAD_ARGUMENT` where the match has no such client. Only `OK` changes anything.
