@@ -69,6 +69,7 @@ fn call_once(alloc: Global, socket: &UdpSocket) -> io::Result<Called> {
     match socket.send(&CALL) {
         Ok(_) => {}
         Err(error) if error.kind() == ErrorKind::ConnectionRefused => return Ok(Called::Refused),
+        Err(error) if error.kind() == ErrorKind::Interrupted => return Ok(Called::Silent),
         Err(error) => return Err(error),
     }
     let mut room = [0; RECEIVE_ROOM];

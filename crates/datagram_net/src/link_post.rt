@@ -93,6 +93,8 @@ impl Post for LinkPost {
     fn send(&mut self, gram: &[u8]) -> Result<(), Failed> {
         match self.socket.send(gram) {
             Ok(_) => Ok(()),
+            // As a datagram that the network loses.
+            Err(error) if error.kind() == ErrorKind::Interrupted => Ok(()),
             Err(_) => {
                 self.faults.raise();
                 Err(Failed)

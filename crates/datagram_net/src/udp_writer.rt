@@ -48,8 +48,12 @@ impl<R: Wait + Drop> UdpWriter<R> {
         };
         drop(state);
         let gram = data_gram(self.alloc, number, payload)?;
-        socket.send(&gram)?;
-        Ok(())
+        match socket.send(&gram) {
+            Ok(_) => Ok(()),
+            // As a datagram that the network loses: the link's turns send it again.
+            Err(error) if error.kind() == ErrorKind::Interrupted => Ok(()),
+            Err(error) => Err(error),
+        }
     }
 }
 

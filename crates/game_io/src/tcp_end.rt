@@ -1,6 +1,6 @@
 //! How a link over TCP ends.
 use std::io;
-use std::io::Read;
+use std::io::{ErrorKind, Read};
 use std::net::{Shutdown, TcpStream};
 use std::time::{Clock, Duration, Instant};
 
@@ -31,9 +31,13 @@ fn shut_and_drain<R: Clock>(rt: &R, stream: &TcpStream) -> io::Result<()> {
     let mut reader = stream;
     let mut late = 0usize;
     for _read in 0..MAX_LATE_BYTES {
-        let count = reader.read(&mut room)?;
-        late = late.saturating_add(count);
-        if count == 0 || late >= MAX_LATE_BYTES || begun.elapsed(rt)? >= time {
+        match reader.read(&mut room) {
+            Ok(0) => return Ok(()),
+            Ok(count) => late = late.saturating_add(count),
+            Err(error) if error.kind() == ErrorKind::Interrupted => {}
+            Err(error) => return Err(error),
+        }
+        if late >= MAX_LATE_BYTES || begun.elapsed(rt)? >= time {
             return Ok(());
         }
     }

@@ -57,10 +57,12 @@ impl TcpSocket {
         }
     }
 
-    /// True where an answer says that nothing could be done in time, and the link may be cut later.
+    /// True where an answer says that nothing could be done in time, and the link may be cut later, or
+    /// that the process was stopped meanwhile.
     fn is_to_wait<T: Drop>(&self, answer: &io::Result<T>) -> bool {
         match answer {
             Ok(_) => false,
+            Err(error) if error.kind() == ErrorKind::Interrupted => true,
             Err(error) => self.cut.is_some() && error.kind() == ErrorKind::WouldBlock,
         }
     }
