@@ -3,7 +3,8 @@ ghost use Rattle.grid_routes.specs.KnownWalks.{IsKnown, IsPut};
 
 use crate::ask::Ask;
 use crate::known_walk::KnownWalk;
-use crate::trails::{StepPlace, Trails};
+use crate::trails::{NO_WALK, StepPlace, Trails};
+use crate::walks_by_goal::WalksByGoal;
 use base::NoMemory;
 use std::alloc::Global;
 use world_units::{CPos, DIRECTIONS, opposite, step};
@@ -16,7 +17,7 @@ pub(crate) const WALKS: usize = 2_048;
 pub(crate) enum Reach {
     /// Followed from the cell, or up to the step before it from a neighbour.
     Near,
-    /// Anywhere: it takes a look at each walk.
+    /// Anywhere: it takes a look at each walk to the goal.
     Anywhere,
 }
 
@@ -26,6 +27,8 @@ pub(crate) struct KnownWalks {
     pub(crate) walks: Vec<KnownWalk>,
     /// Where the wanted step may be.
     pub(crate) trails: Trails,
+    /// Which walks may have it.
+    pub(crate) by_goal: WalksByGoal,
     /// The walk whose place is taken next where all places are.
     pub(crate) oldest: u16,
 }
@@ -36,9 +39,11 @@ impl KnownWalks {
         ensures { IfOk result (λ known. known.walks.items ≡ []) }
     {
         let trails = Trails::create(alloc, w, h, most)?;
+        let by_goal = WalksByGoal::create(alloc, w, h, most)?;
         Ok(KnownWalks {
             walks: Vec::with_capacity(alloc, most)?,
             trails,
+            by_goal,
             oldest: 0,
         })
     }
@@ -48,6 +53,7 @@ impl KnownWalks {
         ensures { self.new.walks.items ≡ [] }
     {
         self.walks.clear();
+        self.by_goal.clear();
     }
 
     /// The direction of the known step from a cell, if its walk is found.
@@ -77,7 +83,19 @@ impl KnownWalks {
             step: 0,
         };
         self.trails.follow(cell, first);
+        self.sort(number, walk.ask.goal);
         store(&mut self.walks, usize::from(number), walk);
+    }
+
+    /// Sorts the number of a walk by its goal, and no longer by that of the walk whose place it
+    /// takes.
+    fn sort(&mut self, number: u16, goal: CPos)
+        ensures { self.new.walks ≡ self.old.walks }
+    {
+        if let Some(last) = self.walks.get(usize::from(number)) {
+            self.by_goal.remove(number, last.ask.goal);
+        }
+        self.by_goal.add(number, goal);
     }
 
     /// The direction of a step, if it is one from this cell for this goal and these costs.
@@ -122,17 +140,19 @@ impl KnownWalks {
         None
     }
 
-    /// The step from a cell, of any walk: another one may have been followed since from the cell
-    /// before it.
+    /// The step from a cell, of any walk to the goal: another one may have been followed since from
+    /// the cell before it.
     fn find_anywhere(&self, ask: &Ask, cell: CPos) -> Option<StepPlace> {
-        for number in 0..self.walks.len() {
-            let place = self
-                .trails
-                .last_of(u16::try_from(number).unwrap_or(0))
-                .next();
+        let mut number = self.by_goal.newest(ask.goal);
+        for _look in 0..self.walks.len() {
+            if number == NO_WALK {
+                return None;
+            }
+            let place = self.trails.last_of(number).next();
             if self.read(place, ask, cell).is_some() {
                 return Some(place);
             }
+            number = self.by_goal.older(number);
         }
         None
     }

@@ -33,6 +33,7 @@ mod search;
 mod step_costs;
 mod surface;
 mod trails;
+mod walks_by_goal;
 
 pub use index::FIELDS;
 pub use law::distances_are_least;

@@ -3,7 +3,7 @@ use std::alloc::Global;
 use world_units::CPos;
 
 /// What stands for the number of a walk where there is none.
-const NO_WALK: u16 = u16::MAX;
+pub(crate) const NO_WALK: u16 = u16::MAX;
 
 /// A step of a known walk, by their numbers.
 #[derive(Clone, Copy)]
