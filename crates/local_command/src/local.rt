@@ -45,7 +45,9 @@ pub fn local_text<'a, G: Gate + Sync, R: Threads + Wait + Sync>(
     ensures { ReturnsStep result (λ text. text.items)
         (local_step maker.now name.now bytes.now bots) }
 {
-    match_text(rt, alloc, maker, &GameBots, name, bytes, bots, gate)
+    // the hash is asked for once, at the end
+    let maker = maker.without_kept_hashes()?;
+    match_text(rt, alloc, &maker, &GameBots, name, bytes, bots, gate)
 }
 
 /// The same over worlds of any maker, and any bots.

@@ -60,7 +60,7 @@ fn save_after(
     ensures again { IfOk result (λ bytes. read_save_of r.now.rules maker.now bytes.items
         ≡ Ok (saved_at maker.now frames r.now)) }
 {
-    let opening = maker.make(alloc, r.seed, r.clients)?;
+    let opening = maker.without_kept_hashes()?.make(alloc, r.seed, r.clients)?;
     let game = world_after(opening, r, frames);
     save_of(alloc, r.rules, &game)
 }

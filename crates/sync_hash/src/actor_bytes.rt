@@ -9,8 +9,9 @@ use activities::{Activity, Queue};
 use game_model::{Actor, Build, Builds, Leg};
 use world_units::CPos;
 
-/// The number of an actor's bytes. They are hashed field by field, as they stand in the actor.
-pub(crate) fn actor_number(a: &Actor) -> u64
+/// The number of an actor: the FNV-1a of its bytes, its part of a world's hash. The bytes are hashed
+/// field by field, as they stand in the actor.
+pub fn actor_number(a: &Actor) -> u64
     ensures { result ≡ actor_number a.now }
 {
     let mut state = FnvState::new();

@@ -42,10 +42,11 @@ mod law;
 mod ore_bytes;
 mod whole_world;
 
+pub use actor_bytes::actor_number as number_of_actor;
 pub use fits::world_fits;
 pub use fnv_state::fnv;
 pub use hasher::Hasher;
 pub use law::{
     bytes_tell_the_world, kept_numbers_give_the_hash, parts_tell_the_world_in_any_order,
 };
-pub use whole_world::{world_hash, world_hash_1};
+pub use whole_world::{lent_hash, lent_hash_1, world_hash, world_hash_1};

@@ -41,7 +41,7 @@ use Rattle.tick_core.specs.Live.{Standing}
 use Rattle.tick_core.specs.Scene.{IsActing, prepared, prepared_if}
 use Rattle.actor_table.specs.Idle.{IsIdle}
 use Rattle.actor_table.specs.Table.{Table, IsTable}
-use Rattle.tick_core.specs.Telling.{cell_in, cell_of, target_of, told_ore, with_some}
+use Rattle.tick_core.specs.Telling.{IsKeptButIf, IsKeptIf, IsSizedIf, IsToldIf, cell_in, cell_of, target_of, told_ore, told_ore_if, with_some}
 use Rattle.tick_core.specs.Touched.{GrowsBut, KeptBut, SameBut, is_among}
 use Rattle.tick_core.specs.Waiting.{IsWaiting}
 use Rattle.tick_core.proofs.ChoiceLemmas.{by_if}
@@ -300,6 +300,12 @@ pub grown_told :
     KeptBut ids kept new
 grown_told ids old new kept is grows = subst (λ k. KeptBut ids k new) (sym is) (kept_from ids old new grows)
 
+pub grown_told_if :
+    (ids : List ℕ) (old new : List Actor) (ore : Grid ℕ) (kept : Option Kept) → IsKeptIf kept old ore → GrowsBut ids old new →
+    IsKeptButIf ids kept new
+grown_told_if ids old new ore None is grows = tt
+grown_told_if ids old new ore (Some kept) is grows = grown_told ids old new kept.actors is.numbers grows
+
 pub way_is :
     (s p n : Standing) (id : ℕ) → p ≡ record s { world = prepared s.setup s.world id } →
     n ≡ record p { world = with_way p.setup p.world (living_of p.world.actors id) } →
@@ -395,6 +401,17 @@ kept_told mid actors old new (Some q) wide high numbers cells change on =
           ∙ ap (cell_numbers old.width 0) (cells_set old new q change) ∙ ap (λ n. cell_numbers n 0 new.cells) (sym width);
     }
 
+-- How far a step changes the ore.
+way_change :
+    (setup : Setup) (w p n : World) (id : ℕ) → p ≡ prepared setup w id →
+    n ≡ with_way setup p (living_of p.actors id) → OreChange w.ore n.ore (cell_of (living_of p.actors id))
+way_change setup w p n id p_is n_is =
+    let found : Option Actor = living_of p.actors id in
+    let ore : p.ore ≡ w.ore = ap (λ (v : World). v.ore) p_is ∙ prepared_ore_by setup w id (living_of w.actors id) in
+    subst (λ g. OreChange g n.ore (cell_of found)) ore
+    (subst (λ (v : World). OreChange p.ore v.ore (cell_of found)) (sym n_is) (way_ore setup p found))
+
+-- What is kept after a step.
 pub busy_kept :
     (setup : Setup) (w p n : World) (id : ℕ) (kept mid new : Kept) (cell : Option CPos) →
     p ≡ prepared setup w id → n ≡ with_way setup p (living_of p.actors id) → cell ≡ cell_of (living_of p.actors id) →
@@ -402,14 +419,39 @@ pub busy_kept :
     mid.width ≡ kept.width → mid.height ≡ kept.height → new ≡ told_ore mid n.ore cell →
     IfSome cell (IsOn n.ore.width n.ore.height) → IsKeptOf new n.actors n.ore
 busy_kept setup w p n id kept mid new cell p_is n_is cell_is is numbers cells wide high told on =
-    let found : Option Actor = living_of p.actors id in
-    let ore : p.ore ≡ w.ore = ap (λ (v : World). v.ore) p_is ∙ prepared_ore_by setup w id (living_of w.actors id) in
     let change : OreChange w.ore n.ore cell =
-    subst (λ g. OreChange g n.ore cell) ore
-    (subst (λ (v : World). OreChange p.ore v.ore cell) (sym n_is)
-    (subst (λ o. OreChange p.ore (with_way setup p found).ore o) (sym cell_is) (way_ore setup p found))) in
+    subst (λ c. OreChange w.ore n.ore c) (sym cell_is) (way_change setup w p n id p_is n_is) in
     subst (λ (k : Kept). IsKeptOf k n.actors n.ore) (sym told)
     (kept_told mid n.actors w.ore n.ore cell (wide ∙ is.width) (high ∙ is.height) numbers (cells ∙ is.cells) change on)
+
+-- The same, where something is kept.
+pub busy_kept_if :
+    (setup : Setup) (w p n : World) (id : ℕ) (kept mid new : Option Kept) (cell : Option CPos) →
+    p ≡ prepared setup w id → n ≡ with_way setup p (living_of p.actors id) → cell ≡ cell_of (living_of p.actors id) →
+    IsKeptIf kept w.actors w.ore → IsToldIf kept mid n.actors → new ≡ told_ore_if mid n.ore cell →
+    IfSome cell (IsOn n.ore.width n.ore.height) → IsKeptIf new n.actors n.ore
+busy_kept_if setup w p n id None None new cell p_is n_is cell_is is told ore on =
+    subst (λ k. IsKeptIf k n.actors n.ore) (sym ore) tt
+busy_kept_if setup w p n id None (Some mid) new cell p_is n_is cell_is is told ore on = absurd told
+busy_kept_if setup w p n id (Some kept) None new cell p_is n_is cell_is is told ore on = absurd told
+busy_kept_if setup w p n id (Some kept) (Some mid) new cell p_is n_is cell_is is told ore on =
+    subst (λ k. IsKeptIf k n.actors n.ore) (sym ore)
+    (busy_kept setup w p n id kept mid (told_ore mid n.ore cell) cell p_is n_is cell_is is told.numbers told.cells told.width told.height refl on)
+
+-- What is kept, if anything is, has the size of the ore, also after the telling of actors.
+pub told_size :
+    (setup : Setup) (w p n : World) (id : ℕ) (kept mid : Option Kept) → p ≡ prepared setup w id →
+    n ≡ with_way setup p (living_of p.actors id) → IsKeptIf kept w.actors w.ore → IsToldIf kept mid n.actors →
+    IsSizedIf mid n.ore
+told_size setup w p n id None None p_is n_is is told = tt
+told_size setup w p n id None (Some mid) p_is n_is is told = absurd told
+told_size setup w p n id (Some kept) None p_is n_is is told = absurd told
+told_size setup w p n id (Some kept) (Some mid) p_is n_is is told =
+    let change = way_change setup w p n id p_is n_is in
+    let cell : Option CPos = cell_of (living_of p.actors id) in (
+      told.width ∙ is.width ∙ sym (ore_width w.ore n.ore cell change),
+      told.height ∙ is.height ∙ sym (ore_height w.ore n.ore cell change),
+    )
 
 -- Who has nothing to do stays.
 pub not_reloading :

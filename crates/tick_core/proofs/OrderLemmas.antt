@@ -31,11 +31,11 @@ use Rattle.game_tick.specs.TurnLemmas.{mid_from_valid}
 use Rattle.actor_table.specs.Table.{Table}
 use Rattle.grid_routes.specs.Routing.{Routing}
 use Rattle.sync_hash.specs.declared.actor_number.ActorNumber.{ActorNumber}
-use Rattle.sync_hash.specs.Kept.{numbered}
+use Rattle.sync_hash.specs.Kept.{Kept, numbered}
 use Rattle.tick_core.specs.Ordered.{IsChange, IsReady, KeepsShape, subject_of}
 use Rattle.tick_core.specs.Scene.{IsScene}
 use Rattle.tick_core.specs.Touched.{KeptBut, SameBut, is_among}
-use Rattle.tick_core.specs.Telling.{with_some}
+use Rattle.tick_core.specs.Telling.{IsKeptButIf, IsKeptIf, IsToldIf, with_some}
 use Rattle.tick_core.proofs.ChoiceLemmas.{by_if}
 use Rattle.tick_core.proofs.SceneLemmas.{same_sight, scene_with}
 use Rattle.tick_core.proofs.TouchedLemmas.{kept_from, same_all, same_changed, same_grows}
@@ -220,3 +220,24 @@ order_told setup w client order kept is =
     let ids : List ℕ = with_some (subject_of order) [] in
     subst (λ k. KeptBut ids k new) (sym is)
     (kept_from ids w.actors new (same_grows ids w.actors new (change_same (subject_of order) w.actors new (order_change setup w client order))))
+
+pub order_told_if :
+    (setup : Setup) (w : World) (client : ℕ) (order : Order) (kept : Option Kept) → IsKeptIf kept w.actors w.ore →
+    IsKeptButIf (with_some (subject_of order) []) kept (after_order setup w client order).actors
+order_told_if setup w client order None is = tt
+order_told_if setup w client order (Some kept) is = order_told setup w client order kept.actors is.numbers
+
+-- What is kept, if anything is, after it was told of actors, where the ore stays.
+pub told_kept_if :
+    (old new : Option Kept) (before after : List Actor) (ore now : Grid ℕ) → IsKeptIf old before ore → IsToldIf old new after →
+    now ≡ ore → IsKeptIf new after now
+told_kept_if None None before after ore now is told same = tt
+told_kept_if None (Some new) before after ore now is told same = absurd told
+told_kept_if (Some old) None before after ore now is told same = absurd told
+told_kept_if (Some old) (Some new) before after ore now is told same =
+    rw same (record {
+      width = told.width ∙ is.width;
+      height = told.height ∙ is.height;
+      numbers = told.numbers;
+      cells = told.cells ∙ is.cells;
+    })

@@ -1,18 +1,22 @@
 -- What is kept after a hasher was told of some actors.
 use Rattle.std.specs.Prelude.{IfSome, ◌⊎◌}
-use Rattle.std.specs.List.{All}
-use Rattle.std.proofs.Common.{◌≡◌, ℕ, suc, ◌+◌, ◌<◌, ◌≤◌, true, List, [], ◌∷◌, length, Option, Some}
+use Rattle.std.specs.List.{All, AllPairs, filter}
+use Rattle.std.proofs.Common.{◌≡◌, ℕ, suc, ◌+◌, ◌<◌, ◌≤◌, true, List, [], ◌∷◌, length, map, Option, Some, ap}
 use Rattle.std.proofs.Common.{None, inl, inr, refl, sym, subst, arith}
 use Rattle.std.proofs.lemmas.List.Elements.{All-head}
 use Rattle.game_model.specs.declared.actor.Actor.{Actor}
 use Rattle.game_model.specs.declared.limits.TheConstants.{MAX_ACTORS}
-use Rattle.game_model.specs.World.{actor_of}
+use Rattle.game_model.specs.declared.world.World.{World}
+use Rattle.game_model.specs.Grid.{Grid}
+use Rattle.game_model.specs.World.{actor_of, is_alive}
 use Rattle.game_model.specs.FoundLemmas.{found_id, IdsRise}
 use Rattle.actor_table.specs.Rising.{RisesFrom}
-use Rattle.sync_hash.specs.Kept.{Kept, actor_number, has_id, with_number}
+use Rattle.sync_hash.specs.Kept.{IsKeptOf, Kept, actor_number, has_id, kept_of, numbered, with_number}
+use Rattle.sync_hash.specs.KeptLemmas.{kept_begins}
+use Rattle.tick_core.specs.Burial.{AreNumberedIf, without_dead_if}
 use Rattle.sync_hash.specs.declared.actor_number.ActorNumber.{ActorNumber}
 use Rattle.tick_core.proofs.TouchedLemmas.{has_place, told, untold}
-use Rattle.tick_core.specs.Telling.{HasPlaceFor, told_if, told_of, with_some}
+use Rattle.tick_core.specs.Telling.{HasPlaceFor, IsKeptIf, told_if, told_of, with_some}
 use Rattle.tick_core.specs.Touched.{KeptBut}
 
 rise_from :
@@ -67,3 +71,32 @@ pub place :
     length actors ≤ MAX_ACTORS → HasPlaceFor kept actors some
 place ids kept actors None is few = tt
 place ids kept actors (Some id) is few = place_by ids kept actors id (actor_of actors id) refl is few
+
+-- A hasher that begins with the numbers of a world keeps them, if there is one.
+pub begun_if :
+    (width height : ℕ) (w : World) (kept : Option Kept) → w.ore.width ≡ width → w.ore.height ≡ height →
+    AllPairs (λ (a b : Actor). a.id < b.id) w.actors → IfSome kept (λ k. k ≡ kept_of width height w) →
+    IsKeptIf kept w.actors w.ore
+begun_if width height w None across down rise is = tt
+begun_if width height w (Some kept) across down rise is =
+    subst (λ (k : Kept). IsKeptOf k w.actors w.ore) (sym is) (kept_begins width height w across down rise)
+
+-- What is kept, if anything is, has the numbers of the actors.
+pub numbered_if :
+    (kept : Option Kept) (actors : List Actor) (ore : Grid ℕ) → IsKeptIf kept actors ore → AreNumberedIf kept actors
+numbered_if None actors ore is = tt
+numbered_if (Some kept) actors ore is = is.numbers
+
+-- So it is after a burial.
+pub buried_if :
+    (old new : Option Kept) (actors left : List Actor) (ore : Grid ℕ) → IsKeptIf old actors ore →
+    new ≡ without_dead_if old actors → left ≡ filter is_alive actors → IsKeptIf new left ore
+buried_if None new actors left ore is told same = subst (λ k. IsKeptIf k left ore) (sym told) tt
+buried_if (Some kept) new actors left ore is told same =
+    subst (λ k. IsKeptIf k left ore) (sym told)
+    (record {
+      width = is.width;
+      height = is.height;
+      numbers = ap (map numbered) (sym same);
+      cells = is.cells;
+    })

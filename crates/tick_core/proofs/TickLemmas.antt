@@ -1,12 +1,15 @@
 -- How a tick goes on from one client of a frame to the next, and from one order to the next.
 use Rattle.std.proofs.Common.{◌≡◌, ℕ, zero, suc, ◌+◌, Bool, true, List, [], ◌∷◌, length, drop, take}
-use Rattle.std.proofs.Common.{refl, ap, ap₂, sym, ◌<◌, ◌≤◌, ◌-◌, ◌*◌, ◌^◌, ◌∙◌, add-one, arith}
+use Rattle.std.proofs.Common.{refl, ap, ap₂, sym, ◌<◌, ◌≤◌, ◌-◌, ◌*◌, ◌%◌, ◌^◌, ◌∙◌, add-one, arith}
 use Rattle.std.proofs.Math.ListN.{set}
 use Rattle.std.proofs.lemmas.List.{length-set}
+use Rattle.std.proofs.lemmas.List.Sums.{sum_by-cons}
 use Rattle.std.specs.Prelude.{Some, slice_get}
+use Rattle.std.specs.List.{sum_by}
 use Rattle.game_orders.specs.declared.order.Order.{Order}
 use Rattle.game_orders.specs.declared.entry.Entry.{Entry}
 use Rattle.game_orders.specs.declared.entry.Entry.TheVariants.{Play, Leave}
+use Rattle.game_model.specs.declared.actor.Actor.{Actor}
 use Rattle.game_model.specs.declared.world.World.{World}
 use Rattle.game_tick.specs.KeepsLemmas.{entry_keeps, order_keeps}
 use Rattle.game_model.specs.World.{clients_of, ids_of}
@@ -20,6 +23,7 @@ use Rattle.game_tick.specs.TickLemmas.{entry_valid}
 use Rattle.game_model.specs.declared.limits.TheConstants.{MAX_ACTORS}
 use Rattle.game_model.specs.Setup.{Setup}
 use Rattle.game_tick.specs.Departures.{gone_by, gone_after}
+use Rattle.sync_hash.specs.Kept.{actor_number}
 use Rattle.tick_core.specs.Live.{Standing}
 use Rattle.tick_core.specs.Ordered.{IsReady}
 
@@ -48,6 +52,17 @@ pub drop_at : {A : Type 0} (xs : List A) (n : ℕ) (x : A) → slice_get xs n �
 drop_at [] n x at = absurd cc
 drop_at (y ∷ xs) zero x at = let same : y ≡ x = cc in ap (λ z. z ∷ xs) same
 drop_at (y ∷ xs) (suc n) x at = drop_at xs n x at
+
+-- The number of the next actor is added, and those of the rest after it.
+pub sum_next :
+    (actors : List Actor) (i sum total : ℕ) (a : Actor) → slice_get actors i ≡ Some a →
+    (sum + sum_by actor_number (drop i actors)) % 2 ^ 64 ≡ total →
+    ((sum + actor_number a) % 2 ^ 64 + sum_by actor_number (drop (i + 1) actors)) % 2 ^ 64 ≡ total
+sum_next actors i sum total a at so_far =
+    let split : sum_by actor_number (drop i actors) ≡ actor_number a + sum_by actor_number (drop (i + 1) actors) =
+    ap (sum_by actor_number) (drop_at actors i a at) ∙ sum_by-cons actor_number a (drop (suc i) actors)
+    ∙ ap (λ k. actor_number a + sum_by actor_number (drop k actors)) (sym (add-one i)) in
+    omega (arith, so_far, split)
 
 -- The next order is applied, and the rest after it.
 order_next :

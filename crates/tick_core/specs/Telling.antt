@@ -1,5 +1,5 @@
 -- What a hasher is told after a step or an order.
-use Rattle.std.specs.Prelude.{◌≡◌, ℕ, zero, ◌<◌, ◌⊎◌, true, List, [], ◌∷◌, length, IfSome, Option, Some, None, slice_set}
+use Rattle.std.specs.Prelude.{◌≡◌, ℕ, zero, ◌<◌, ◌⊎◌, true, List, [], ◌∷◌, length, IfSome, Option, Some, None, map, slice_set}
 use Rattle.world_units.specs.declared.cell.CPos.{CPos}
 use Rattle.activities.specs.declared.activity.Activity.{Activity}
 use Rattle.activities.specs.declared.activity.Activity.TheVariants.{Move, Attack, Harvest, Deliver}
@@ -9,7 +9,8 @@ use Rattle.game_model.specs.Grid.{Grid, place_of}
 use Rattle.game_model.specs.World.{actor_of}
 use Rattle.game_tick.specs.Nearest.{ore_at}
 use Rattle.sync_hash.specs.declared.actor_number.ActorNumber.{ActorNumber}
-use Rattle.sync_hash.specs.Kept.{Kept, actor_number, cell_number, has_id, mixed_more, ore_cells, with_number}
+use Rattle.sync_hash.specs.Kept.{Kept, IsKeptOf, actor_number, cell_number, has_id, mixed_more, numbered, ore_cells, with_number}
+use Rattle.tick_core.specs.Touched.{KeptBut}
 
 -- The ids, and this one, if there is one, before them.
 abbrev pub with_some : Option ℕ → List ℕ → List ℕ
@@ -67,3 +68,36 @@ told_ore kept ore (Some p) =
       cells = slice_set kept.cells (place_of kept.width p) (cell_number p (ore_at ore p));
       mixed = mixed_more kept.mixed (ore_cells (ore_at ore p ∷ []));
     }
+
+-- What is kept, if anything is, has the numbers of these actors and of this ore.
+abbrev pub IsKeptIf : Option Kept → List Actor → Grid ℕ → Type 0
+IsKeptIf None actors ore = Unit {0}
+IsKeptIf (Some kept) actors ore = IsKeptOf kept actors ore
+
+-- It has the numbers of these actors, but of those whose id is one of these.
+abbrev pub IsKeptButIf : List ℕ → Option Kept → List Actor → Type 0
+IsKeptButIf ids None actors = Unit {0}
+IsKeptButIf ids (Some kept) actors = KeptBut ids kept.actors actors
+
+-- What is kept, after the telling of actors: all these have their numbers, and the cells theirs.
+pub record IsTold (old new : Kept) (actors : List Actor) : Type 0 where
+  pub numbers : new.actors ≡ map numbered actors
+  pub cells : new.cells ≡ old.cells
+  pub width : new.width ≡ old.width
+  pub height : new.height ≡ old.height
+
+abbrev pub IsToldIf : (old new : Option Kept) → List Actor → Type 0
+IsToldIf None None actors = Unit {0}
+IsToldIf None (Some new) actors = ⊥
+IsToldIf (Some old) None actors = ⊥
+IsToldIf (Some old) (Some new) actors = IsTold old new actors
+
+-- What is kept, if anything is, after the telling of the ore of a cell, if there is one.
+abbrev pub told_ore_if : Option Kept → Grid ℕ → Option CPos → Option Kept
+told_ore_if None ore cell = None
+told_ore_if (Some kept) ore cell = Some (told_ore kept ore cell)
+
+-- What is kept has the size of the ore.
+abbrev pub IsSizedIf : Option Kept → Grid ℕ → Type 0
+IsSizedIf None ore = Unit {0}
+IsSizedIf (Some kept) ore = (kept.width ≡ ore.width) × (kept.height ≡ ore.height)

@@ -2,7 +2,7 @@ ghost use Rattle.std.specs.Prelude.{◌≡◌, filter, map};
 ghost use Rattle.game_model.specs.World.{is_alive};
 ghost use Rattle.game_tick.specs.Turn.{buried};
 ghost use Rattle.sync_hash.specs.Kept.{numbered};
-ghost use Rattle.tick_core.specs.Burial.{without_dead};
+ghost use Rattle.tick_core.specs.Burial.{AreNumberedIf, without_dead, without_dead_if};
 
 use crate::live_world::LiveWorld;
 use crate::scene::Scene;
@@ -32,15 +32,14 @@ impl LiveWorld {
 }
 
 impl Scene {
-    /// Takes the numbers of the actors without health out.
-    fn forget_the_dead(&self, hasher: &mut Hasher)
-        requires { hasher.old.actors ≡ map numbered self.now.world.actors }
-        ensures { hasher.new ≡ (record hasher.old {
-          actors = map numbered
-              (filter is_alive self.now.world.actors);
-        }) }
+    /// Takes the numbers of the actors without health out of the hasher, if there is one.
+    fn forget_the_dead(&self, hasher: &mut Option<Hasher>)
+        requires { AreNumberedIf hasher.old self.now.world.actors }
+        ensures { hasher.new ≡ without_dead_if hasher.old self.now.world.actors }
     {
-        forget_the_dead(&self.table, hasher);
+        if let Some(hasher) = hasher {
+            forget_the_dead(&self.table, hasher);
+        }
     }
 }
 

@@ -1,4 +1,4 @@
-ghost use Rattle.std.specs.Prelude.{◌≡◌, ◌+◌, ◌≤◌, ◌<◌, length, slice_get, IfOk};
+ghost use Rattle.std.specs.Prelude.{◌≡◌, ◌+◌, ◌≤◌, ◌<◌, length, slice_get, IfOk, IfSome};
 ghost use Rattle.std.specs.Option.{option_copied};
 ghost use Rattle.game_model.specs.Grid.{IsOn};
 ghost use Rattle.game_model.specs.declared.limits.TheConstants.{MAX_ACTORS};
@@ -12,6 +12,7 @@ ghost use Rattle.game_tick.specs.Keeps.{TickKeeps};
 ghost use Rattle.tick_core.specs.Preview.{IsPreview};
 ghost use Rattle.tick_core.specs.Game.{game_start, game_after, game_clients, game_steps};
 
+use crate::hashing::Hashing;
 use crate::live_world::LiveWorld;
 use crate::opening::opening_world;
 use base::NoMemory;
@@ -71,9 +72,26 @@ impl Game {
         requires most { clients ≤ MAX_CLIENTS }
         ensures { IfOk result (λ game. game ≡ game_start (record { rules = rules.value; map = map.value }) seed clients) }
     {
+        Game::begin(alloc, rules, map, seed, clients, Hashing::Kept)
+    }
+
+    /// The same, with its hash had so.
+    pub(crate) fn begin(
+        alloc: Global,
+        rules: Rc<Rules>,
+        map: Rc<Map>,
+        seed: u32,
+        clients: u8,
+        hashing: Hashing,
+    ) -> Result<Game, NoMemory>
+        requires setup { IsSetup (record { rules = rules.value; map = map.value }) }
+        requires least { 1 ≤ clients }
+        requires most { clients ≤ MAX_CLIENTS }
+        ensures { IfOk result (λ game. game ≡ game_start (record { rules = rules.value; map = map.value }) seed clients) }
+    {
         let world = opening_world(alloc, &rules, &map, seed, clients)?;
         Ok(Game {
-            live: LiveWorld::of(alloc, rules, map, world)?,
+            live: LiveWorld::of(alloc, rules, map, world, hashing)?,
             steps: 0,
         })
     }
@@ -99,7 +117,7 @@ impl Game {
     {
         let world = w.copy(alloc)?;
         Ok(Game {
-            live: LiveWorld::of(alloc, rules, map, world)?,
+            live: LiveWorld::of(alloc, rules, map, world, Hashing::Kept)?,
             steps: frames,
         })
     }
@@ -196,9 +214,10 @@ impl Game {
         self.live.route(alloc, kind, from, goal)
     }
 
-    /// What is kept of the world for its hash. It tells how many actors and cells were hashed.
-    pub fn kept(&self) -> &Hasher
-        ensures { IsKeptOf result.now self.now.world.actors self.now.world.ore }
+    /// What is kept of the world for its hash, if anything is. It tells how many actors and cells
+    /// were hashed.
+    pub fn kept(&self) -> Option<&Hasher>
+        ensures { IfSome result (λ kept. IsKeptOf kept.now self.now.world.actors self.now.world.ore) }
     {
         let _steps = self.steps;
         self.live.kept()

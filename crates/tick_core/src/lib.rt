@@ -6,7 +6,8 @@
 //! (`specs/Tick.antt` there). The world is held part by part: its head as plain numbers, its actors
 //! in a table, its ore, the cells of its buildings, routes, dice, and the numbers of which its hash
 //! is made; a step tells the hasher of what it may change alone (with a Harvest, of the ore of its
-//! cell at each step), so that the hash costs the header. Contracts see a game as its setup, its
+//! cell at each step), so that the hash costs the header. Games whose hash is seldom asked for may
+//! keep no numbers ([`GameMaker::without_kept_hashes`]). Contracts see a game as its setup, its
 //! world and its count of steps (`specs/Game.antt`).
 #![tactic(auto)]
 
@@ -17,12 +18,14 @@ mod burial;
 mod departures;
 mod filling;
 mod game;
+mod hashing;
 mod live_world;
 mod maker;
 mod opening;
 mod orders;
 mod preview;
 mod scene;
+mod summing;
 mod tick;
 mod turn;
 

@@ -1,3 +1,9 @@
+ghost use Rattle.std.specs.Prelude.{◌≡◌, ◌≤◌, length, IfOk, IfSome};
+ghost use Rattle.game_model.specs.declared.limits.TheConstants.{MAX_ACTORS};
+ghost use Rattle.game_model.specs.Grid.{HasSize};
+ghost use Rattle.sync_hash.specs.Kept.{kept_of};
+
+use crate::hashing::Hashing;
 use crate::scene::Scene;
 use base::NoMemory;
 use game_model::{Actor, Head, Map, Ore, World};
@@ -9,31 +15,31 @@ use std::rc::Rc;
 use sync_hash::Hasher;
 use world_units::CPos;
 
-/// A world that is being ticked, and what it stands on. The hasher is told of each actor and each
-/// cell that changes.
+/// A world that is being ticked, and what it stands on. The hasher, where there is one, is told of
+/// each actor and each cell that changes.
 #[derive(Drop)]
 pub(crate) struct LiveWorld {
     pub(crate) scene: Scene,
-    pub(crate) hasher: Hasher,
+    pub(crate) hasher: Option<Hasher>,
     /// Whether somebody may have died since the last burial. Where it is false all have health.
     pub(crate) deaths: bool,
 }
 
 impl Model for LiveWorld {
     ghost use Rattle.std.specs.Prelude.{◌≡◌, false};
-    ghost use Rattle.sync_hash.specs.Kept.{IsKeptOf};
     ghost use Rattle.tick_core.specs.Live.{AllLive, Standing};
+    ghost use Rattle.tick_core.specs.Telling.{IsKeptIf};
 
     ghost Value = { Standing };
 
     ghost view = { λ live. live.scene };
 
-    ghost invariant = { λ live. IsKeptOf live.hasher live.scene.world.actors live.scene.world.ore ×
+    ghost invariant = { λ live. IsKeptIf live.hasher live.scene.world.actors live.scene.world.ore ×
         (live.deaths ≡ false → AllLive live.scene.world.actors) };
 }
 
 impl LiveWorld {
-    ghost use Rattle.std.specs.Prelude.{◌≡◌, length, slice_get, IfOk};
+    ghost use Rattle.std.specs.Prelude.{◌≡◌, length, slice_get, IfOk, IfSome};
     ghost use Rattle.std.specs.Option.{option_copied};
     ghost use Rattle.game_model.specs.Grid.{IsOn};
     ghost use Rattle.game_model.specs.ValidMap.{IsSetup};
@@ -43,18 +49,20 @@ impl LiveWorld {
     ghost use Rattle.sync_hash.specs.Kept.{IsKeptOf};
     ghost use Rattle.sync_hash.specs.WorldHash.{hash_of, hash_of_1};
 
-    /// A valid world, with the memory for all that ticks need. Out of memory is the only error.
+    /// A valid world, with the memory for all that ticks need, and with a hasher or without one. Out
+    /// of memory is the only error.
     pub(crate) fn of(
         alloc: Global,
         rules: Rc<Rules>,
         map: Rc<Map>,
         world: World,
+        hashing: Hashing,
     ) -> Result<LiveWorld, NoMemory>
         requires setup { IsSetup (record { rules = rules.value; map = map.value }) }
         requires valid { IsReady (record { rules = rules.value; map = map.value }) world world }
         ensures { IfOk result (λ live. live ≡ (record { setup = record { rules = rules.value; map = map.value }; world = world })) }
     {
-        let hasher = Hasher::create(alloc, map.width, map.height, &world)?;
+        let hasher = hasher_of(alloc, &map, &world, hashing)?;
         let scene = Scene::of(alloc, rules, map, world)?;
         Ok(LiveWorld {
             scene,
@@ -135,24 +143,48 @@ impl LiveWorld {
         self.scene.route(alloc, kind, from, goal)
     }
 
-    /// What is kept of the world for its hash.
-    pub(crate) fn kept(&self) -> &Hasher
-        ensures { IsKeptOf result.now self.now.world.actors self.now.world.ore }
+    /// What is kept of the world for its hash, if anything is.
+    pub(crate) fn kept(&self) -> Option<&Hasher>
+        ensures { IfSome result (λ kept. IsKeptOf kept.now self.now.world.actors self.now.world.ore) }
     {
-        &self.hasher
+        self.hasher.as_ref()
     }
 
-    /// The hash of the world. It costs the head alone.
+    /// The hash of the world. It costs the head alone where there is a hasher, else all.
     pub(crate) fn hash(&self) -> u64
         ensures { result ≡ hash_of self.now.world }
     {
-        self.scene.hash(&self.hasher)
+        match &self.hasher {
+            Some(hasher) => self.scene.hash(hasher),
+            None => self.scene.whole_hash(),
+        }
     }
 
-    /// The hash of the first version, without the pace. It costs the head alone.
+    /// The hash of the first version, without the pace. It costs as much.
     pub(crate) fn hash_1(&self) -> u64
         ensures { result ≡ hash_of_1 self.now.world }
     {
-        self.scene.hash_1(&self.hasher)
+        match &self.hasher {
+            Some(hasher) => self.scene.hash_1(hasher),
+            None => self.scene.whole_hash_1(),
+        }
+    }
+}
+
+/// A hasher with the numbers of a world on a map, or none. Out of memory is the only error.
+fn hasher_of(
+    alloc: Global,
+    map: &Map,
+    world: &World,
+    hashing: Hashing,
+) -> Result<Option<Hasher>, NoMemory>
+    requires actors { length world.now.actors ≤ MAX_ACTORS }
+    requires size { HasSize map.now.width map.now.height world.now.ore }
+    ensures { IfOk result (λ hasher. IfSome hasher (λ kept. kept
+        ≡ kept_of map.now.width map.now.height world.now)) }
+{
+    match hashing {
+        Hashing::Kept => Ok(Some(Hasher::create(alloc, map.width, map.height, world)?)),
+        Hashing::Asked => Ok(None),
     }
 }

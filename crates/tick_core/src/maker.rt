@@ -4,6 +4,7 @@ ghost use Rattle.game_model.specs.ValidMap.{IsSetup};
 ghost use Rattle.game_model.specs.ValidWorld.{IsValidWorld};
 
 use crate::game::Game;
+use crate::hashing::Hashing;
 use base::{List, NoMemory};
 use frame_core::Maker;
 use game_model::{BARE_CASH, Map, Ore, Tiles, World};
@@ -32,6 +33,7 @@ pub fn bare_map(alloc: Global) -> Result<Map, NoMemory>
 pub struct GameMaker {
     rules: Rc<Rules>,
     map: Rc<Map>,
+    hashing: Hashing,
 }
 
 impl Model for GameMaker {
@@ -51,7 +53,24 @@ impl GameMaker {
         requires { IsSetup (record { rules = rules.value; map = map.value }) }
         ensures { result ≡ (record { rules = rules.value; map = map.value }) }
     {
-        GameMaker { rules, map }
+        GameMaker {
+            rules,
+            map,
+            hashing: Hashing::Kept,
+        }
+    }
+
+    /// The same maker, but the games that it opens keep nothing for their hash: a step of theirs
+    /// costs less, and a hash costs all actors and cells. So it is for games whose hash is seldom
+    /// asked for. Out of memory is its only error.
+    pub fn without_kept_hashes(&self) -> Result<GameMaker, NoMemory>
+        ensures { IfOk result (λ maker. maker ≡ self.now) }
+    {
+        Ok(GameMaker {
+            rules: self.rules.clone()?,
+            map: self.map.clone()?,
+            hashing: Hashing::Asked,
+        })
     }
 
     /// Without files: over no kinds and the bare map, which has one clear cell and nothing on it.
@@ -64,6 +83,7 @@ impl GameMaker {
         Ok(GameMaker {
             rules: Rc::new(alloc, rules)?,
             map: Rc::new(alloc, map)?,
+            hashing: Hashing::Kept,
         })
     }
 
@@ -102,6 +122,7 @@ impl Maker for GameMaker {
 
     #[tactic(auto, unfolding(game_model::specs::World::start_of))]
     fn make(&self, alloc: Global, seed: u32, clients: u8) -> Result<Game, NoMemory> {
-        Game::create(alloc, self.rules.clone()?, self.map.clone()?, seed, clients)
+        let (rules, map) = (self.rules.clone()?, self.map.clone()?);
+        Game::begin(alloc, rules, map, seed, clients, self.hashing)
     }
 }

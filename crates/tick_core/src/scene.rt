@@ -1,6 +1,7 @@
 use crate::blocks::{blocks_of, clear_dead};
 use crate::departures::apply_departures;
 use crate::filling::filled_table;
+use crate::summing::actors_sum;
 use actor_table::ActorTable;
 use base::NoMemory;
 use game_model::{Actor, Blocks, Head, Map, Ore, World};
@@ -10,7 +11,7 @@ use rule_traits::Rules;
 use std::alloc::Global;
 use std::marker::Model;
 use std::rc::Rc;
-use sync_hash::Hasher;
+use sync_hash::{Hasher, lent_hash, lent_hash_1};
 use twister::Twister;
 
 /// A world in which actors act, and what it stands on.
@@ -98,6 +99,24 @@ impl Scene {
         ensures { result ≡ hash_of_1 self.now.world }
     {
         hasher.hash_1(&self.head)
+    }
+
+    /// The hash of the world. It costs all actors and all cells.
+    pub(crate) fn whole_hash(&self) -> u64
+        ensures { result ≡ hash_of self.now.world }
+    {
+        let _dice = &self.dice;
+        let sum = actors_sum(&self.table);
+        lent_hash(&self.head, self.table.len() as u32, sum, &self.ore)
+    }
+
+    /// The hash of the first version of the world. It costs all actors and all cells.
+    pub(crate) fn whole_hash_1(&self) -> u64
+        ensures { result ≡ hash_of_1 self.now.world }
+    {
+        let _dice = &self.dice;
+        let sum = actors_sum(&self.table);
+        lent_hash_1(&self.head, self.table.len() as u32, sum, &self.ore)
     }
 
     /// How many random words were drawn so far.

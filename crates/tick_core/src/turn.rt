@@ -11,8 +11,8 @@ ghost use Rattle.game_tick.specs.Turn.{after_step, after_steps, after_turn};
 ghost use Rattle.sync_hash.specs.Kept.{numbered};
 ghost use Rattle.tick_core.specs.Live.{AreLive, LivesOf};
 ghost use Rattle.tick_core.specs.Scene.{IsActing};
-ghost use Rattle.tick_core.specs.Telling.{HasPlaceFor, cell_of, target_of, told_of, told_ore};
-ghost use Rattle.tick_core.specs.Telling.{with_some};
+ghost use Rattle.tick_core.specs.Telling.{HasPlaceFor, IsKeptButIf, IsSizedIf, IsToldIf, cell_of};
+ghost use Rattle.tick_core.specs.Telling.{target_of, told_of, told_ore, told_ore_if, with_some};
 ghost use Rattle.tick_core.specs.Touched.{KeptBut};
 ghost use Rattle.tick_core.specs.Waiting.{IsDone, IsWaiting};
 
@@ -160,6 +160,30 @@ fn update_actor_numbers(
     or(own, or(hit, new))
 }
 
+/// Whether the actor of an id, if it is there, has no health.
+fn is_dead(table: &ActorTable, id: Option<u32>) -> bool
+    ensures { result ≡ false → LivesOf table.now.actors id }
+{
+    let Some(id) = id else {
+        return false;
+    };
+    match table.get(id) {
+        Some(a) => !is_alive(a),
+        None => false,
+    }
+}
+
+/// Whether one of the actors of these ids, as far as they are there, has no health.
+fn is_one_dead(table: &ActorTable, id: Option<u32>, target: Option<u32>, added: Option<u32>) -> bool
+    ensures { result ≡ false → AreLive (with_some id (with_some target (with_some added [])))
+        table.now.actors }
+{
+    let own = is_dead(table, id);
+    let hit = is_dead(table, target);
+    let new = is_dead(table, added);
+    or(own, or(hit, new))
+}
+
 /// The id, where these differ.
 fn if_changed(before: u64, after: u64, id: Option<u32>) -> Option<u32>
     ensures { result ≡ (if before == after then None else id) }
@@ -241,35 +265,36 @@ impl Scene {
         is_waiting(&self.table, id)
     }
 
-    /// Tells the hasher of the actors of these ids, as far as they are there: the numbers of all
-    /// others are right. Returns whether one of these has no health.
+    /// Tells the hasher, if there is one, of the actors of these ids, as far as they are there: the
+    /// numbers of all others are right. Returns whether one of these has no health.
     pub(crate) fn update_hasher(
         &self,
-        hasher: &mut Hasher,
+        hasher: &mut Option<Hasher>,
         id: Option<u32>,
         target: Option<u32>,
         added: Option<u32>,
     ) -> bool
-        requires { KeptBut (with_some id (with_some target (with_some added []))) hasher.old.actors
+        requires { IsKeptButIf (with_some id (with_some target (with_some added []))) hasher.old
             self.now.world.actors }
-        ensures numbers { hasher.new.actors ≡ map numbered self.now.world.actors }
-        ensures cells { hasher.new.cells ≡ hasher.old.cells }
-        ensures width { hasher.new.width ≡ hasher.old.width }
-        ensures height { hasher.new.height ≡ hasher.old.height }
+        ensures told { IsToldIf hasher.old hasher.new self.now.world.actors }
         ensures living { result ≡ false → AreLive (with_some id
             (with_some target (with_some added []))) self.now.world.actors }
     {
-        update_actor_numbers(&self.table, hasher, id, target, added)
+        match hasher {
+            Some(hasher) => update_actor_numbers(&self.table, hasher, id, target, added),
+            None => is_one_dead(&self.table, id, target, added),
+        }
     }
 
-    /// Tells the hasher of the ore of a cell of the map.
-    fn update_hasher_cell(&self, hasher: &mut Hasher, cell: Option<CPos>)
+    /// Tells the hasher, if there is one, of the ore of a cell of the map.
+    fn update_hasher_cell(&self, hasher: &mut Option<Hasher>, cell: Option<CPos>)
         requires on_map { IfSome cell (IsOn self.now.world.ore.width self.now.world.ore.height) }
-        requires width { hasher.old.width ≡ self.now.world.ore.width }
-        requires height { hasher.old.height ≡ self.now.world.ore.height }
-        ensures { hasher.new ≡ told_ore hasher.old self.now.world.ore cell }
+        requires size { IsSizedIf hasher.old self.now.world.ore }
+        ensures { hasher.new ≡ told_ore_if hasher.old self.now.world.ore cell }
     {
-        update_cell_number(&self.ore, hasher, cell);
+        if let Some(hasher) = hasher {
+            update_cell_number(&self.ore, hasher, cell);
+        }
     }
 }
 

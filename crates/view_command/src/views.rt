@@ -39,7 +39,7 @@ fn opening(alloc: Global, maker: &GameMaker, r: &Replay) -> Result<Game, NoMemor
     ensures clients { IfOk result (λ game. game_clients game ≡ r.now.clients) }
     ensures fresh { IfOk result (λ game. game_steps game ≡ 0) }
 {
-    maker.make(alloc, r.seed, r.clients)
+    maker.without_kept_hashes()?.make(alloc, r.seed, r.clients)
 }
 
 /// Lets a new shroud follow a replay, from its opening game to the end, and returns how many frames

@@ -1,4 +1,4 @@
-use Rattle.sync_hash.specs.KeptLemmas.{kept_begins}
+use Rattle.tick_core.proofs.TellLemmas.{begun_if}
 use Rattle.tick_core.proofs.LiveLemmas.{healthy_live}
 use Rattle.tick_core.proofs.live_world.LiveWorld.of.Goals as goal
 
@@ -7,7 +7,8 @@ pub invariant_of-result : goal.invariant_of-result
 invariant_of-result c =
     let map = c.args.map.value in
     let valid = c.requires.valid in
-    rw (c.in_ok-scene.ensures, c.in_ok-hasher.ensures, c.deref.ensures, c.deref-2.ensures) (
-      kept_begins map.width map.height c.args.world valid.ore.size.width valid.ore.size.height valid.actors.rise,
+    rw (c.in_ok-scene.ensures) (
+      begun_if map.width map.height c.args.world _ valid.ore.size.width valid.ore.size.height valid.actors.rise
+          (rw (c.deref.ensures) at c.in_ok-hasher.ensures),
       λ calm. healthy_live c.args.rules.value c.args.world.actors valid.health,
     )

@@ -2,7 +2,7 @@ use Rattle.std.proofs.Common.{◌∙◌, ap, sym, subst}
 use Rattle.game_model.specs.Setup.{Setup}
 use Rattle.tick_core.specs.Live.{Standing}
 use Rattle.tick_core.specs.Scene.{IsActing}
-use Rattle.tick_core.proofs.BusyLemmas.{busy_grows_by, busy_kept, cell_on, grown_told, step_whole, way_is}
+use Rattle.tick_core.proofs.BusyLemmas.{busy_grows_by, busy_kept_if, cell_on, grown_told_if, step_whole, told_size, way_is}
 use Rattle.tick_core.proofs.LiveLemmas.{step_live}
 use Rattle.tick_core.proofs.live_world.LiveWorld.step_busy.Goals as goal
 
@@ -12,7 +12,7 @@ update_hasher-died-requires c =
     let p_is = c.prepare.ensures in
     let way = way_is live.scene c.prepare.new.self c.go_on.new.self c.args.id p_is c.go_on.ensures in
     let world = ap (λ (x : Standing). x.world) p_is in
-    grown_told _ live.scene.world.actors c.go_on.new.self.world.actors live.hasher.actors c.self.invariant.0.numbers
+    grown_told_if _ live.scene.world.actors c.go_on.new.self.world.actors live.scene.world.ore live.hasher c.self.invariant.0
     (busy_grows_by live.scene.setup live.scene.world c.prepare.new.self.world c.go_on.new.self.world c.args.id c.is_waiting-waited.result c.if_stepped-stepped.result c.if_changed-target.result c.if_changed-added.result c.effects-effects.result.target c.drawn-drawn.result c.drawn.result c.next_id-next_id.result c.next_id-new_id.result c.from.result c.from-2.result
     c.recall_invariant.ensures.acting.actors.ready.rise c.is_waiting-waited.ensures world way c.drawn-drawn.ensures c.drawn.ensures c.next_id-next_id.ensures c.next_id-new_id.ensures c.from.ensures c.from-2.ensures c.effects-effects.ensures.target c.if_changed-target.ensures c.if_changed-added.ensures c.if_stepped-stepped.ensures)
 
@@ -27,6 +27,14 @@ update_hasher_cell-requires-clause-on_map c =
     cell_on live.scene.setup c.prepare.new.self.world c.go_on.new.self.world c.args.id c.effects-effects.result.cell
     (subst (λ (s : Setup). IsActing s c.prepare.new.self.world) setup c.recall_invariant-2.ensures.acting)
     (subst (λ (s : Setup). IsActing s c.go_on.new.self.world) setup_after c.recall_invariant-3.ensures.acting) c.effects-effects.ensures.cell
+
+pub update_hasher_cell-requires-clause-size : goal.update_hasher_cell-requires-clause-size
+update_hasher_cell-requires-clause-size c =
+    let live = c.self.inside in
+    let p_is = c.prepare.ensures in
+    let way = way_is live.scene c.prepare.new.self c.go_on.new.self c.args.id p_is c.go_on.ensures in
+    told_size live.scene.setup live.scene.world c.prepare.new.self.world c.go_on.new.self.world c.args.id live.hasher
+    c.update_hasher-died.new.hasher (ap (λ (x : Standing). x.world) p_is) way c.self.invariant.0 c.update_hasher-died.ensures.told
 
 pub invariant_of-self : goal.invariant_of-self
 invariant_of-self c =
@@ -43,8 +51,8 @@ invariant_of-self c =
     let grows =
     busy_grows_by live.scene.setup live.scene.world c.prepare.new.self.world c.go_on.new.self.world c.args.id c.is_waiting-waited.result c.if_stepped-stepped.result c.if_changed-target.result c.if_changed-added.result c.effects-effects.result.target c.drawn-drawn.result c.drawn.result c.next_id-next_id.result c.next_id-new_id.result c.from.result c.from-2.result
     c.recall_invariant.ensures.acting.actors.ready.rise c.is_waiting-waited.ensures world way c.drawn-drawn.ensures c.drawn.ensures c.next_id-next_id.ensures c.next_id-new_id.ensures c.from.ensures c.from-2.ensures c.effects-effects.ensures.target c.if_changed-target.ensures c.if_changed-added.ensures c.if_stepped-stepped.ensures in (
-      busy_kept live.scene.setup live.scene.world c.prepare.new.self.world c.go_on.new.self.world c.args.id live.hasher c.update_hasher-died.new.hasher c.update_hasher_cell.new.hasher c.effects-effects.result.cell
-          world way c.effects-effects.ensures.cell c.self.invariant.0 c.update_hasher-died.ensures.numbers c.update_hasher-died.ensures.cells c.update_hasher-died.ensures.width c.update_hasher-died.ensures.height c.update_hasher_cell.ensures on,
+      busy_kept_if live.scene.setup live.scene.world c.prepare.new.self.world c.go_on.new.self.world c.args.id live.hasher c.update_hasher-died.new.hasher c.update_hasher_cell.new.hasher c.effects-effects.result.cell
+          world way c.effects-effects.ensures.cell c.self.invariant.0 c.update_hasher-died.ensures.told c.update_hasher_cell.ensures on,
       step_live _ live.scene.world.actors c.go_on.new.self.world.actors live.deaths c.update_hasher-died.result c.or-self-inside.result grows after.actors.ready.rise c.or-self-inside.ensures c.self.invariant.1 c.update_hasher-died.ensures.living,
     )
 

@@ -1,7 +1,7 @@
 use Rattle.game_model.specs.Setup.{Setup}
 use Rattle.game_model.specs.StartLemmas.{start_valid}
 use Rattle.tick_core.proofs.ReadyLemmas.{ready_valid}
-use Rattle.tick_core.proofs.game.Game.create.Goals as goal
+use Rattle.tick_core.proofs.game.Game.begin.Goals as goal
 
 -- The opening world is valid.
 pub of-requires : goal.of-requires
