@@ -107,8 +107,8 @@ class LeftAlone(Links):
         self.tally.check(f'{name}: its link', b'link 0 lost\n' in served.out or b'link 0 kicked ' in served.out, served)
         came, left = server.when(b'client 1 has a link from '), server.when(b'client 0 leaves at frame ')
         self.tally.check(f'{name}: not too early', left - came >= CLOCK, (came, left))
-        for line in (b'listens at ', b'client 0 has a link from ', b'client 1 greets', b'client 1 leaves at frame %d' % FRAMES,
-                     b'frames %d, the match is over' % FRAMES):
+        for line in (b'listens at ', b'client 0 has a link from ', b'client 1 greets', b'client 0 is kicked by the clock',
+                     b'client 1 leaves at frame %d' % FRAMES, b'frames %d, the match is over' % FRAMES):
             self.tally.check(f'{name}: the log', any(it.startswith(line) for it in server.lines()), (line, server.lines()))
         self.same_world(name, served, server)
 
@@ -125,26 +125,29 @@ class LeftAlone(Links):
             stopped.ended()
 
     def of_continued(self):
-        """A player and then the server, stopped and continued: without a clock the match goes on."""
-        server = Server(self, 2)
-        player = self.play(server)
-        server.wait_for(b'client 0 has a link from ')
-        self.stop_awhile(player.child)
-        link = self.silent(server, hello() + b''.join(play_of(frame) for frame in range(FRAMES // 2)))
-        server.wait_for(b'client 1 greets')
-        for child in (player.child, server.child):
-            self.stop_awhile(child)
-        link.sendall(b''.join(play_of(frame) for frame in range(FRAMES // 2, FRAMES)) + packet(b'\4'))
-        link.close()
-        played, served = player.ended(), server.ended()
-        world = re.search(rb'^server (frames %d .*)$' % FRAMES, served.out, re.M)
-        held = played.status == served.status == 0 and world and world[1] in played.out
-        self.tally.check('a player and a server that are stopped and continued', held, (played, served))
+        """A player and then the server, stopped and continued: the match goes on. The clock stands still with the server."""
+        for options, seconds in (('', 0.3), (f'--patience {CLOCK * 2}', CLOCK * 2 + 1)):
+            server = Server(self, 2, options)
+            player = self.play(server)
+            server.wait_for(b'client 0 has a link from ')
+            self.stop_awhile(player.child)
+            link = self.silent(server, hello() + b''.join(play_of(frame) for frame in range(FRAMES // 2)))
+            server.wait_for(b'client 1 greets')
+            self.stop_awhile(player.child)
+            self.stop_awhile(server.child, seconds)
+            link.sendall(b''.join(play_of(frame) for frame in range(FRAMES // 2, FRAMES)) + packet(b'\4'))
+            link.close()
+            played, served = player.ended(), server.ended()
+            world = re.search(rb'^server (frames %d .*)$' % FRAMES, served.out, re.M)
+            held = played.status == served.status == 0 and world and world[1] in played.out and b' kicked ' not in served.err
+            name = f'a player and a server that are stopped and continued {options}'
+            self.tally.check(name, held, (played, served, server.lines()))
+            self.same_world(name, served, server)
 
     @staticmethod
-    def stop_awhile(child):
+    def stop_awhile(child, seconds=0.3):
         child.send_signal(signal.SIGSTOP)
-        time.sleep(0.3)
+        time.sleep(seconds)
         child.send_signal(signal.SIGCONT)
         time.sleep(0.2)
 
@@ -185,6 +188,7 @@ class LeftAlone(Links):
         served = server.ended()
         column = re.search(rb'^column 0 (\d+) left$', served.out, re.M)
         self.tally.check('a client that is far ahead', served.status == 0 and column and 3 <= int(column[1]) <= 3 + 2 + 1, served)
+        self.tally.check('a client that is far ahead: the log', b'client 0 is kicked by the console' in server.lines(), server.lines())
         self.same_world('a client that is far ahead', served, server)
 
     def of_empty_seat(self):
@@ -199,13 +203,13 @@ class LeftAlone(Links):
         self.tally.check('an empty seat: its column',
                          b'column 2 0 left\nlink 0 ended\n' in served.out and b'\nlink 2 ended\n' in served.out, served)
         lines = server.lines()
-        said = {b'client 2 has no link', b'client 2 leaves at frame 0', b'client 2 does not greet: its link ended'}
-        self.tally.check('an empty seat: the log', said <= {*lines}, lines)
+        said = {it for it in lines if it.startswith(b'client 2 ')}
+        self.tally.same('an empty seat: the log', said, {b'client 2 has no link', b'client 2 leaves at frame 0'})
         self.same_world('an empty seat', served, server)
         server = Server(self, 3, '--lobby 1')
         served = server.ended()
         self.tally.same('no guest', served, Ran(4, b'fault link\n'))
-        self.tally.check('no guest: the log', len(server.lines()) == 1, server.lines())
+        self.tally.same('no guest: the log', server.lines()[1:], [b'fault link: no link has come'])
 
     def of_stop(self):
         """The line `stop`: with nobody there, in the lobby, in the match; the console stays open."""
@@ -226,11 +230,16 @@ class LeftAlone(Links):
         link = self.silent(server, hello() + play_of(0))
         player = self.play(server)
         server.wait_for(b'client 1 greets')
-        server.say(b'nothing\nstop\n')
+        server.say(b'\nstop \nkick 7\n')
+        server.wait_for(b'note: there is no client 7')
+        server.say(b'stop\n')
         server.wait_for(b'client 1 leaves at frame ')
         took = server.when(b'client 1 leaves at frame ') - server.when(b'client 1 has a link from ')
         played, served = player.ended(), server.ended()
         self.tally.check('stop in the match: before the clock', took < CLOCK * 2, server.lines())
+        notes = [it for it in server.lines() if it.startswith(b'note: ')]
+        self.tally.same('stop in the match: notes', notes, [b'note: a line is neither `kick C` nor `stop`', b'note: there is no client 7'])
+        self.tally.check('stop in the match: the log', b'client 0 is kicked by `stop`' in server.lines(), server.lines())
         self.tally.check('stop in the match: its links', re.search(rb'\nlink 0 (lost|kicked \d+)\nlink 1 ', served.out), served)
         self.tally.same('stop in the match: play', played.status, 0)
         self.same_world('stop in the match', served, server)
@@ -250,11 +259,17 @@ class LeftAlone(Links):
         link.close()
 
     def of_names(self):
-        """A name that can't be resolved is answered at once."""
+        """A name that can't be resolved is answered at once, as an address that is taken."""
         begun = time.monotonic()
         played = self.start('play --at no-such-host.invalid:7070 --script three.script').ended()
         self.tally.same('play: no such host', played, Ran(4, b'fault link\n'))
+        self.tally.check('play: no such host: why', played.err.endswith(b' fault link: no server has answered at this address\n'), played)
         self.tally.check('play: no such host: at once', time.monotonic() - begun < soon() / SOON, time.monotonic() - begun)
+        with socket.create_server(('127.0.0.1', 0)) as taken:
+            server = Server(self, 1, '--udp-ports 7000-7000', f'127.0.0.1:{taken.getsockname()[1]}')
+            self.tally.same('serve: a taken address', server.ended(), Ran(4, b'fault link\n'))
+        self.tally.same('serve: a taken address: the log', server.lines(),
+                        [b'note: --udp-ports means nothing at this address', b"fault link: this address can't be listened at"])
 
     def of_quiet(self):
         """No log where none is wanted; a standard error that is closed, or that nobody reads; a closed standard output."""

@@ -394,6 +394,31 @@ fn a_reader_that_fails_is_counted(rt: HostRuntime) {
     assert_eq!(rt; (source.faults(), room), (1, [7; 2]));
 }
 
+/// A reader of five bytes whose first calls are interrupted.
+#[derive(Drop)]
+struct Interrupted {
+    times: u32,
+}
+
+impl Read for Interrupted {
+    fn read(&mut self, buf: &mut [u8]) -> io::Result<usize> {
+        if self.times > 0 {
+            self.times -= 1;
+            return Err(io::Error::from(io::ErrorKind::Interrupted));
+        }
+        let mut bytes = b"abcde".as_slice();
+        bytes.read(buf)
+    }
+}
+
+#[test]
+fn a_reader_that_is_interrupted_is_read_again(rt: HostRuntime) {
+    let mut source = StdSource::new(Interrupted { times: 3 });
+    let mut room = [0u8; 2];
+    assert_eq!(rt; (source.take(&mut room), room), (Ok(2), *b"ab"));
+    assert_eq!(rt; source.faults(), 0);
+}
+
 /// A client that comes to a gate, and whether the other had come before it was let through.
 #[derive(Drop)]
 struct Comer {

@@ -42,8 +42,8 @@ fn next_line<R: Wait + Clock>(rt: &R, desk: &HostDesk) -> Result<ArrayVec<u8, LI
     for _look in rt.forever() {
         let mut line = ArrayVec::new();
         match desk.give(rt) {
-            Given::Kick(client) if client < MAX_CLIENTS => return Ok(kick_text(client)),
-            Given::Kick(_) => {}
+            Given::Kick(client, _) if client < MAX_CLIENTS => return Ok(kick_text(client)),
+            Given::Kick(_, _) => {}
             Given::Blank => {
                 line.push(LINE_END);
                 return Ok(line);

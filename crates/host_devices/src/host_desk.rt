@@ -1,7 +1,8 @@
 //! What the devices of a host share.
 
+use crate::awake_time::AwakeTime;
 use crate::log_line::LogLine;
-use crate::match_standing::{Given, InputEnd, MatchStanding};
+use crate::match_standing::{Given, InputEnd, MatchStanding, Said};
 use crate::moments::millis_since;
 use crate::typed::Typed;
 use base::NoMemory;
@@ -23,6 +24,7 @@ const SECOND_MILLIS: u64 = 1_000;
 #[derive(Drop)]
 pub struct HostDesk {
     begun: Instant,
+    awake: Mutex<AwakeTime>,
     standing: Mutex<MatchStanding>,
     is_quiet: bool,
     log: ArrayQueue<LogLine>,
@@ -67,6 +69,7 @@ impl HostDesk {
             alloc,
             HostDesk {
                 begun,
+                awake: Mutex::new(AwakeTime::new()),
                 standing: Mutex::new(MatchStanding::new(patience)),
                 is_quiet,
                 log: ArrayQueue::new(alloc, LOG_ROOM)?,
@@ -99,20 +102,42 @@ impl HostDesk {
         self.cut.store(true, Ordering::SeqCst);
     }
 
+    /// For how long the host ran since the desk began, by which the clocks of its match go.
+    fn awake_for<R: Wait + Clock>(&self, rt: &R) -> u64 {
+        let at = millis_since(rt, self.begun);
+        self.awake.lock(rt).look(at)
+    }
+
     /// Takes note of what happened just now, and of what the log says of it.
     pub(crate) fn note<R: Wait + Clock>(&self, rt: &R, event: MatchEvent) {
-        let at = millis_since(rt, self.begun);
+        let at = self.awake_for(rt);
         let said = self.standing.lock(rt).note(event, at);
         if let Some(said) = said {
-            self.put_line(rt, LogLine { at, said });
+            self.say(rt, said);
         }
     }
 
     /// Puts a line into the log, where it has room and one is wanted.
-    fn put_line<R: Wait>(&self, rt: &R, line: LogLine) {
-        if !self.is_quiet && self.log.push(rt, line).is_ok() {
+    pub(crate) fn say<R: Wait + Clock>(&self, rt: &R, said: Said) {
+        let at = millis_since(rt, self.begun);
+        if !self.is_quiet && self.log.push(rt, LogLine { at, said }).is_ok() {
             self.put.fetch_add(1, Ordering::SeqCst);
         }
+    }
+
+    /// Says in the log that the ports which are given for links over UDP mean nothing.
+    pub fn say_no_ports<R: Wait + Clock>(&self, rt: &R) {
+        self.say(rt, Said::NoPorts);
+    }
+
+    /// Says in the log why the net has failed: that of a host, or of a player.
+    pub(crate) fn say_fault<R: Wait + Clock>(&self, rt: &R, is_host: bool) {
+        let said = if is_host {
+            self.standing.lock(rt).says_of_fault()
+        } else {
+            Said::NoServer
+        };
+        self.say(rt, said);
     }
 
     /// The next line of the log that is to be written.
@@ -148,15 +173,22 @@ impl HostDesk {
         self.standing.lock(rt).is_listening()
     }
 
-    /// What the console gives next.
+    /// What the console gives next. The log says whom it kicks.
     pub(crate) fn give<R: Wait + Clock>(&self, rt: &R) -> Given {
-        let at = millis_since(rt, self.begun);
-        self.standing.lock(rt).give(at)
+        let at = self.awake_for(rt);
+        let given = self.standing.lock(rt).give(at);
+        if let Given::Kick(client, by) = given {
+            let said = self.standing.lock(rt).says_of_kick(client, by);
+            if let Some(said) = said {
+                self.say(rt, said);
+            }
+        }
+        given
     }
 
     /// Whether the links have had the time that a clock leaves them after the match.
     pub(crate) fn is_late<R: Wait + Clock>(&self, rt: &R) -> bool {
-        let at = millis_since(rt, self.begun);
+        let at = self.awake_for(rt);
         self.standing.lock(rt).is_late(at)
     }
 }

@@ -5,10 +5,12 @@
 //! and the kicks of the clock, a line at a time. Three threads of the host work beside the match, none
 //! of which it waits for: [`read_typed`] reads standard input, [`write_log`] writes the log, and
 //! [`cut_late_links`] ends the links that hold up a match that is over. What a typed line says is
-//! proved (`specs/Typed.antt`), and the clauses of `Source`, `Watch` and `Net`; when a clock acts, and
-//! what is logged, no clause says. The crate stands on `game_io` and `crossbeam_queue`.
+//! proved (`specs/Typed.antt`), that a stop of the host's process counts half a second in its clocks at
+//! most, and the clauses of `Source`, `Watch` and `Net`; when a clock acts, and what is logged, no
+//! clause says. The crate stands on `game_io` and `crossbeam_queue`.
 #![tactic(auto)]
 
+mod awake_time;
 mod host_console;
 mod host_desk;
 mod host_watch;
@@ -26,6 +28,6 @@ mod waits;
 pub use host_console::HostConsole;
 pub use host_desk::{DeskShares, HostDesk, SharedDesk};
 pub use host_watch::HostWatch;
-pub use log_writer::{flush_log, write_log};
+pub use log_writer::{end_log, write_log};
 pub use typed_reader::read_typed;
 pub use waits::{cut_late_links, limit_lobby};

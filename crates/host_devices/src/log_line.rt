@@ -1,4 +1,4 @@
-use crate::match_standing::Said;
+use crate::match_standing::{KickedBy, Said};
 use game_io::{MatchEvent, NoGreeting};
 use std::fmt;
 use std::fmt::{Display, Formatter, Write};
@@ -24,7 +24,26 @@ impl Display for LogLine {
                     None => Ok(()),
                 }
             }
+            Said::Kicked { client, by } => {
+                write!(f, "client {client} is kicked by {}", kicker(by))
+            }
+            Said::NoClient { client } => write!(f, "note: there is no client {client}"),
+            Said::SaysNothing => f.write_str("note: a line is neither `kick C` nor `stop`"),
+            Said::NoPorts => f.write_str("note: --udp-ports means nothing at this address"),
+            Said::NoListening => f.write_str("fault link: this address can't be listened at"),
+            Said::NoLink => f.write_str("fault link: no link has come"),
+            Said::NoAccepting => f.write_str("fault link: the next link can't be accepted"),
+            Said::NoServer => f.write_str("fault link: no server has answered at this address"),
         }
+    }
+}
+
+/// By what a client is kicked, in words.
+fn kicker(by: KickedBy) -> &'static str {
+    match by {
+        KickedBy::Line => "the console",
+        KickedBy::Stop => "`stop`",
+        KickedBy::Clock => "the clock",
     }
 }
 

@@ -2,6 +2,7 @@
 
 use crate::host_desk::HostDesk;
 use crate::moments::rest;
+use game_io::Net;
 use std::io::Eprint;
 use std::sync::Wait;
 use std::time::Clock;
@@ -24,8 +25,21 @@ pub fn write_log<R: Eprint + Wait + Clock>(rt: &R, desk: &HostDesk) {
     unreachable!()
 }
 
+/// Ends the log: where the net has failed its last line says why. That of a player has no other line,
+/// and no thread that writes it.
+pub fn end_log<N: Net, R: Eprint + Wait + Clock>(rt: &R, desk: &HostDesk, net: &N, is_host: bool) {
+    if net.faults() != 0 {
+        desk.say_fault(rt, is_host);
+    }
+    if is_host {
+        flush_log(rt, desk);
+    } else if let Some(line) = desk.next_line(rt) {
+        let _said = eprintln!(rt; "{line}");
+    }
+}
+
 /// Waits until the log is written, half a second at most.
-pub fn flush_log<R: Clock>(rt: &R, desk: &HostDesk) {
+fn flush_log<R: Clock>(rt: &R, desk: &HostDesk) {
     for _look in 0..LAST_LOOKS {
         if desk.is_all_written() {
             return;

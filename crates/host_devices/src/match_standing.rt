@@ -14,13 +14,38 @@ pub(crate) enum Said {
     Happened(MatchEvent),
     /// How far the match is: frames were ticked, and this client's entry is waited for.
     Stands { frames: u32, waits_for: Option<u8> },
+    /// The console gives a kick of this client.
+    Kicked { client: u8, by: KickedBy },
+    /// A line that was typed kicks a client that the match has not.
+    NoClient { client: u8 },
+    /// A line was typed that says nothing.
+    SaysNothing,
+    /// Ports of links over UDP are given, and no link is over UDP.
+    NoPorts,
+    /// The net has failed: the address can't be listened at, or no link has come, or the next one
+    /// can't be accepted; or, of a player's, no server has answered.
+    NoListening,
+    NoLink,
+    NoAccepting,
+    NoServer,
+}
+
+/// By what a client is kicked.
+#[derive(Clone, Copy, Debug, PartialEq, Eq)]
+pub(crate) enum KickedBy {
+    /// A line that was typed.
+    Line,
+    /// The line `stop`.
+    Stop,
+    /// The clock.
+    Clock,
 }
 
 /// What the console gives next.
 #[derive(Clone, Copy, Debug, PartialEq, Eq)]
 pub(crate) enum Given {
-    /// A line that kicks this client.
-    Kick(u8),
+    /// A line that kicks this client, by this.
+    Kick(u8, KickedBy),
     /// A line that says nothing.
     Blank,
     /// Its end.
@@ -49,6 +74,9 @@ pub(crate) struct MatchStanding {
     patience: Option<u64>,
     /// How many clients have a link, or none that is waited for.
     seats: u8,
+    /// Which of them have none, and which have left.
+    is_empty: [bool; MAX_CLIENTS as usize],
+    has_left: [bool; MAX_CLIENTS as usize],
     /// How many frames were ticked.
     frames: u32,
     /// When the last of them was, or the last link came.
@@ -59,8 +87,8 @@ pub(crate) struct MatchStanding {
     stood_at: u64,
     /// When every client had left.
     over_at: Option<u64>,
-    /// Which clients the console is to kick, and has kicked.
-    to_kick: [bool; MAX_CLIENTS as usize],
+    /// Which clients the console is to kick, and by what, and which it has kicked.
+    to_kick: [Option<KickedBy>; MAX_CLIENTS as usize],
     kicked: [bool; MAX_CLIENTS as usize],
     /// Whether a line was typed that says nothing, and is to be given.
     has_blank: bool,
@@ -79,12 +107,14 @@ impl MatchStanding {
         MatchStanding {
             patience,
             seats: 0,
+            is_empty: [false; MAX_CLIENTS as usize],
+            has_left: [false; MAX_CLIENTS as usize],
             frames: 0,
             moved_at: 0,
             waits_for: None,
             stood_at: 0,
             over_at: None,
-            to_kick: [false; MAX_CLIENTS as usize],
+            to_kick: [None; MAX_CLIENTS as usize],
             kicked: [false; MAX_CLIENTS as usize],
             has_blank: false,
             is_stopped: false,
@@ -99,8 +129,8 @@ impl MatchStanding {
         self.idle = 0;
         match event {
             MatchEvent::Listens { .. } => self.is_listening = true,
-            MatchEvent::LinkCame { client, .. } => {
-                self.seats = self.seats.max(client.saturating_add(1)).min(MAX_CLIENTS);
+            MatchEvent::LinkCame { client, from } => {
+                self.take_seat(client, from.is_none());
                 self.moved_at = at;
                 self.stood_at = at;
             }
@@ -119,10 +149,20 @@ impl MatchStanding {
                 self.frames = frames;
                 self.over_at = Some(at);
             }
-            MatchEvent::Greets { .. } | MatchEvent::GreetsNot { .. } | MatchEvent::Departs { .. } =>
-                {}
+            MatchEvent::Departs { client, .. } => mark(&mut self.has_left, client),
+            MatchEvent::GreetsNot { client, .. } if is_marked(&self.is_empty, client) =>
+                return None,
+            MatchEvent::Greets { .. } | MatchEvent::GreetsNot { .. } => {}
         }
         Some(Said::Happened(event))
+    }
+
+    /// This client is in the match, and has no link where its place is empty.
+    fn take_seat(&mut self, client: u8, is_empty: bool) {
+        self.seats = self.seats.max(client.saturating_add(1)).min(MAX_CLIENTS);
+        if is_empty {
+            mark(&mut self.is_empty, client);
+        }
     }
 
     /// How far the match is, where the log has not said so for long.
@@ -141,17 +181,43 @@ impl MatchStanding {
     fn lose_patience(&mut self, client: u8, at: u64) {
         if let Some(patience) = self.patience {
             if at.saturating_sub(self.moved_at) >= patience {
-                self.kick(client);
+                self.kick(client, KickedBy::Clock);
             }
         }
     }
 
-    /// The console is to kick a client, unless it has.
-    fn kick(&mut self, client: u8) {
-        let kicked = self.kicked.get(client as usize).copied().unwrap_or(true);
-        if let Some(place) = self.to_kick.get_mut(client as usize) {
-            *place = *place || !kicked;
+    /// The console is to kick a client, unless it has, or is to already.
+    fn kick(&mut self, client: u8, by: KickedBy) {
+        if is_marked(&self.kicked, client) {
+            return;
         }
+        if let Some(place) = self.to_kick.get_mut(client as usize) {
+            if place.is_none() {
+                *place = Some(by);
+            }
+        }
+    }
+
+    /// What the log says of a kick that the console gives: nothing where the client has left before.
+    pub fn says_of_kick(&self, client: u8, by: KickedBy) -> Option<Said> {
+        if client >= self.seats {
+            return Some(Said::NoClient { client });
+        }
+        if is_marked(&self.has_left, client) {
+            return None;
+        }
+        Some(Said::Kicked { client, by })
+    }
+
+    /// What the log says where the net has failed.
+    pub fn says_of_fault(&self) -> Said {
+        if !self.is_listening {
+            return Said::NoListening;
+        }
+        if self.seats == 0 {
+            return Said::NoLink;
+        }
+        Said::NoAccepting
     }
 
     /// Whether the server listens, or did: the input is the console's from then on.
@@ -162,7 +228,7 @@ impl MatchStanding {
     /// Takes note of a line that was typed.
     pub fn type_line(&mut self, typed: Typed) {
         match typed {
-            Typed::Kick(client) => self.kick(client),
+            Typed::Kick(client) => self.kick(client, KickedBy::Line),
             Typed::Stop => self.is_stopped = true,
             Typed::Other => self.has_blank = true,
         }
@@ -179,8 +245,8 @@ impl MatchStanding {
         if self.is_stopped {
             self.kick_all();
         }
-        if let Some(client) = self.next_kick() {
-            return Given::Kick(client);
+        if let Some((client, by)) = self.next_kick() {
+            return Given::Kick(client, by);
         }
         if self.has_blank {
             self.has_blank = false;
@@ -215,17 +281,17 @@ impl MatchStanding {
     /// Every client of the match is to be kicked.
     fn kick_all(&mut self) {
         for client in 0..self.seats {
-            self.kick(client);
+            self.kick(client, KickedBy::Stop);
         }
     }
 
-    /// The first client that is to be kicked. From then on it is kicked.
-    fn next_kick(&mut self) -> Option<u8> {
+    /// The first client that is to be kicked, and by what. From then on it is kicked.
+    fn next_kick(&mut self) -> Option<(u8, KickedBy)> {
         for client in 0..MAX_CLIENTS {
-            if self.to_kick[client as usize] {
-                self.to_kick[client as usize] = false;
+            if let Some(by) = self.to_kick[client as usize] {
+                self.to_kick[client as usize] = None;
                 self.kicked[client as usize] = true;
-                return Some(client);
+                return Some((client, by));
             }
         }
         None
@@ -238,4 +304,16 @@ impl MatchStanding {
             _ => false,
         }
     }
+}
+
+/// Marks a client.
+fn mark(marks: &mut [bool; MAX_CLIENTS as usize], client: u8) {
+    if let Some(place) = marks.get_mut(client as usize) {
+        *place = true;
+    }
+}
+
+/// Whether a client is marked, or none that a match can have.
+fn is_marked(marks: &[bool; MAX_CLIENTS as usize], client: u8) -> bool {
+    marks.get(client as usize).copied().unwrap_or(true)
 }

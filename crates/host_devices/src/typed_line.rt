@@ -22,6 +22,11 @@ impl TypedLine {
         }
     }
 
+    /// True where it has no byte.
+    pub fn is_empty(&self) -> bool {
+        self.bytes.is_empty()
+    }
+
     /// What the line says. The next one begins.
     pub fn end(&mut self) -> Typed {
         let typed = what_is_typed(self.bytes.as_slice());

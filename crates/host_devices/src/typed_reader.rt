@@ -1,11 +1,11 @@
 //! The thread that reads standard input.
 
 use crate::host_desk::HostDesk;
-use crate::match_standing::InputEnd;
+use crate::match_standing::{InputEnd, Said};
 use crate::moments::rest;
 use crate::typed::{LINE_END, Typed};
 use crate::typed_line::TypedLine;
-use std::io::{Input, Read};
+use std::io::{ErrorKind, Input, Read};
 use std::sync::Wait;
 use std::time::Clock;
 
@@ -23,6 +23,7 @@ pub fn read_typed<R: Input + Wait + Clock>(rt: &R, desk: &HostDesk) {
         match reader.read(&mut bytes) {
             Ok(0) => return end_typed(rt, desk, line, InputEnd::Ended),
             Ok(count) => type_bytes(rt, desk, &mut line, &bytes[..count]),
+            Err(error) if error.kind() == ErrorKind::Interrupted => {}
             Err(_) => return end_typed(rt, desk, line, InputEnd::Failed),
         }
     }
@@ -41,20 +42,30 @@ fn await_listening<R: Wait + Clock>(rt: &R, desk: &HostDesk) {
 }
 
 /// Takes note of these bytes.
-fn type_bytes<R: Wait>(rt: &R, desk: &HostDesk, line: &mut TypedLine, bytes: &[u8]) {
+fn type_bytes<R: Wait + Clock>(rt: &R, desk: &HostDesk, line: &mut TypedLine, bytes: &[u8]) {
     for byte in bytes {
         if *byte == LINE_END {
-            desk.type_line(rt, line.end());
+            desk.type_line(rt, end_line(rt, desk, line));
         } else {
             line.add(*byte);
         }
     }
 }
 
-/// The input has ended. What has come since the last line counts as one, where it says something.
-fn end_typed<R: Wait>(rt: &R, desk: &HostDesk, line: TypedLine, end: InputEnd) {
-    let mut line = line;
+/// What a line says that has ended. Where it has bytes and says nothing, the log tells.
+fn end_line<R: Wait + Clock>(rt: &R, desk: &HostDesk, line: &mut TypedLine) -> Typed {
+    let is_empty = line.is_empty();
     let typed = line.end();
+    if typed == Typed::Other && !is_empty {
+        desk.say(rt, Said::SaysNothing);
+    }
+    typed
+}
+
+/// The input has ended. What has come since the last line counts as one, where it says something.
+fn end_typed<R: Wait + Clock>(rt: &R, desk: &HostDesk, line: TypedLine, end: InputEnd) {
+    let mut line = line;
+    let typed = end_line(rt, desk, &mut line);
     if typed != Typed::Other {
         desk.type_line(rt, typed);
     }

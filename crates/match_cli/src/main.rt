@@ -7,15 +7,15 @@ use command_answers::OUT_OF_MEMORY;
 use datagram_net::{ByAddress, Udp};
 use game_io::{FileDisk, StdSink, Tcp, TransportNet, WatchedGate};
 use host_devices::{
-    DeskShares, HostConsole, HostDesk, HostWatch, SharedDesk, cut_late_links, flush_log,
-    limit_lobby, read_typed, write_log,
+    DeskShares, HostConsole, HostDesk, HostWatch, SharedDesk, cut_late_links, end_log, limit_lobby,
+    read_typed, write_log,
 };
 use match_commands::{HostOptions, host_options, may_wait, run, run_waiting};
 use std::alloc::AllocError;
 use std::fs::File;
 use std::io::ErrorKind;
 use std::process::ExitCode;
-use std::sync::Arc;
+use std::sync::{Arc, Wait};
 use std::time::Clock;
 use std::{env, io, thread};
 
@@ -48,7 +48,7 @@ fn hold_streams(rt: &HostRuntime) -> io::Result<(File, File, File)> {
 
 /// What the words say of the devices, and the desk that these share, once for `main` and once for each
 /// of four. Out of memory is the one error.
-fn desk_of<R: Clock + AllocGlobal>(
+fn desk_of<R: Clock + Wait + AllocGlobal>(
     rt: &R,
     words: &[String],
     is_unheld: bool,
@@ -56,6 +56,9 @@ fn desk_of<R: Clock + AllocGlobal>(
     let options = host_options(rt.alloc(), words)?;
     let is_quiet = options.is_quiet || is_unheld;
     let desk = HostDesk::create(rt, rt.alloc(), is_quiet, options.patience)?;
+    if options.udp_ports.is_some() && !has_udp_address(words) {
+        desk.say_no_ports(rt);
+    }
     let shares = HostDesk::shares(&desk)?;
     Ok((options, desk, shares))
 }
@@ -66,6 +69,17 @@ fn udp_ports(options: &HostOptions) -> Option<(u16, u16)> {
         Some(ports) => Some((ports.first, ports.last)),
         None => None,
     }
+}
+
+/// Whether a word is an address of links over UDP.
+fn has_udp_address(words: &[String]) -> bool {
+    for word in words {
+        let word = word.as_str();
+        if word.starts_with("udp:") || word.starts_with("--at=udp:") {
+            return true;
+        }
+    }
+    false
 }
 
 /// Whether the command is the one of a host.
@@ -101,8 +115,7 @@ fn main(rt: HostRuntime) -> ExitCode {
     {
         return ExitCode::from(OUT_OF_MEMORY);
     }
-    // Only a clock cuts links. The sockets of others have no limits of time, so a process that is stopped
-    // and goes on keeps its links.
+    // Only a clock cuts links: the sockets of others need no limits of time.
     let tcp = match options.patience {
         Some(_) => Tcp::hosted(&rt, desk.stop(), cut),
         None => Tcp::until(&rt, desk.stop()),
@@ -123,6 +136,6 @@ fn main(rt: HostRuntime) -> ExitCode {
         &mut console,
         &gate,
     );
-    flush_log(&rt, &desk);
+    end_log(&rt, &desk, &net, is_serve(&words));
     ExitCode::from(status)
 }
