@@ -35,12 +35,13 @@ fn refusal(code: u8) -> NoGreeting {
     }
 }
 
-/// What the ticking thread logs: to whom, which departures it has logged, and how many looks in a
-/// row have found no frame.
+/// What the ticking thread logs: to whom, which departures it has logged, how many frames were ticked,
+/// and how many looks in a row have found no frame.
 #[derive(Drop)]
 pub(crate) struct TickLog<'a, W: Watch> {
     watch: &'a W,
     departed: [bool; MAX_CLIENTS as usize],
+    frames: u32,
     looks: u32,
 }
 
@@ -50,6 +51,7 @@ impl<'a, W: Watch> TickLog<'a, W> {
         TickLog {
             watch,
             departed: [false; MAX_CLIENTS as usize],
+            frames: 0,
             looks: 0,
         }
     }
@@ -78,6 +80,7 @@ impl<'a, W: Watch> TickLog<'a, W> {
 
     /// Logs that so many frames were ticked.
     pub fn ticked(&mut self, frames: u32) {
+        self.frames = frames;
         self.looks = 0;
         self.watch.log(MatchEvent::Ticked { frames });
     }
@@ -94,7 +97,8 @@ impl<'a, W: Watch> TickLog<'a, W> {
     }
 
     /// Logs that the match is over.
-    pub fn over(&self, frames: u32) {
+    pub fn over(&self) {
+        let frames = self.frames;
         self.watch.log(MatchEvent::Over { frames });
     }
 }

@@ -23,7 +23,7 @@ use server_core::Board;
 use std::sync::Wait;
 
 /// Ticks each frame that is ready and takes the reports that have come, until the match is over. It
-/// fails only where it is out of memory; then every client has left.
+/// fails only where it is out of memory; then every client has left, and the match is over too.
 pub(crate) fn tick_all<S: Sim, W: Watch, R: Wait>(
     rt: &R,
     table: &FrameTable,
@@ -60,9 +60,11 @@ pub(crate) fn tick_all<S: Sim, W: Watch, R: Wait>(
     ensures joined { joined receiver.new ≡ joined receiver.old }
     ensures same { IsSameReceiver receiver.old receiver.new }
 {
-    let ticked = tick_ready(rt, table, pass, clients, receiver, board, sim, watch);
+    let mut log = TickLog::new(watch);
+    let ticked = tick_ready(rt, table, pass, clients, receiver, board, sim, &mut log);
     if ticked.is_err() {
         leave_all(rt, table, pass, clients);
+        log.over();
     }
     ticked
 }
@@ -76,7 +78,7 @@ fn tick_ready<S: Sim, W: Watch, R: Wait>(
     receiver: &mut ReportReceiver,
     board: &mut Board,
     sim: &mut S,
-    watch: &W,
+    log: &mut TickLog<'_, W>,
 ) -> Result<(), NoMemory>
     requires pass { IsServePass clients table.now pass.old }
     requires unwanted { board.old.wanted ≡ [] }
@@ -104,12 +106,11 @@ fn tick_ready<S: Sim, W: Watch, R: Wait>(
 {
     let mut n: u32 = 0;
     let mut pause = Pause::new();
-    let mut log = TickLog::new(watch);
     for _turn in rt.forever() {
         take_reports(rt, receiver, board)?;
         match table.ready(pass, n) {
             Ready::Yes => {
-                tick(rt, table, pass, n, clients, board, sim, &mut log)?;
+                tick(rt, table, pass, n, clients, board, sim, log)?;
                 n += 1;
                 pause.end();
                 log.ticked(n);
@@ -121,7 +122,7 @@ fn tick_ready<S: Sim, W: Watch, R: Wait>(
             Ready::Over => {
                 let departures = take_frame(rt, table, pass, n, clients);
                 log.departures(n, &departures);
-                log.over(n);
+                log.over();
                 return Ok(());
             }
         }
