@@ -1,7 +1,7 @@
 //! The numbers by which replays know their rules and maps. Replays that are recorded, run, migrated
 //! and refused are recorded command lines of the crate `case_runs`.
 
-use rule_commands::rules_number;
+use setup_files::rules_number;
 use std::test::Fail;
 
 #[test]

@@ -9,6 +9,7 @@ pub mod MadeLemmas
 pub mod SampleLemmas
 pub mod CommandLemmas
 pub mod RunLemmas
-pub mod RecordedLemmas
+pub mod KeptLemmas
 pub mod ServedReplaysLemmas
+pub mod RecordedLemmas
 pub mod WaitingLemmas

@@ -18,10 +18,11 @@ use Rattle.link_commands.specs.LinkLemmas.{IsCaused, linked_given, linked_stoppe
 use Rattle.serve_command.specs.Records.{recording_causes}
 use Rattle.serve_command.specs.RecordsLemmas.{records_caused, records_changes, widen_caused, widen_runs}
 use Rattle.serve_command.specs.Serves.{NetFailed, IsServeDone}
-use Rattle.match_commands.specs.Serves.{served_match, invite_of, serve_step, HasRecorded, RecordsFrom, RecordsOver, RunsRecorded, RunsServe, RunsServing}
+use Rattle.match_commands.specs.Serves.{served_match, invite_of, serve_step, HasRecorded, RecordsFrom, RecordsOver, RunsRecorded}
+use Rattle.match_commands.proofs.ServedReplaysLemmas.{IsRecordLaw, record_replayed}
 
 -- Once the files were read, and before the record is written.
-abbrev since : DiskState → WithLinks → WithLinks
+abbrev pub since : DiskState → WithLinks → WithLinks
 since read all = record all { disk = read }
 
 begins_of :
@@ -52,30 +53,30 @@ changes_of query name (Ok made) status old new read same records =
 changes_of query name (Err stop) status old new read same records = inl (records.2 ∙ same)
 
 ended_of :
-    (query : ServePlain) (name : List ℕ) (made : Result (Setup × ℕ) Stop) (status : ℕ) (old new : WithLinks) (read : DiskState) →
+    IsRecordLaw → (query : ServePlain) (name : List ℕ) (made : Result (Setup × ℕ) Stop) (status : ℕ) (old new : WithLinks) (read : DiskState) →
     read.files ≡ old.disk.files → RecordsFrom query name made status (since read old) new →
     (new.disk.files ≡ old.disk.files) ⊎ HasRecorded query name status (since read old) new
-ended_of query name (Ok made) status old new read same (inl out) = inr (made, out)
-ended_of query name (Ok made) status old new read same (inr (inl memory)) = inl (memory.2 ∙ same)
-ended_of query name (Ok made) status old new read same (inr (inr failed)) = inl (failed.2 ∙ same)
-ended_of query name (Err stop) status old new read same records = inl (records.2 ∙ same)
+ended_of law query name (Ok made) status old new read same (inl out) = inr (made, (out, record_replayed law query name status (since read old) new made out))
+ended_of law query name (Ok made) status old new read same (inr (inl memory)) = inl (memory.2 ∙ same)
+ended_of law query name (Ok made) status old new read same (inr (inr failed)) = inl (failed.2 ∙ same)
+ended_of law query name (Err stop) status old new read same records = inl (records.2 ∙ same)
 
 -- The rules and the map were read.
 pub recorded_given :
-    (query : ServePlain) (name : List ℕ) (all : WantedFiles) (contents : Contents) (made : Result (Setup × ℕ) Stop) (status : ℕ) (old new : WithLinks) (read : DiskState) →
+    IsRecordLaw → (query : ServePlain) (name : List ℕ) (all : WantedFiles) (contents : Contents) (made : Result (Setup × ℕ) Stop) (status : ℕ) (old new : WithLinks) (read : DiskState) →
     rules_and_map query.rules query.map_file ≡ all → read.files ≡ old.disk.files → old.disk.faults ≤ read.faults →
     read.faults ≤ new.disk.faults → old.sink.faults ≤ new.sink.faults →
     IfSome old.disk.files (λ files. contents_of all files ≡ Ok contents) → IfNone old.disk.files (AreContents all contents) →
     ReturnsStep made (λ made. made) (serve_step query contents) → RecordsFrom query name made status (since read old) new →
     RunsRecorded query name status old new
-recorded_given query name all contents made status old new read wants same later since_read later' told untold returns records = record {
+recorded_given law query name all contents made status old new read wants same later since_read later' told untold returns records = record {
   read = read;
   runs = linked_given (rules_and_map query.rules query.map_file) all (serve_step query) (RecordsOver query name status (since read old) new) IsServeDone
       contents status (recording_causes name (NetFailed old.net new.net) old new) old (since read new) wants same later later' told untold
       (begins_of query name made (serve_step query contents) status old new read returns records)
       (caused_of query name made (serve_step query contents) status old new read later returns records);
   files = changes_of query name made status old new read same records;
-  ended = ended_of query name made status old new read same records;
+  ended = ended_of law query name made status old new read same records;
   later = (omega (arith, later, since_read), later');
 }
 
@@ -99,9 +100,3 @@ recorded_stopped query name all stop status d d' s s' net console wants same lat
       ended = inl same;
       later = (later, later');
     }
-
--- What a run of `serve` is by the file that its words name.
-pub runs_by :
-    (record_file : Option (List ℕ)) (query : ServePlain) (status : ℕ) (old new : WithLinks) → query.record_file ≡ record_file →
-    RunsServing record_file query status old new → RunsServe query status old new
-runs_by record_file query status old new is runs = subst (λ (file : Option (List ℕ)). RunsServing file query status old new) (sym is) runs

@@ -1,6 +1,7 @@
 -- What is known of a run of `play`, over plain values.
 use Rattle.std.specs.Prelude.{option_and_then}
-use Rattle.std.proofs.Common.{◌≡◌, ◌≤◌, ◌⊎◌, ℕ, List, Option, None, Some, Result, Ok, Err, IsOk, IfSome, IfNone, refl, sym, ap, subst, inl, inr, arith}
+use Rattle.std.proofs.Common.{◌≡◌, ◌≤◌, ◌⊎◌, ℕ, List, Option, None, Some, Result, Ok, Err, IsOk, IfSome, IfNone, refl, sym, ap, subst, inl, inr, arith, ◌∙◌}
+use Rattle.base.specs.Cause.{Increased}
 use Rattle.base.specs.Steps.{◌>>=◌}
 use Rattle.game_model.specs.Setup.{Setup}
 use Rattle.tick_core.specs.Game.{game_hash, game_summary}
@@ -17,22 +18,24 @@ use Rattle.command_answers.specs.Causes.{Causes}
 use Rattle.command_answers.specs.CausesLemmas.{HasCauses, at_memory}
 use Rattle.command_answers.specs.Environment.{environment}
 use Rattle.command_answers.specs.Step.{Step}
-use Rattle.command_answers.specs.Stop.{ReturnsStep}
-use Rattle.command_answers.specs.WantedFiles.{rules_and_map, with_script}
+use Rattle.command_answers.specs.Contents.{Contents, contents_of, AreContents, IsFirstThere}
+use Rattle.command_answers.specs.Stop.{IsReadStop, IsUntoldStop, PrintsStop, ReturnsStep}
+use Rattle.command_answers.specs.WantedFiles.{WantedFiles, in_order, rules_and_map, with_script}
 use Rattle.link_commands.specs.Links.{WithLinks, with_links, Begins, EndsBefore, causes_by}
-use Rattle.link_commands.specs.LinkLemmas.{IsCaused, linked_stopped, stop_begins, stop_caused}
+use Rattle.link_commands.specs.LinkLemmas.{IsCaused, linked_given, linked_stopped, stop_begins, stop_caused}
 use Rattle.link_commands.specs.Plays.{LinkFailed, IsPlayDone}
 use Rattle.link_commands.specs.PlayLemmas.{plays_caused}
 use Rattle.match_commands.specs.Plays.{PlayMeans, bot_means, bot_step, play_step, terms_of, PlaysFrom, PlaysOver}
 use Rattle.serve_command.specs.Serves.{NetFailed, IsServeDone}
 use Rattle.serve_command.specs.ServeLemmas.{serves_caused}
 use Rattle.match_commands.specs.Run.{Runs}
-use Rattle.match_commands.specs.Serves.{served_match, invite_of, serve_step, RunsServing, ServesFrom, ServesOver}
+use Rattle.match_commands.specs.Serves.{served_match, invite_of, serve_step, RunsServe, RunsServing, ServesAs, ServesFrom, ServesOver}
 use Rattle.match_commands.specs.TopCalls.{waiting}
 use Rattle.match_commands.specs.Waiting.{RunsWaiting}
-use Rattle.match_commands.proofs.RecordedLemmas.{recorded_stopped}
+use Rattle.match_commands.proofs.RecordedLemmas.{recorded_given, recorded_stopped, since}
 use Rattle.match_commands.proofs.RequestLemmas.{request_stopped}
 use Rattle.match_commands.proofs.RunLemmas.{request_runs}
+use Rattle.match_commands.proofs.ServedReplaysLemmas.{IsRecordLaw}
 
 -- From what the code plays by, or why it ended before it had that.
 pub play_begins :
@@ -77,6 +80,53 @@ serve_caused query (Ok made) step status old new returns serves =
     serves_caused (served_match query made.0) (invite_of query made.1) (IsOk step) status old new serves
 serve_caused query (Err stop) step status old new returns serves = stop_caused stop step IsServeDone status old new _ returns serves.0
 
+-- ---- `serve`, by the file that its match is recorded in, if one is named
+
+pub serves_by :
+    (record_file : Option (List ℕ)) (query : ServePlain) (made : Result (Setup × ℕ) Stop) (status : ℕ) (old new : WithLinks) → query.record_file ≡ record_file →
+    ServesAs record_file query made status old new → ServesAs query.record_file query made status old new
+serves_by record_file query made status old new is serves = subst (λ (file : Option (List ℕ)). ServesAs file query made status old new) (sym is) serves
+
+serves_since :
+    (query : ServePlain) (made : Result (Setup × ℕ) Stop) (status : ℕ) (old new : WithLinks) (read : DiskState) →
+    ServesFrom query made status (since read old) new → ServesFrom query made status old new
+serves_since query (Ok made) status old new read serves = serves
+serves_since query (Err stop) status old new read serves = serves
+
+-- The rules and the map were read.
+pub serving_given :
+    IsRecordLaw → (record_file : Option (List ℕ)) (query : ServePlain) (all : WantedFiles) (contents : Contents) (made : Result (Setup × ℕ) Stop) (status : ℕ)
+    (old new : WithLinks) (read : DiskState) →
+    rules_and_map query.rules query.map_file ≡ all → read.files ≡ old.disk.files → old.disk.faults ≤ read.faults →
+    read.faults ≤ new.disk.faults → old.sink.faults ≤ new.sink.faults →
+    IfSome old.disk.files (λ files. contents_of all files ≡ Ok contents) → IfNone old.disk.files (AreContents all contents) →
+    ReturnsStep made (λ made. made) (serve_step query contents) → ServesAs record_file query made status (since read old) new →
+    RunsServing record_file query status old new
+serving_given law (Some name) query all contents made status old new read wants same later since_read later' told untold returns serves =
+    recorded_given law query name all contents made status old new read wants same later since_read later' told untold returns serves
+serving_given law None query all contents made status old new read wants same later since_read later' told untold returns serves =
+    let over = serves_since query made status old new read serves.0 in
+    linked_given (rules_and_map query.rules query.map_file) all (serve_step query) (ServesOver query status old new) IsServeDone contents status _ old new
+    wants (ap (λ (disk : DiskState). disk.files) serves.1 ∙ same) (omega (arith, later, since_read)) later' told untold
+    (serve_begins query made (serve_step query contents) status old new returns over)
+    (serve_caused query made (serve_step query contents) status old new returns over)
+
+-- One of them was not.
+pub serving_stopped :
+    (record_file : Option (List ℕ)) (query : ServePlain) (all : WantedFiles) (stop : Stop) (status : ℕ) (d d' : DiskState) (s s' : SinkState)
+    (net : NetState) (console : SourceState) →
+    rules_and_map query.rules query.map_file ≡ all → d'.files ≡ d.files → d.faults ≤ d'.faults → s.faults ≤ s'.faults →
+    IfSome d.files (λ files. IsReadStop stop (contents_of all files) (IsFirstThere (in_order all) files × Increased d.faults d'.faults)) →
+    IfNone d.files (IsUntoldStop stop (in_order all) (Increased d.faults d'.faults)) →
+    PrintsStop stop status s s' → RunsServing record_file query status (with_links d s net console) (with_links d' s' net console)
+serving_stopped (Some name) query all stop status d d' s s' net console wants same later later' told untold prints =
+    recorded_stopped query name all stop status d d' s s' net console wants same later later' told untold prints
+serving_stopped None query all stop status d d' s s' net console wants same later later' told untold prints =
+    let old = with_links d s net console in
+    let new = with_links d' s' net console in
+    linked_stopped (rules_and_map query.rules query.map_file) all (serve_step query) (ServesOver query status old new) IsServeDone
+    stop status (NetFailed net net) old new wants same later later' told untold prints (refl, refl)
+
 -- ---- the request that the words name
 
 pub named_waits :
@@ -116,15 +166,10 @@ none_waits : (d : DiskState) (s : SinkState) (net : NetState) (console : SourceS
     RunsWaiting None OUT_OF_MEMORY (with_links d s net console) (with_links d s net console)
 none_waits d s net console = (none_runs d s _, (refl, refl))
 
-serve_waits : (record_file : Option (List ℕ)) (query : ServePlain) (d : DiskState) (s : SinkState) (net : NetState) (console : SourceState) →
-    RunsServing record_file query OUT_OF_MEMORY (with_links d s net console) (with_links d s net console)
-serve_waits None query d s net console =
-    let all = rules_and_map query.rules query.map_file in
-    let old = with_links d s net console in
-    linked_stopped all all (serve_step query) (ServesOver query OUT_OF_MEMORY old old) IsServeDone NoMemory OUT_OF_MEMORY (NetFailed net net) old old
-    refl refl (omega arith) (omega arith) (unread_told d.files _ (λ files. tt)) (unread_untold d.files _ tt) (refl, refl) (refl, refl)
-serve_waits (Some name) query d s net console =
-    recorded_stopped query name (rules_and_map query.rules query.map_file) NoMemory OUT_OF_MEMORY d d s s net console
+serve_waits : (query : ServePlain) (d : DiskState) (s : SinkState) (net : NetState) (console : SourceState) →
+    RunsServe query OUT_OF_MEMORY (with_links d s net console) (with_links d s net console)
+serve_waits query d s net console =
+    serving_stopped query.record_file query (rules_and_map query.rules query.map_file) NoMemory OUT_OF_MEMORY d d s s net console
     refl refl (omega arith) (omega arith) (unread_told d.files _ (λ files. tt)) (unread_untold d.files _ tt) (refl, refl)
 
 request_waits : (request : RequestPlain) (d : DiskState) (s : SinkState) (net : NetState) (console : SourceState) →
@@ -142,7 +187,7 @@ request_waits (View query client) d s net console = none_waits d s net console
 request_waits (Worlds query range) d s net console = none_waits d s net console
 request_waits (Compare query second) d s net console = none_waits d s net console
 request_waits (Datagrams script) d s net console = none_waits d s net console
-request_waits (Serve query) d s net console = serve_waits query.record_file query d s net console
+request_waits (Serve query) d s net console = serve_waits query d s net console
 request_waits (Local query bots) d s net console = (
   request_runs (Local query bots) OUT_OF_MEMORY _ (environment d s) (environment d s)
       (request_stopped (Local query bots) NoMemory OUT_OF_MEMORY d d s s refl (omega arith) (omega arith)

@@ -21,7 +21,7 @@ use Rattle.command_answers.specs.Writing.{AnswersReply}
 use Rattle.rule_commands.specs.Numbers.{numbered_setup_step}
 use Rattle.rule_commands.specs.Setups.{setup_step}
 use Rattle.replay_commands.specs.Matches.{game_match}
-use Rattle.replay_commands.specs.Records.{drill_record}
+use Rattle.replay_commands.specs.Records.{drill_record, ReplaysDrill}
 
 -- The report of a drill over rules and a map.
 unfoldable pub drill_report : Setup → DrillPlain → List ℕ
@@ -82,3 +82,10 @@ abbrev pub RecordsDrill :
 RecordsDrill name (Ok made) status d d' s s' =
     AnswersReply (recording_reply name made.2 made.0 (plain_of made.1)) status d d' s s'
 RecordsDrill name (Err stop) status d d' s s' = PrintsStop stop status s s' × (d'.files ≡ d.files)
+
+-- The record of such a drill is replayed as it was recorded. There is none after a stop.
+abbrev pub RecordReplays : Result (Setup × Drill × ℕ) Stop → Type 0
+RecordReplays (Ok made) =
+    let drill = plain_of made.1 in
+    ReplaysDrill made.2 made.0 drill (drill_record made.2 made.0 drill)
+RecordReplays (Err stop) = ⊥

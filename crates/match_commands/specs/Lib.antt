@@ -7,10 +7,10 @@ pub mod Views
 pub mod Worlds
 pub mod Compared
 pub mod Request
+pub mod KeptMatches
 pub mod Refusing
 pub mod Run
 pub mod TopCalls
 pub mod Plays
 pub mod Serves
-pub mod ServedReplays
 pub mod Waiting

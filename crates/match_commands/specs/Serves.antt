@@ -1,20 +1,26 @@
 -- The answer to the command `serve`.
-use Rattle.std.specs.Prelude.{◌≡◌, ℕ, ◌⊎◌, List, Option, None, Some, Result, Ok, Err}
+use Rattle.std.specs.Prelude.{◌≡◌, ℕ, ◌⊎◌, List, ◌++◌, Option, None, Some, Result, Ok, Err}
+use Rattle.drill.specs.Text.{end_line, world_text}
 use Rattle.game_io.specs.DiskState.{DiskState}
+use Rattle.frame_core.specs.Column.{Column}
 use Rattle.frame_core.specs.Match.{Match}
 use Rattle.game_model.specs.Setup.{Setup}
 use Rattle.match_net.specs.declared.invite.Invite.{Invite}
+use Rattle.match_serve.specs.Passes.{columns_of}
+use Rattle.replay_run.specs.Shown.{replay_head}
 use Rattle.tick_core.specs.Game.{GameState, game_start, game_after, game_hash, game_summary}
 use Rattle.command_words.specs.RequestPlain.{ServePlain}
 use Rattle.command_answers.specs.declared.stop.Stop.{Stop}
 use Rattle.command_answers.specs.Contents.{Contents}
 use Rattle.command_answers.specs.Environment.{IsLater}
 use Rattle.command_answers.specs.FileWrite.{OnlyChanges}
+use Rattle.command_answers.specs.Reply.{done}
 use Rattle.command_answers.specs.Step.{Step}
 use Rattle.command_answers.specs.Stop.{PrintsStop}
 use Rattle.command_answers.specs.WantedFiles.{rules_and_map}
 use Rattle.link_commands.specs.Links.{WithLinks, RunsLinked, IsApart, causes_by, environment_of}
-use Rattle.serve_command.specs.Records.{RecordsBy, RecordsOut, recording_causes}
+use Rattle.replay_commands.specs.Replays.{ReplaysAs}
+use Rattle.serve_command.specs.Records.{RecordsBy, RecordsOut, recording_causes, served_record}
 use Rattle.serve_command.specs.Serves.{ServesBy, NetFailed, IsServeDone}
 use Rattle.rule_commands.specs.Numbers.{numbered_setup_step}
 
@@ -74,13 +80,38 @@ RecordsFrom query name (Err stop) status old new =
     × IsApart old new
     × (new.disk.files ≡ old.disk.files)
 
--- A match was served to its end over some rules and a map, and recorded.
+-- The match was served, and recorded, if a file of this name is given for that; or the command ended
+-- before it.
+abbrev pub ServesAs :
+    Option (List ℕ) → ServePlain → Result (Setup × ℕ) Stop → ℕ → (old new : WithLinks) → Type 0
+ServesAs None query made status old new =
+    ServesFrom query made status old new × (new.disk ≡ old.disk)
+ServesAs (Some name) query made status old new = RecordsFrom query name made status old new
+
+-- The text of `replay` where no mark differs: that many frames, and this world in the end.
+abbrev pub without_marks : (frames : ℕ) → GameState → List ℕ
+without_marks frames world =
+    replay_head frames ++ world_text game_hash game_summary world ++ end_line
+
+-- Of the record of the match with these columns `replay` finds no differing mark, over the same
+-- rules and map, and prints the frames, the world and the hash that the server printed.
+abbrev pub ReplaysServed :
+    ServePlain → Setup × ℕ → List Column → (frames : ℕ) → GameState → Type 0
+ReplaysServed query made columns frames world =
+    ReplaysAs made.1 made.0
+    (served_record (served_match query made.0) (invite_of query made.1) columns)
+    (λ file. Ok (done (without_marks frames world)))
+
+-- A match was served to its end over some rules and a map, and recorded: no file changed, or the
+-- record is replayed so.
 abbrev pub HasRecorded :
     ServePlain → (name : List ℕ) → ℕ → (old new : WithLinks) → Type 0
 HasRecorded query name status old new =
     (made : Setup × ℕ)
-    × RecordsOut (served_match query made.0) (invite_of query made.1) name status old.net new.net
-    old.console new.console old.disk new.disk old.sink new.sink
+    × ((out : RecordsOut (served_match query made.0) (invite_of query made.1) name status old.net
+    new.net old.console new.console old.disk new.disk old.sink new.sink)
+    × ((new.disk.files ≡ old.disk.files)
+    ⊎ ReplaysServed query made (columns_of out.pass) out.steps out.world))
 
 -- A run of `serve` that records its match in the file of this name. `read` is the disk once the
 -- rules and the map were read, and before that file is written.

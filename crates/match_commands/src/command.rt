@@ -5,6 +5,7 @@ ghost use Rattle.command_words.specs.RequestPlain.{plain_match, plain_route, IsW
 ghost use Rattle.command_words.specs.Reading.{request_of};
 ghost use Rattle.command_answers.specs.Causes.{causes_of};
 ghost use Rattle.command_answers.specs.Environment.{environment};
+ghost use Rattle.match_commands.specs.KeptMatches.{KeepsIfDone};
 ghost use Rattle.match_commands.specs.Request.{written_by};
 ghost use Rattle.match_commands.specs.Run.{Runs, RunsRequest};
 ghost use Rattle.match_commands.specs.TopCalls.{returning, returning_request};
@@ -48,12 +49,16 @@ use std::alloc::Global;
 ///
 /// The file that `drill --record`, `migrate` or `save` names is written after the text. At 5 it
 /// holds what it held, nothing, or a prefix of its bytes; at every other status but 0 it is as it
-/// was.
+/// was. At 0 it keeps its match, over the same rules and map: of a record `replay` finds no
+/// differing mark and has the server's world in the end; of a migrated replay it answers what it
+/// answers of the old one; from a save `continue` goes on as `replay` does.
 pub fn run<D: Disk, K: Sink>(alloc: Global, words: &[String], disk: &mut D, out: &mut K) -> u8
-    ensures { let old = environment (D.state disk.old) (K.state out.old) in
+    ensures runs { let old = environment (D.state disk.old) (K.state out.old) in
         let new = environment (D.state disk.new) (K.state out.new) in
         let request = returning_request (request_of (map string_bytes words.now)) in
         Runs request result (causes_of (option_and_then written_by request) old new) old new }
+    ensures keeps { KeepsIfDone (returning_request (request_of (map string_bytes words.now))) result
+        (D.state disk.old).files }
 {
     match read_words(alloc, words) {
         Ok(request) => run_request(alloc, &request, disk, out),
@@ -70,10 +75,11 @@ fn run_request<D: Disk, K: Sink>(
     out: &mut K,
 ) -> u8
     requires { IsWithinBounds request.now }
-    ensures { let old = environment (D.state disk.old) (K.state out.old) in
+    ensures runs { let old = environment (D.state disk.old) (K.state out.old) in
         let new = environment (D.state disk.new) (K.state out.new) in
         let named = returning (plain_of request.now) in
         Runs named result (causes_of (option_and_then written_by named) old new) old new }
+    ensures keeps { KeepsIfDone (returning (plain_of request.now)) result (D.state disk.old).files }
 {
     match request {
         Request::Drill { query, record } => run_drill_query(alloc, query, *record, disk, out),
@@ -103,10 +109,12 @@ fn run_drill_query<D: Disk, K: Sink>(
     out: &mut K,
 ) -> u8
     requires { length query.now.rules ≤ MAX_FILES }
-    ensures { let name = option_map (λ name. name.now) record_file.entry in
+    ensures runs { let name = option_map (λ name. name.now) record_file.entry in
         let old = environment (D.state disk.old) (K.state out.old) in
         let new = environment (D.state disk.new) (K.state out.new) in
         RunsRequest (Drill (plain_match query.now) name) result (causes_of name old new) old new }
+    ensures keeps { let name = option_map (λ name. name.now) record_file.entry in
+        KeepsIfDone (Some (Drill (plain_match query.now) name)) result (D.state disk.old).files }
 {
     match record_file {
         Some(name) => run_recorded_script(alloc, query, name, disk, out),
@@ -150,10 +158,12 @@ fn run_recorded_script<D: Disk, K: Sink>(
     out: &mut K,
 ) -> u8
     requires { length query.now.rules ≤ MAX_FILES }
-    ensures { let old = environment (D.state disk.old) (K.state out.old) in
+    ensures runs { let old = environment (D.state disk.old) (K.state out.old) in
         let new = environment (D.state disk.new) (K.state out.new) in
         RunsRequest (Drill (plain_match query.now) (Some name.now)) result
         (causes_of (Some name.now) old new) old new }
+    ensures keeps { KeepsIfDone (Some (Drill (plain_match query.now) (Some name.now))) result
+        (D.state disk.old).files }
 {
     let names = query.rules.as_slice();
     match read_played_files(

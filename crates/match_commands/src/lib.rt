@@ -20,7 +20,6 @@ mod refusing;
 mod replaying;
 mod reporting;
 mod saving;
-mod served_replays;
 mod viewing;
 mod waiting;
 
@@ -28,5 +27,4 @@ pub use command::run;
 pub use command_words::{HostOptions, PortRange, host_options};
 pub use making::made_matches_are_accepted;
 pub use refusing::refusals_are_exact;
-pub use served_replays::served_records_are_replayed;
 pub use waiting::{may_wait, run_waiting};

@@ -1,11 +1,13 @@
 //! Drills that are recorded.
-ghost use Rattle.std.specs.Prelude.{◌≤◌};
+ghost use Rattle.std.specs.Prelude.{◌≡◌, ◌≤◌};
 ghost use Rattle.drill.specs.Drilled.{IsLeftBy};
 ghost use Rattle.drill_words.specs.Drill.{plain_of};
 ghost use Rattle.game_model.specs.Setup.{Setup};
+ghost use Rattle.command_answers.specs.declared.statuses.TheConstants.{DONE};
 ghost use Rattle.command_answers.specs.Writing.{AnswersReply, WritesLast};
 ghost use Rattle.replay_commands.specs.Matches.{game_match};
-ghost use Rattle.match_commands.specs.Drills.{recording_reply, RecordsDrill};
+ghost use Rattle.replay_commands.specs.Records.{drill_record, ReplaysDrill};
+ghost use Rattle.match_commands.specs.Drills.{recording_reply, RecordReplays, RecordsDrill};
 
 use command_answers::{DONE, FAULT_WRITE, FileBytes, OUT_OF_MEMORY, Stop, print_stop, write_last};
 use drill::{Drilled, RunFault, run_drill};
@@ -29,6 +31,11 @@ fn write_record<D: Disk>(
         IsLeftBy (game_match setup (plain_of drill.now)) drill.now.events left.now →
         WritesLast (recording_reply name.now number setup (plain_of drill.now)).write DONE result
         (D.state disk.old) (D.state disk.new) }
+    ensures replays { (setup : Setup) →
+        IsLeftBy (game_match setup (plain_of drill.now)) drill.now.events left.now →
+        result ≡ DONE →
+        ReplaysDrill number setup (plain_of drill.now)
+        (drill_record number setup (plain_of drill.now)) }
     ensures later { (D.state disk.old).faults ≤ (D.state disk.new).faults }
 {
     match record_bytes(alloc, number, drill, left) {
@@ -50,6 +57,9 @@ fn run_recorded<D: Disk, K: Sink>(
 ) -> u8
     ensures records { AnswersReply (recording_reply name.now number maker.now (plain_of drill.now))
         result (D.state disk.old) (D.state disk.new) (K.state out.old) (K.state out.new) }
+    ensures replays { result ≡ DONE →
+        ReplaysDrill number maker.now (plain_of drill.now)
+        (drill_record number maker.now (plain_of drill.now)) }
     ensures disk { (D.state disk.old).faults ≤ (D.state disk.new).faults }
     ensures later { (K.state out.old).faults ≤ (K.state out.new).faults }
 {
@@ -71,6 +81,7 @@ pub(crate) fn record_drill<D: Disk, K: Sink>(
 ) -> u8
     ensures records { RecordsDrill name.now made.entry result
         (D.state disk.old) (D.state disk.new) (K.state out.old) (K.state out.new) }
+    ensures replays { result ≡ DONE → RecordReplays made.entry }
     ensures disk { (D.state disk.old).faults ≤ (D.state disk.new).faults }
     ensures later { (K.state out.old).faults ≤ (K.state out.new).faults }
 {

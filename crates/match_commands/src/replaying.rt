@@ -1,11 +1,12 @@
 //! The commands on replays.
-ghost use Rattle.std.specs.Prelude.{◌≤◌, length, None, Some};
+ghost use Rattle.std.specs.Prelude.{◌≤◌, length, None, Some, IfOk};
 ghost use Rattle.command_words.specs.RequestPlain.{Migrate, Replay, plain_match};
 ghost use Rattle.command_answers.specs.Answer.{reply_of};
 ghost use Rattle.command_answers.specs.Causes.{causes_of};
 ghost use Rattle.command_answers.specs.Given.{replay_contents};
 ghost use Rattle.command_answers.specs.Environment.{environment};
 ghost use Rattle.command_answers.specs.Stop.{ReturnsStep};
+ghost use Rattle.match_commands.specs.KeptMatches.{KeepsIfDone, KeepsReplay};
 ghost use Rattle.match_commands.specs.Replayed.{migrated_step, replayed_step};
 ghost use Rattle.match_commands.specs.Run.{RunsRequest};
 
@@ -46,8 +47,10 @@ fn answer_migrate<'a>(
     given: &(GivenFiles, Vec<u8>),
 ) -> Result<Answer<'a>, Stop<'a>>
     requires { length given.now.0.rules.items ≤ MAX_FILES }
-    ensures { ReturnsStep result reply_of
+    ensures reply { ReturnsStep result reply_of
         (migrated_step (plain_match query.now) to.now (replay_contents given.now)) }
+    ensures keeps { IfOk result (λ answer. KeepsReplay (plain_match query.now)
+        (replay_contents given.now) (reply_of answer).write) }
 {
     let (files, bytes) = given;
     let (maker, number) = read_numbered_maker(
@@ -95,10 +98,12 @@ pub(crate) fn run_migrate<D: Disk, K: Sink>(
     out: &mut K,
 ) -> u8
     requires { length query.now.rules ≤ MAX_FILES }
-    ensures { let old = environment (D.state disk.old) (K.state out.old) in
+    ensures runs { let old = environment (D.state disk.old) (K.state out.old) in
         let new = environment (D.state disk.new) (K.state out.new) in
         RunsRequest (Migrate (plain_match query.now) to.now) result
         (causes_of (Some to.now) old new) old new }
+    ensures keeps { KeepsIfDone (Some (Migrate (plain_match query.now) to.now)) result
+        (D.state disk.old).files }
 {
     let names = query.rules.as_slice();
     match read_played_files(

@@ -1,11 +1,12 @@
 //! The commands on saves.
-ghost use Rattle.std.specs.Prelude.{◌≤◌, length, None, Some};
+ghost use Rattle.std.specs.Prelude.{◌≤◌, length, None, Some, IfOk};
 ghost use Rattle.command_words.specs.RequestPlain.{Continue, Save, plain_match};
 ghost use Rattle.command_answers.specs.Answer.{reply_of};
 ghost use Rattle.command_answers.specs.Causes.{causes_of};
 ghost use Rattle.command_answers.specs.Given.{paired_contents, replay_contents};
 ghost use Rattle.command_answers.specs.Environment.{environment};
 ghost use Rattle.command_answers.specs.Stop.{ReturnsStep};
+ghost use Rattle.match_commands.specs.KeptMatches.{KeepsIfDone, KeepsWorld};
 ghost use Rattle.match_commands.specs.Run.{RunsRequest};
 ghost use Rattle.match_commands.specs.Saves.{continued_step, saved_step};
 
@@ -28,8 +29,10 @@ fn answer_save<'a>(
     given: &(GivenFiles, Vec<u8>),
 ) -> Result<Answer<'a>, Stop<'a>>
     requires { length given.now.0.rules.items ≤ MAX_FILES }
-    ensures { ReturnsStep result reply_of
+    ensures reply { ReturnsStep result reply_of
         (saved_step (plain_match query.now) frames to.now (replay_contents given.now)) }
+    ensures keeps { IfOk result (λ answer. KeepsWorld (plain_match query.now) frames
+        (replay_contents given.now) (reply_of answer).write) }
 {
     let (files, bytes) = given;
     let (maker, number) = read_numbered_maker(
@@ -76,10 +79,12 @@ pub(crate) fn run_save<D: Disk, K: Sink>(
     out: &mut K,
 ) -> u8
     requires { length query.now.rules ≤ MAX_FILES }
-    ensures { let old = environment (D.state disk.old) (K.state out.old) in
+    ensures runs { let old = environment (D.state disk.old) (K.state out.old) in
         let new = environment (D.state disk.new) (K.state out.new) in
         RunsRequest (Save (plain_match query.now) frames to.now) result
         (causes_of (Some to.now) old new) old new }
+    ensures keeps { KeepsIfDone (Some (Save (plain_match query.now) frames to.now)) result
+        (D.state disk.old).files }
 {
     let names = query.rules.as_slice();
     match read_played_files(

@@ -24,9 +24,9 @@ use Rattle.server_core.specs.Server.{ServerState}
 use Rattle.tick_core.specs.Game.{GameState}
 use Rattle.replay_commands.specs.Matches.{game_match}
 use Rattle.replay_commands.specs.Records.{drill_record, drill_replay, progress_of, recorded_reply}
+use Rattle.replay_commands.specs.Records.{ReplaysDrill}
 use Rattle.replay_commands.specs.Refusals.{read_step}
-use Rattle.replay_commands.specs.Replays.{game_first_hash, replay_reply, replay_step}
-use Rattle.replay_commands.specs.Replays.{replayed_reply}
+use Rattle.replay_commands.specs.Replays.{game_first_hash, replay_reply, replayed_reply}
 
 -- The replay that a server with these columns and this count of frames has of a match.
 abbrev server_replay : Match GameState → (rules seed : ℕ) → ServerState GameState → Replay
@@ -68,20 +68,18 @@ replies_given given = Ok (replayed_reply given)
 
 -- The bytes are replayed with the reply of the record.
 pub record_again :
-    {E : Type 0} (rules : ℕ) (setup : Setup) (drill : DrillPlain) (name : List ℕ)
-    (result : Result (Vec ℕ) E) →
+    {E : Type 0} (rules : ℕ) (setup : Setup) (drill : DrillPlain) (result : Result (Vec ℕ) E) →
     ((m : Match GameState) (first_hash : GameState → ℕ) (rules seed : ℕ) (columns : List Column)
     (n : ℕ) →
     replayed (rerun_of m first_hash) (replay_of m rules seed columns n)
     ≡ agreed_replayed m columns n) →
     IfOk result (λ bytes. Spells rules bytes.items (drill_replay rules setup drill)) →
-    IfOk result (λ bytes. replay_step name rules setup bytes.items
-    ≡ Ok (recorded_reply setup drill))
+    IfOk result (λ bytes. ReplaysDrill rules setup drill bytes.items)
 unfolding recorded_reply
-record_again rules setup drill name (Ok bytes) law spells =
+record_again rules setup drill (Ok bytes) law spells = λ name.
     let p = progress_of setup drill in
     ap (replies name setup)
     (spelled_read rules bytes.items (drill_replay rules setup drill) spells)
     ∙ ap replies_given
     (law (game_match setup drill) game_first_hash rules drill.seed p.columns p.ticked)
-record_again rules setup drill name (Err error) law spells = tt
+record_again rules setup drill (Err error) law spells = tt

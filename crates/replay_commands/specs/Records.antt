@@ -1,11 +1,11 @@
 -- The file in which a drill is recorded, and what it is when it is run again.
-use Rattle.std.specs.Prelude.{ℕ, List}
+use Rattle.std.specs.Prelude.{ℕ, List, Ok}
 use Rattle.command_answers.specs.Reply.{Reply}
 use Rattle.drill.specs.Record.{Progress, record_of}
 use Rattle.drill_words.specs.Drill.{DrillPlain}
 use Rattle.game_model.specs.Setup.{Setup}
 use Rattle.replay_commands.specs.Matches.{game_match}
-use Rattle.replay_commands.specs.Replays.{replayed_reply}
+use Rattle.replay_commands.specs.Replays.{replayed_reply, ReplaysAs}
 use Rattle.replay_file.specs.declared.replay.Replay.{Replay}
 use Rattle.replay_file.specs.ReplayBytes.{replay_bytes}
 use Rattle.replay_run.specs.RecordLaws.{agreed_replayed}
@@ -32,3 +32,8 @@ recorded_reply setup drill =
     replayed_reply
     (agreed_replayed (game_match setup drill) (progress_of setup drill).columns
     (progress_of setup drill).ticked)
+
+-- That is the reply where the file has these bytes.
+abbrev pub ReplaysDrill : (rules : ℕ) → Setup → DrillPlain → (bytes : List ℕ) → Type 0
+ReplaysDrill rules setup drill bytes =
+    ReplaysAs rules setup bytes (λ name. Ok (recorded_reply setup drill))

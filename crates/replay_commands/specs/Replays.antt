@@ -69,9 +69,15 @@ migrate_step name to rules setup bytes = do
   r ← read_step name (read_of rules bytes)
   Ok (migrate_reply setup to r)
 
--- `replay` answers of the written file, if there is one, what it answers of these bytes.
+-- Over these rules and this map `replay` answers this of a file with these bytes, whatever its name
+-- is.
+abbrev pub ReplaysAs :
+    (rules : ℕ) → Setup → (bytes : List ℕ) → (answer : List ℕ → Step Reply) → Type 0
+ReplaysAs rules setup bytes answer =
+    (name : List ℕ) → replay_step name rules setup bytes ≡ answer name
+
+-- It answers of the written file, if there is one, what it answers of these bytes.
 abbrev pub ReplaysAgain : (rules : ℕ) → Setup → (bytes : List ℕ) → Option FileWrite → Type 0
 ReplaysAgain rules setup bytes None = Unit {0}
 ReplaysAgain rules setup bytes (Some file) =
-    (name : List ℕ) →
-    replay_step name rules setup file.bytes ≡ replay_step name rules setup bytes
+    ReplaysAs rules setup file.bytes (λ name. replay_step name rules setup bytes)

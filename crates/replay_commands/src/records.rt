@@ -1,10 +1,9 @@
-ghost use Rattle.std.specs.Prelude.{◌≡◌, ℕ, List, Ok, IfOk};
+ghost use Rattle.std.specs.Prelude.{◌≡◌, IfOk};
 ghost use Rattle.drill.specs.Drilled.{IsLeftBy};
 ghost use Rattle.drill_words.specs.Drill.{plain_of};
 ghost use Rattle.game_model.specs.Setup.{Setup};
 ghost use Rattle.replay_commands.specs.Matches.{game_match};
-ghost use Rattle.replay_commands.specs.Records.{drill_record, recorded_reply};
-ghost use Rattle.replay_commands.specs.Replays.{replay_step};
+ghost use Rattle.replay_commands.specs.Records.{drill_record, ReplaysDrill};
 
 use base::NoMemory;
 use drill::{Drill, Drilled};
@@ -25,10 +24,9 @@ pub fn record_bytes(
     ensures record { (setup : Setup) →
         IsLeftBy (game_match setup (plain_of drill.now)) drill.now.events drilled.now →
         IfOk result (λ bytes. bytes.items ≡ drill_record rules setup (plain_of drill.now)) }
-    ensures again { (setup : Setup) (name : List ℕ) →
+    ensures again { (setup : Setup) →
         IsLeftBy (game_match setup (plain_of drill.now)) drill.now.events drilled.now →
-        IfOk result (λ bytes. replay_step name rules setup bytes.items
-        ≡ Ok (recorded_reply setup (plain_of drill.now))) }
+        IfOk result (λ bytes. ReplaysDrill rules setup (plain_of drill.now) bytes.items) }
 {
     a_record_gives_the_match::<Game>();
     record_of(alloc, rules, drill.seed, &drilled.server)

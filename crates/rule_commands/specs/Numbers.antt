@@ -1,16 +1,12 @@
 -- The number by which a replay, or a player, knows the rules and the map of its match.
-use Rattle.std.specs.Prelude.{ℕ, List, [], ◌∷◌, ◌++◌, Option, None, Some, Ok, unwrap_or}
+use Rattle.std.specs.Prelude.{ℕ, List, [], ◌∷◌, Option, None, Some, Ok, unwrap_or}
 use Rattle.base.specs.Steps.{◌>>=◌}
-use Rattle.sync_hash.specs.Fnv.{fnv_of}
 use Rattle.game_model.specs.Setup.{Setup}
+use Rattle.setup_files.specs.Reading.{rules_number}
 use Rattle.command_answers.specs.Contents.{Contents}
 use Rattle.command_answers.specs.Step.{Step}
 use Rattle.rule_commands.specs.RuleFiles.{yaml_step}
 use Rattle.rule_commands.specs.Setups.{setup_step}
-
--- The FNV-1a of the printed resolved rules, a zero byte, and the printed resolved map.
-unfoldable pub rules_number : (rules map : List ℕ) → ℕ
-rules_number rules map = fnv_of ((rules ++ 0 ∷ []) ++ map)
 
 -- The printed resolved map, of its content, which is empty where no map is named.
 abbrev pub printed_map : Option (List ℕ) → Option (List ℕ) → Step (List ℕ)

@@ -20,7 +20,7 @@ mod sample;
 mod setups;
 
 pub use check::check_text;
-pub use numbers::{read_numbered_maker, rules_number};
+pub use numbers::read_numbered_maker;
 pub use refusals::{line_stop, map_stop, merge_stop, name_at, rule_stop};
 pub use route_fault::{RouteFault, route_stop};
 pub use routes::route_text;

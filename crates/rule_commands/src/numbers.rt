@@ -5,34 +5,20 @@ ghost use Rattle.command_answers.specs.Stop.{ReturnsStep};
 ghost use Rattle.game_model.specs.ValidMap.{IsMapFor};
 ghost use Rattle.rule_traits.specs.ValidRules.{AreValidRules};
 ghost use Rattle.rule_commands.specs.Maps.{map_step, typed_rules};
-ghost use Rattle.rule_commands.specs.Numbers.{numbered_setup_step, printed_map, rules_number};
+ghost use Rattle.rule_commands.specs.Numbers.{numbered_setup_step, printed_map};
 ghost use Rattle.rule_commands.specs.RuleFiles.{yaml_step};
 ghost use Rattle.rule_commands.specs.Setups.{map_or_bare};
 
 use crate::rules::{map_forest, map_of_forest, resolve_rules, type_forest};
-use base::NoMemory;
 use command_answers::{GivenFiles, Stop};
 use command_words::MAX_FILES;
 use game_model::Map;
 use rule_traits::{Rules, SkippedList};
+use setup_files::rules_number;
 use std::alloc::Global;
 use std::rc::Rc;
-use sync_hash::fnv;
 use tick_core::{GameMaker, bare_map};
 use yaml_lines::print;
-
-/// The number of the rules and the map of a match: the FNV-1a of the printed resolved rules, a zero
-/// byte, and the printed resolved map. Without rules, or without a map, its part is empty. Out of
-/// memory is the only error.
-#[tactic(auto, unfolding(crate::specs::Numbers::rules_number))]
-pub fn rules_number(alloc: Global, rules: &[u8], map: &[u8]) -> Result<u64, NoMemory>
-    ensures { IfOk result (λ number. number ≡ rules_number rules.now map.now) }
-{
-    let mut bytes = rules.to_vec(alloc)?;
-    bytes.push(0)?;
-    bytes.extend_from_slice(map)?;
-    Ok(fnv(&bytes))
-}
 
 /// The kinds of rule files, what was passed over in them, and their resolved forest as text.
 #[tactic(auto, unfolding(crate::specs::Maps::typed_rules))]

@@ -1,4 +1,4 @@
-use Rattle.std.proofs.Common.{refl, inl, inr}
+use Rattle.std.proofs.Common.{refl, inl, inr, arith}
 use Rattle.drill_words.specs.Drill.{plain_of}
 use Rattle.command_answers.specs.WritingLemmas.{writes_outcome}
 use Rattle.match_commands.specs.Drills.{drill_report, recording_reply}
@@ -22,3 +22,13 @@ returns-in-Err-Write-clause-records g c =
 pub returns-in-Err-NoMemory-clause-records : goal.returns-in-Err-NoMemory-clause-records
 unfolding drill_report
 returns-in-Err-NoMemory-clause-records g c = inr (refl, c.in-Err-NoMemory.ensures.writes.prefix, refl)
+
+-- The record is replayed as it was recorded.
+pub returns-in-Ok-clause-replays : goal.returns-in-Ok-clause-replays
+returns-in-Ok-clause-replays g c = c.write_record.ensures.replays c.args.maker.now c.in-Ok.ensures.leaves
+
+pub returns-in-Err-Write-clause-replays : goal.returns-in-Err-Write-clause-replays
+returns-in-Err-Write-clause-replays g c = λ done. absurd (omega (arith, done))
+
+pub returns-in-Err-NoMemory-clause-replays : goal.returns-in-Err-NoMemory-clause-replays
+returns-in-Err-NoMemory-clause-replays g c = λ done. absurd (omega (arith, done))

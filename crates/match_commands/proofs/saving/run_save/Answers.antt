@@ -2,14 +2,16 @@ use Rattle.std.proofs.Common.{Some, sym, ap, map, arith}
 use Rattle.command_words.specs.RequestPlain.{Save, plain_match}
 use Rattle.command_answers.specs.Given.{replay_contents}
 use Rattle.command_answers.specs.WantedFiles.{rules_and_map, with_replay}
+use Rattle.match_commands.specs.KeptMatches.{KeepsWorld}
 use Rattle.match_commands.specs.Saves.{saved_step}
 use Rattle.match_commands.proofs.AnswerLemmas.{answer_printed, saved_fits}
 use Rattle.match_commands.proofs.FilesLemmas.{all_given, files_stopped}
+use Rattle.match_commands.proofs.KeptLemmas.{answer_kept, kept_over, stopped_short}
 use Rattle.match_commands.proofs.saving.run_save.Goals as goal
 
 -- The files were read.
-pub returns-in-Ok : goal.returns-in-Ok
-returns-in-Ok g c =
+pub returns-in-Ok-clause-runs : goal.returns-in-Ok-clause-runs
+returns-in-Ok-clause-runs g c =
     let query = plain_match c.args.query.now in
     let contents = replay_contents c.in-Ok.given in
     let d = g.D.Disk.state c.args.disk.now in
@@ -21,14 +23,28 @@ returns-in-Ok g c =
     (ap (λ names. with_replay query.file (rules_and_map names query.map_file)) (sym c.as_slice-names.ensures))
     (omega (arith, c.in-Ok.ensures.later, c.print_answer.ensures.disk)) c.print_answer.ensures.later c.in-Ok.ensures.told c.in-Ok.ensures.untold
     (answer_printed (Some c.args.to.now) c.answer_save-answer.result (saved_step query c.args.frames c.args.to.now contents) c.print_answer.result d d1 d' s s' c.in-Ok.ensures.files c.in-Ok.ensures.later
-    (saved_fits query c.args.frames c.args.to.now contents) c.answer_save-answer.ensures c.print_answer.ensures.answers)
+    (saved_fits query c.args.frames c.args.to.now contents) c.answer_save-answer.ensures.reply c.print_answer.ensures.answers)
 
 -- One of them was not.
-pub returns-in-Err : goal.returns-in-Err
-returns-in-Err g c =
+pub returns-in-Err-clause-runs : goal.returns-in-Err-clause-runs
+returns-in-Err-clause-runs g c =
     let query = plain_match c.args.query.now in
     files_stopped (Save query c.args.frames c.args.to.now) (with_replay query.file (rules_and_map (map (λ name. name.now) c.as_slice-names.result.now) query.map_file)) c.in-Err.stop c.print_stop.result
     (g.D.Disk.state c.args.disk.now) (g.D.Disk.state c.read_played_files.new.disk) (g.K.Sink.state c.args.out.now) (g.K.Sink.state c.print_stop.new.out)
     (ap (λ names. with_replay query.file (rules_and_map names query.map_file)) (sym c.as_slice-names.ensures))
     c.in-Err.ensures.files c.in-Err.ensures.later c.print_stop.ensures.later c.in-Err.ensures.told c.in-Err.ensures.untold
     c.print_stop.ensures.prints
+
+-- The file that was written keeps its match.
+pub returns-in-Ok-clause-keeps : goal.returns-in-Ok-clause-keeps
+returns-in-Ok-clause-keeps g c = λ done.
+    let query = plain_match c.args.query.now in
+    let contents = replay_contents c.in-Ok.given in
+    kept_over (KeepsWorld query c.args.frames) (Save query c.args.frames c.args.to.now) (with_replay query.file (rules_and_map (map (λ name. name.now) c.as_slice-names.result.now) query.map_file)) contents
+    (g.D.Disk.state c.args.disk.now).files (ap (λ names. with_replay query.file (rules_and_map names query.map_file)) (sym c.as_slice-names.ensures)) c.in-Ok.ensures.told
+    (answer_kept (KeepsWorld query c.args.frames contents) c.answer_save-answer.result (saved_step query c.args.frames c.args.to.now contents) c.print_answer.result
+    (g.D.Disk.state c.read_played_files.new.disk) (g.D.Disk.state c.print_answer.new.disk) (g.K.Sink.state c.args.out.now) (g.K.Sink.state c.print_answer.new.out)
+    c.answer_save-answer.ensures.reply c.answer_save-answer.ensures.keeps c.print_answer.ensures.answers done)
+
+pub returns-in-Err-clause-keeps : goal.returns-in-Err-clause-keeps
+returns-in-Err-clause-keeps g c = λ done. absurd (stopped_short _ _ _ _ c.print_stop.ensures.prints done)

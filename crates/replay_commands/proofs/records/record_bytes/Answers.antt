@@ -9,7 +9,7 @@ returns-clause-record c = λ setup is.
     (record_written c.args.rules setup drill c.args.drilled.now c.record_of.result c.record_of.ensures is)
 
 pub returns-clause-again : goal.returns-clause-again
-returns-clause-again c = λ setup name is.
+returns-clause-again c = λ setup is.
     let drill = plain_of c.args.drill.now in
-    record_again c.args.rules setup drill name c.record_of.result c.a_record_gives_the_match.ensures
+    record_again c.args.rules setup drill c.record_of.result c.a_record_gives_the_match.ensures
     (record_written c.args.rules setup drill c.args.drilled.now c.record_of.result c.record_of.ensures is)
