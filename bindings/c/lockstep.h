@@ -7,9 +7,8 @@
  * east, rows to the south. Frames and clients are counted from 0. Owner 255 is nobody.
  *
  * Codes. A call returns one of the codes below. From LOCKSTEP_BAD_BYTES on nothing has changed but
- * `at` and `needed`. `told` is written only where a call says so. Of several causes the first
- * decides: WRONG_OBJECT, BAD_ARGUMENT, and then what
- * the call names.
+ * `at`, `needed`, `width` and `route`. `told` is written only where a call says so. Of several
+ * causes the first decides: WRONG_OBJECT, BAD_ARGUMENT, and then what the call names.
  *
  * Ownership. The caller owns an object's 16 bytes and all arrays, the library what the object
  * holds, until lockstep_free. A call keeps no pointer. The pointers of one call must not overlap,
@@ -67,6 +66,7 @@ enum {
 #define LOCKSTEP_MAX_CLIENTS 16u
 #define LOCKSTEP_MAX_ORDERS 16u     /* of one client in one frame */
 #define LOCKSTEP_MAX_ACTORS 2048u
+#define LOCKSTEP_MAX_ITEMS 24u      /* that one actor is to do */
 #define LOCKSTEP_NOBODY 255u
 
 /* A pointer for no places. */
@@ -147,6 +147,15 @@ typedef struct {
   uint32_t builds; /* how many */
 } lockstep_actor;
 
+/* One thing that an actor is to do; 0 for each number that it has not. */
+typedef struct {
+  uint32_t what;  /* 1 move, 2 attack, 3 harvest, 4 deliver, 5 build */
+  uint32_t x, y;  /* the cell to go to */
+  uint32_t id;    /* of the actor to attack; of a build the kind */
+  uint32_t turns; /* of the unit of ore at work those so far, of a build those left */
+  uint32_t waits; /* steps in a row at which the next cell was occupied */
+} lockstep_item;
+
 /* Traits, as bits. */
 enum {
   LOCKSTEP_HEALTH = 1,
@@ -215,6 +224,11 @@ uint32_t lockstep_setup_kind(lockstep_object *setup, uint32_t kind, lockstep_kin
 /* A kind's name in UTF-8, without an end byte. NONE: there are fewer kinds. */
 uint32_t lockstep_setup_kind_name(lockstep_object *setup, uint32_t kind, uint8_t *out,
                                   size_t places, size_t *needed);
+
+/* The ground of each cell, row by row: 0 clear, 1 road, 2 rough, 3 water, 4 rock. `width`, the
+ * columns, is written as `needed` is. WRONG_OBJECT also before it was read. */
+uint32_t lockstep_setup_terrain(lockstep_object *setup, uint32_t *width, uint8_t *out,
+                                size_t places, size_t *needed);
 
 /* ---- Worlds ---- */
 
@@ -314,8 +328,35 @@ uint32_t lockstep_read_head(lockstep_object *any, lockstep_head *out);
 uint32_t lockstep_read_actors(lockstep_object *any, lockstep_actor *out, size_t places,
                               size_t *needed);
 
+/* What the actor with an id is to do, at most 24: its activities, the one at work first, then its
+ * builds. NONE: there is no such actor. */
+uint32_t lockstep_read_items(lockstep_object *any, uint32_t id, lockstep_item *out, size_t places,
+                             size_t *needed);
+
 /* The ore of each cell, row by row, 0 to 90. */
 uint32_t lockstep_read_ore(lockstep_object *any, uint8_t *out, size_t places, size_t *needed);
+
+/* ---- Ways and bots: in a world, a peer or a server ---- */
+
+typedef struct {
+  uint8_t x, y;
+} lockstep_cell;
+
+typedef struct {
+  uint32_t cost; /* 5 times what a step's cell costs, aslant 7 times, of all steps */
+  size_t count;  /* cells, from the first to the last */
+} lockstep_route;
+
+/* The way of least cost that an actor of a kind would begin now: over ground and buildings, not
+ * around other units. Where it has no place, at NO_ROOM, `route` is written. NONE: no way, or twice
+ * the same cell. BAD_ARGUMENT: no such kind, or a cell off the map. The world stays as it is. */
+uint32_t lockstep_find_route(lockstep_object *any, uint32_t kind, uint32_t x, uint32_t y,
+                             uint32_t to_x, uint32_t to_y, lockstep_cell *out, size_t places,
+                             lockstep_route *route);
+
+/* The play for the next frame of a client that is a bot, by the world alone. Whoever has the same
+ * world gets the same play. BAD_ARGUMENT: no such client. */
+uint32_t lockstep_bot(lockstep_object *any, uint32_t client, lockstep_play *out);
 
 /* ---- Beside the library: inline, in C ---- */
 

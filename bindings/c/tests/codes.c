@@ -179,6 +179,107 @@ static void try_steps(lockstep_object *setup) {
   let_go(&world);
 }
 
+static void try_ground(lockstep_object *setup) {
+  lockstep_object none = LOCKSTEP_EMPTY;
+  uint8_t cells[257];
+  uint32_t width = 9;
+  size_t needed = 9;
+  WANT(LOCKSTEP_WRONG_OBJECT, lockstep_setup_terrain(&none, &width, cells, 256, &needed));
+  EQUAL(width, 9);
+  memset(cells, 0x5a, sizeof cells);
+  WANT(LOCKSTEP_NO_ROOM, lockstep_setup_terrain(setup, &width, cells, 255, &needed));
+  EQUAL(width, 16);
+  EQUAL(needed, 256);
+  EQUAL(cells[0], 0x5a);
+  WANT(LOCKSTEP_OK, lockstep_setup_terrain(setup, &width, cells, 257, &needed));
+  EQUAL(cells[0], 0);
+  EQUAL(cells[256], 0x5a);
+}
+
+/* What the actors of a world are to do after an order of each kind. */
+static void try_items(lockstep_object *setup) {
+  lockstep_object world = LOCKSTEP_EMPTY;
+  lockstep_item items[LOCKSTEP_MAX_ITEMS];
+  lockstep_play play = LOCKSTEP_PLAY;
+  size_t needed = 9;
+  WANT(LOCKSTEP_WRONG_OBJECT, lockstep_read_items(setup, 4, items, 1, &needed));
+  MUST(lockstep_world_create(&world, setup, 1, 1));
+  WANT(LOCKSTEP_NONE, lockstep_read_items(&world, 0, items, 1, &needed));
+  WANT(LOCKSTEP_NONE, lockstep_read_items(&world, 17, items, 1, &needed));
+  EQUAL(needed, 9);
+  WANT(LOCKSTEP_OK, lockstep_read_items(&world, 4, LOCKSTEP_NIL(lockstep_item), 0, &needed));
+  EQUAL(needed, 0);
+  lockstep_move(&play, 4, 8, 5, false);
+  lockstep_attack(&play, 4, 9, true);
+  MUST(lockstep_world_step(&world, play.bytes, play.len));
+  memset(items, 0x5a, sizeof items);
+  WANT(LOCKSTEP_NO_ROOM, lockstep_read_items(&world, 4, items, 1, &needed));
+  EQUAL(needed, 2);
+  EQUAL(items[0].what, 0x5a5a5a5a);
+  WANT(LOCKSTEP_OK, lockstep_read_items(&world, 4, items, 2, &needed));
+  EQUAL(items[0].what, 1);
+  EQUAL(items[0].x, 8);
+  EQUAL(items[0].y, 5);
+  EQUAL(items[1].what, 2);
+  EQUAL(items[1].id, 9);
+  EQUAL(items[2].what, 0x5a5a5a5a);
+  let_go(&world);
+}
+
+/* Ways of the sample's jeep, kind 0, and of a building, kind 2. */
+static void try_ways(lockstep_object *setup) {
+  static lockstep_cell cells[256];
+  lockstep_object world = LOCKSTEP_EMPTY;
+  lockstep_route route = {9, 9};
+  uint64_t before;
+  WANT(LOCKSTEP_WRONG_OBJECT, lockstep_find_route(setup, 0, 1, 3, 8, 5, cells, 256, &route));
+  MUST(lockstep_world_create(&world, setup, 1, 2));
+  before = hash_of(&world);
+  WANT(LOCKSTEP_BAD_ARGUMENT, lockstep_find_route(&world, 4, 1, 3, 8, 5, cells, 256, &route));
+  WANT(LOCKSTEP_BAD_ARGUMENT, lockstep_find_route(&world, 65536, 1, 3, 8, 5, cells, 256, &route));
+  WANT(LOCKSTEP_BAD_ARGUMENT, lockstep_find_route(&world, 0, 16, 3, 8, 5, cells, 256, &route));
+  WANT(LOCKSTEP_BAD_ARGUMENT, lockstep_find_route(&world, 0, 1, 256, 8, 5, cells, 256, &route));
+  WANT(LOCKSTEP_BAD_ARGUMENT, lockstep_find_route(&world, 0, 1, 3, 264, 5, cells, 256, &route));
+  WANT(LOCKSTEP_BAD_ARGUMENT, lockstep_find_route(&world, 0, 1, 3, 8, 16, cells, 256, &route));
+  WANT(LOCKSTEP_NONE, lockstep_find_route(&world, 0, 1, 3, 1, 3, cells, 256, &route));
+  WANT(LOCKSTEP_NONE, lockstep_find_route(&world, 2, 1, 3, 8, 5, cells, 256, &route));
+  WANT(LOCKSTEP_NONE, lockstep_find_route(&world, 0, 1, 3, 3, 7, cells, 256, &route));
+  EQUAL(route.cost, 9);
+  EQUAL(route.count, 9);
+  /* Two steps aslant for 14 each, five straight ones for 10 each. */
+  memset(cells, 0x5a, sizeof cells);
+  WANT(LOCKSTEP_NO_ROOM, lockstep_find_route(&world, 0, 1, 3, 8, 5, cells, 7, &route));
+  EQUAL(route.cost, 78);
+  EQUAL(route.count, 8);
+  EQUAL(cells[0].x, 0x5a);
+  WANT(LOCKSTEP_OK, lockstep_find_route(&world, 0, 1, 3, 8, 5, cells, 256, &route));
+  EQUAL(cells[0].x, 1);
+  EQUAL(cells[0].y, 3);
+  EQUAL(cells[7].x, 8);
+  EQUAL(cells[7].y, 5);
+  EQUAL(cells[8].x, 0x5a);
+  EQUAL(hash_of(&world), before);
+  let_go(&world);
+}
+
+/* What a bot plays: its factory produces, its harvester harvests, its jeep attacks. */
+static void try_bot(lockstep_object *setup) {
+  lockstep_object world = LOCKSTEP_EMPTY;
+  lockstep_play play = LOCKSTEP_PLAY, orders = LOCKSTEP_PLAY;
+  WANT(LOCKSTEP_WRONG_OBJECT, lockstep_bot(setup, 0, &play));
+  MUST(lockstep_world_create(&world, setup, 1, 2));
+  WANT(LOCKSTEP_BAD_ARGUMENT, lockstep_bot(&world, 2, &play));
+  WANT(LOCKSTEP_BAD_ARGUMENT, lockstep_bot(&world, 256, &play));
+  EQUAL(play.len, 2);
+  WANT(LOCKSTEP_OK, lockstep_bot(&world, 0, &play));
+  lockstep_produce(&orders, 1, 0);
+  lockstep_harvest(&orders, 3, 5, 1, false);
+  lockstep_attack(&orders, 4, 7, false);
+  EQUAL(play.len, orders.len);
+  EQUAL(memcmp(play.bytes, orders.bytes, orders.len), 0);
+  let_go(&world);
+}
+
 static void try_reading(lockstep_object *setup) {
   static lockstep_actor actors[17];
   lockstep_object world = LOCKSTEP_EMPTY;
@@ -426,6 +527,10 @@ int main(int argc, char **argv) {
   try_fault();
   setup = sample();
   try_kinds(&setup);
+  try_ground(&setup);
+  try_items(&setup);
+  try_ways(&setup);
+  try_bot(&setup);
   try_making(&setup);
   try_steps(&setup);
   try_reading(&setup);

@@ -3,15 +3,14 @@
  * usage: engine [--refuse] COMMAND ..
  *
  *   drill --script FILE [--record FILE] [--map FILE] [RULES]
- *   local --script FILE [--map FILE] [RULES]
+ *   local --script FILE [--bots N] [--map FILE] [RULES]
  *   replay --file FILE [--map FILE] [RULES]
  *   worlds --file FILE [--from N] [--to N] [--every N] [--map FILE] [RULES]
  *   check [--map FILE] RULES
+ *   route --map FILE --kind NAME --from X,Y --to X,Y RULES
  *
  * Files other than rules and map have to be ones that the program accepts, replays of its version.
- * `drill` records nothing.
- * `check` prints nothing of what is skipped. `worlds` prints no kinds and no ground, and of an
- * actor's activities and builds a line `has` with their numbers and that of the first activity.
+ * `drill` records nothing, and `check` prints nothing of what is skipped.
  *
  * --refuse gives the command's answer once as it is, and then once for each allocation of the
  * library, which is refused: each time the call is made again, and the answer has to be the same.
@@ -80,6 +79,28 @@ void print_summary(lockstep_object *any, FILE *out) {
   fputc('\n', out);
 }
 
+/* What an actor is to do. */
+static void print_items(lockstep_object *any, const lockstep_actor *of, FILE *out) {
+  lockstep_item items[LOCKSTEP_MAX_ITEMS];
+  size_t count = 0;
+  if (of->acts + of->builds > 0 &&
+      ASK(lockstep_read_items(any, of->id, items, of->acts + of->builds - 1, &count)) !=
+          LOCKSTEP_NO_ROOM)
+    die("read_items: code %u where there is no room", last_code());
+  MUST(lockstep_read_items(any, of->id, items, LOCKSTEP_MAX_ITEMS, &count));
+  if (count != of->acts + of->builds || of->doing != (of->acts ? items[0].what : 0))
+    die("actor %u: other counts", of->id);
+  for (size_t i = 0; i < count; i++) {
+    const lockstep_item *it = &items[i];
+    if (it->what == 1) fprintf(out, "act move %u,%u waits %u\n", it->x, it->y, it->waits);
+    else if (it->what == 2) fprintf(out, "act attack %u waits %u\n", it->id, it->waits);
+    else if (it->what == 5) fprintf(out, "build kind %u left %u\n", it->id, it->turns);
+    else
+      fprintf(out, "act %s %u,%u timer %u waits %u\n", it->what == 3 ? "harvest" : "deliver", it->x,
+              it->y, it->turns, it->waits);
+  }
+}
+
 static void print_actors(lockstep_object *any, uint32_t count, FILE *out) {
   static lockstep_actor actors[LOCKSTEP_MAX_ACTORS];
   size_t needed = 0;
@@ -94,7 +115,7 @@ static void print_actors(lockstep_object *any, uint32_t count, FILE *out) {
     if (a->dir == 8) fprintf(out, "none");
     else fprintf(out, "%u:%u", a->dir, a->progress);
     fprintf(out, " health %u load %u reload %u\n", a->health, a->load, a->reload);
-    fprintf(out, "has acts %u doing %u builds %u\n", a->acts, a->doing, a->builds);
+    print_items(any, a, out);
   }
 }
 
@@ -150,6 +171,8 @@ static request read_request(int count, char **list) {
     else if (!strcmp(option, "--to")) it.to = value;
     else if (!strcmp(option, "--every")) it.every = number_in(value);
     else if (!strcmp(option, "--record")) it.record = value;
+    else if (!strcmp(option, "--kind")) it.kind = value;
+    else if (!strcmp(option, "--bots")) it.bots = number_in(value);
     else die("no option %s", option);
     if (value != list[i]) value[-1] = '=';
   }
@@ -173,13 +196,15 @@ static void add_play(column *to, lockstep_play play) {
   to->plays[to->count++] = play;
 }
 
-/* Steps a world by the next frame of the scripts. */
-static void step_by(lockstep_object *world, column *columns, uint32_t clients, uint32_t frame) {
+/* Steps a world by the next frame of the scripts, and then of as many bots. */
+static void step_by(lockstep_object *world, column *columns, uint32_t clients, uint32_t bots,
+                    uint32_t frame) {
   uint8_t bytes[16 * 164];
   size_t len = 0;
-  for (uint32_t c = 0; c < clients; c++) {
+  for (uint32_t c = 0; c < clients + bots; c++) {
     lockstep_play play = {1, {0}};
-    if (frame < columns[c].count) play = columns[c].plays[frame];
+    if (c >= clients) MUST(lockstep_bot(world, c, &play));
+    else if (frame < columns[c].count) play = columns[c].plays[frame];
     memcpy(bytes + len, play.bytes, play.len);
     len += play.len;
   }
@@ -202,9 +227,10 @@ static int answer_local(request *it, lockstep_object *setup, FILE *out) {
     add_play(of, read_orders(&line));
     if (of->count > longest) longest = of->count;
   }
-  MUST(lockstep_world_create(&world, setup, seed, clients));
-  for (uint32_t n = 0; n < longest; n++) step_by(&world, columns, clients, n);
-  for (uint32_t c = 0; c < clients; c++) fprintf(out, "column %u %u left\n", c, columns[c].count);
+  MUST(lockstep_world_create(&world, setup, seed, clients + it->bots));
+  for (uint32_t n = 0; n < longest; n++) step_by(&world, columns, clients, it->bots, n);
+  for (uint32_t c = 0; c < clients + it->bots; c++)
+    fprintf(out, "column %u %u left\n", c, c < clients ? columns[c].count : longest);
   fprintf(out, "local frames %u", longest);
   print_summary(&world, out);
   fprintf(out, "end\n");
@@ -258,12 +284,35 @@ static int answer_replay(request *it, lockstep_object *setup, FILE *out) {
   return differs ? DIFFERENT : 0;
 }
 
+/* The kinds of a setup, and its ground. */
+static void print_setup(lockstep_object *setup, FILE *out) {
+  static uint8_t cells[128 * 128];
+  lockstep_kind kind;
+  uint32_t width = 0;
+  size_t count = 0;
+  for (uint32_t k = 0; ASK(lockstep_setup_kind(setup, k, &kind)) == LOCKSTEP_OK; k++) {
+    uint8_t name[4096];
+    size_t len = 0;
+    MUST(lockstep_setup_kind_name(setup, k, name, sizeof name, &len));
+    fprintf(out, "kind %u health %u speed %u building %d name %.*s\n", k, kind.hp, kind.speed,
+            (kind.traits & LOCKSTEP_BUILDING) != 0, (int)len, (const char *)name);
+  }
+  MUST(lockstep_setup_terrain(setup, &width, cells, sizeof cells, &count));
+  fprintf(out, "map %u %zu\n", width, count / width);
+  for (size_t at = 0; at < count; at++) {
+    if (at % width == 0) fputs("row ", out);
+    fputc(".=r~X"[cells[at]], out);
+    if (at % width == width - 1) fputc('\n', out);
+  }
+}
+
 static int answer_worlds(request *it, lockstep_object *setup, FILE *out) {
   replay file = open_replay(it->file);
   lockstep_object world = open_world(&file, setup);
   uint32_t from = it->from ? number_in(it->from) : 0, count = 0, frame = 0;
   uint32_t to = it->to ? number_in(it->to) : UINT32_MAX;
   uint8_t tag;
+  print_setup(setup, out);
   do {
     frame = head_of(&world).frames;
     if (frame >= from && frame <= to && (frame - from) % it->every == 0) {
@@ -310,6 +359,52 @@ static int answer_check(request *it, lockstep_object *setup, FILE *out) {
   return 0;
 }
 
+/* ---- route ---- */
+
+/* The number of the kind with this name. */
+static uint32_t kind_named(lockstep_object *setup, const char *name) {
+  uint8_t held[4096];
+  size_t len = 0;
+  for (uint32_t k = 0; ASK(lockstep_setup_kind_name(setup, k, held, sizeof held, &len)) == LOCKSTEP_OK;
+       k++) {
+    if (len == strlen(name) && !memcmp(held, name, len)) return k;
+  }
+  die("no kind %s", name);
+}
+
+static lockstep_cell cell_of(const char *word) {
+  lockstep_cell cell;
+  unsigned x, y;
+  if (sscanf(word, " %u , %u", &x, &y) != 2) die("no cell: %s", word);
+  cell.x = (uint8_t)x;
+  cell.y = (uint8_t)y;
+  return cell;
+}
+
+static int answer_route(request *it, lockstep_object *setup, FILE *out) {
+  static lockstep_cell cells[128 * 128];
+  lockstep_object world = LOCKSTEP_EMPTY;
+  lockstep_cell from = cell_of(it->from), to = cell_of(it->to);
+  lockstep_route route = {0, 0};
+  uint32_t kind = kind_named(setup, it->kind), code;
+  uint64_t before;
+  MUST(lockstep_world_create(&world, setup, 1, 1));
+  before = head_of(&world).hash;
+  code = ASK(lockstep_find_route(&world, kind, from.x, from.y, to.x, to.y, cells, 1, &route));
+  if (code != LOCKSTEP_NONE) {
+    if (code != LOCKSTEP_NO_ROOM) die("find_route: code %u where there is no room", code);
+    MUST(lockstep_find_route(&world, kind, from.x, from.y, to.x, to.y, cells, route.count, &route));
+    fprintf(out, "route %u", route.cost);
+    for (size_t i = 0; i < route.count; i++) fprintf(out, " %u,%u", cells[i].x, cells[i].y);
+    fputc('\n', out);
+  } else {
+    fprintf(out, "route none\n");
+  }
+  if (head_of(&world).hash != before) die("find_route changes the world");
+  let_go(&world);
+  return 0;
+}
+
 /* ---- The commands ---- */
 
 typedef int answers(request *it, lockstep_object *setup, FILE *out);
@@ -321,7 +416,8 @@ static const struct {
                 {"local", answer_local},
                 {"replay", answer_replay},
                 {"worlds", answer_worlds},
-                {"check", answer_check}};
+                {"check", answer_check},
+                {"route", answer_route}};
 
 static int answer(int count, char **list, FILE *out) {
   request it = read_request(count - 1, list + 1);

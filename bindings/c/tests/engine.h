@@ -39,8 +39,8 @@ void print_summary(lockstep_object *any, FILE *out);
 #define MOST_RULES 64
 
 typedef struct {
-  const char *map, *script, *file, *from, *to, *record;
-  uint32_t every;
+  const char *map, *script, *file, *from, *to, *record, *kind;
+  uint32_t every, bots;
   char *rules[MOST_RULES];
   int count;
 } request;

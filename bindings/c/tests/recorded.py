@@ -1,8 +1,8 @@
 """Recorded command lines, answered through the library.
 
 The command lines are those of crates/case_runs/data whose commands `engine` has. Left out are those that the program
-refuses for another reason than rules and maps, replays of the first version, bots, and those that need devices of the
-tests: what decides there is not in the library.
+refuses for another reason than rules and maps, replays of the first version, and those that need devices of the tests:
+what decides there is not in the library.
 """
 import importlib.machinery, importlib.util, os, subprocess, tempfile
 from concurrent.futures import ThreadPoolExecutor
@@ -10,12 +10,10 @@ from concurrent.futures import ThreadPoolExecutor
 HERE = os.path.dirname(os.path.abspath(__file__))
 TOP = os.path.dirname(os.path.dirname(os.path.dirname(HERE)))
 
-COMMANDS = ('drill', 'local', 'replay', 'worlds', 'check')
+COMMANDS = ('drill', 'local', 'replay', 'worlds', 'check', 'route')
 CAUSES = {'NotUtf8', 'BadIndent', 'TooDeep', 'LineTooLong', 'TooManyLines', 'NoParent', 'Cycle', 'NothingToRemove',
           'TooLarge', 'BadValue', 'OutOfRange', 'MissingField', 'UnknownKindName', 'TooManyKinds', 'BadField', 'BadRow',
           'UnknownTerrain', 'UnknownKind', 'CellTaken', 'BadOwner', 'TooManyActors'}
-# The activities, by the first numbers of which `read_actors` names the first one.
-ACTIVITIES = ('none', 'move', 'attack', 'harvest', 'deliver')
 PATIENCE = 120
 
 
@@ -29,7 +27,7 @@ def load(path, name):
 
 def is_within(case):
     """Whether what decides the answer is in the library."""
-    if not case.words or case.words[0] not in COMMANDS or case.is_devised or any(it.startswith('--bots') for it in case.words):
+    if not case.words or case.words[0] not in COMMANDS or case.is_devised:
         return False
     if len(case.endings) != 1 or case.endings[0][0] not in (0, 3, 7):
         return False
@@ -41,28 +39,11 @@ def is_within(case):
     return words[-1].decode() in CAUSES
 
 
-def with_counts(lines):
-    """The lines of `worlds`, of which those of an actor's activities and builds are counted after its own line."""
-    at = 0
-    while at < len(lines):
-        yield lines[at]
-        at += 1
-        if lines[at - 1].startswith(b'actor '):
-            begin = at
-            while lines[at].startswith((b'act ', b'build ')):
-                at += 1
-            acts = [it.split()[1].decode() for it in lines[begin:at] if it.startswith(b'act ')]
-            doing = ACTIVITIES.index((acts or ['none'])[0])
-            yield b'has acts %d doing %d builds %d\n' % (len(acts), doing, at - begin - len(acts))
-
-
 def as_engine(command, text):
     """What the engine prints where the program prints a text."""
     lines = text.splitlines(keepends=True)
     if command == 'check':
         lines = [it for it in lines if not it.startswith(b'skipped ')]
-    if command == 'worlds':
-        lines = with_counts([it for it in lines if not it.startswith((b'kind ', b'map ', b'row '))])
     return b''.join(lines)
 
 

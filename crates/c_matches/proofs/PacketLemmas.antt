@@ -5,7 +5,10 @@ use Rattle.wire_bytes.specs.Field.{field_bytes}
 use Rattle.wire_bytes.specs.FieldLemmas.{field_length}
 use Rattle.game_orders.specs.declared.entry.Entry.TheVariants.{Play, Leave}
 use Rattle.game_orders.specs.OrderBytes.{orders_bytes}
+use Rattle.game_orders.specs.declared.order.Order.{Order}
+use Rattle.game_orders.specs.declared.limits.TheConstants.{MAX_ORDERS}
 use Rattle.game_orders.specs.OrdersLemmas.{orders_are_short}
+use Rattle.replay_file.specs.PartBytes.{entry_bytes}
 use Rattle.order_packets.specs.declared.down.Down.{Down}
 use Rattle.order_packets.specs.declared.down.Down.TheVariants.{Welcome, Refused, Entry}
 use Rattle.order_packets.specs.declared.up.Up.{Up}
@@ -84,6 +87,11 @@ short_down_payload (Entry client frame Leave) fits =
 -- A packet to a client has room.
 pub short_down : (packet : Down) → FitsDown packet → length (down_bytes packet) ≤ 260
 short_down packet fits = short_framed (down_payload packet) (short_down_payload packet fits)
+
+-- A play has room.
+pub short_play : (orders : List Order) → length orders ≤ MAX_ORDERS → length (entry_bytes (Play orders)) ≤ 164
+short_play orders few =
+    omega (arith, length-append (field_bytes 1 1) (orders_bytes orders), field_length 1 1, orders_are_short orders few)
 
 nothing_left : {A : Type 0} (xs : List A) (n : ℕ) → n ≡ length xs → drop n xs ≡ []
 nothing_left [] zero all = refl

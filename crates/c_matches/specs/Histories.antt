@@ -1,17 +1,22 @@
 -- What becomes of a peer, and of a server, by calls one after the other.
-use Rattle.std.specs.Prelude.{◌≡◌, ℕ, List, [], ◌∷◌, Some, length}
+use Rattle.std.specs.Prelude.{◌≡◌, ℕ, zero, suc, ◌<◌, ◌≤◌, List, [], ◌∷◌, Some, length}
 use Rattle.std.specs.List.{AllByRecursion}
 use Rattle.game_orders.specs.declared.entry.Entry as entries
+use Rattle.game_orders.specs.declared.limits.TheConstants.{MAX_FRAMES}
 use Rattle.frame_core.specs.Column.{Column, entry_at, column_of}
 use Rattle.frame_core.specs.Match.{Match}
+use Rattle.frame_core.specs.Ready.{frame_at}
 use Rattle.order_packets.specs.declared.down.Down.TheVariants.{Entry}
 use Rattle.peer_core.specs.Faithful.{IsFaithful}
 use Rattle.peer_core.specs.Peer.{ticked_peer}
-use Rattle.server_core.specs.Served.{IsServed}
+use Rattle.replay_file.specs.PartBytes.{FitsEntry, entries_bytes}
+use Rattle.server_core.specs.Served.{IsServed, marks_by}
 use Rattle.server_core.specs.Server.{after_tick}
 use Rattle.setup_files.specs.declared.making.Made.{Made}
 use Rattle.tick_core.specs.Game.{GameState, game_start, game_after, game_hash}
 use Rattle.tick_core.specs.Game.{game_summary}
+use Rattle.c_objects.specs.declared.code.TheConstants.{OK}
+use Rattle.c_worlds.specs.Worlds.{game_code, game_stepped}
 use Rattle.c_matches.specs.declared.terms.Terms.{Terms}
 use Rattle.c_matches.specs.Packets.{down_in, orders_in, up_in}
 use Rattle.c_matches.specs.Peers.{GamePeer, opening_peer, down_delivered, sealed}
@@ -82,3 +87,36 @@ abbrev pub ServersAgree : Type 0
 ServersAgree =
     (made : Made) (clients seed lag : ℕ) (calls : List ServerCall) →
     IsServed (match_of made clients seed lag) (server_after_all calls (fresh_of made clients seed))
+
+-- The bytes of an agreed frame: of each client, by rising number, its play, or one byte 0.
+abbrev pub bytes_at : List Column → ℕ → List ℕ
+bytes_at columns n = entries_bytes (frame_at columns n)
+
+-- The game after calls that step it by the bytes of the first n agreed frames, one after the other.
+abbrev pub stepped_along : List Column → ℕ → GameState → GameState
+stepped_along columns zero game = game
+stepped_along columns (suc n) game =
+    game_stepped (stepped_along columns n game) (bytes_at columns n)
+
+-- Each of these calls answers OK; the game is then in the server's world; and after each of them its
+-- hash is the server's mark.
+pub record IsAlong (start : GameState) (server : GameServer) : Type 0 where
+  pub codes :
+      (k : ℕ) → k < server.ticked →
+      game_code (stepped_along server.columns k start) (bytes_at server.columns k) ≡ OK
+  pub world : stepped_along server.columns server.ticked start ≡ server.world
+  pub marks :
+      server.marks
+      ≡ marks_by (λ k. game_hash (stepped_along server.columns k start)) server.ticked
+
+-- The numbers of the first n agreed frames fit their fields, as those of all that code holds do.
+abbrev pub FitFrames : List Column → ℕ → Type 0
+FitFrames columns n = (k : ℕ) → k < n → AllByRecursion FitsEntry (frame_at columns k)
+
+-- A world that is stepped by the server's frames has the server's hash.
+abbrev pub WorldsFollow : Type 0
+WorldsFollow =
+    (made : Made) (clients seed : ℕ) (calls : List ServerCall) (server : GameServer) →
+    server ≡ server_after_all calls (fresh_of made clients seed) → server.ticked ≤ MAX_FRAMES →
+    FitFrames server.columns server.ticked →
+    IsAlong (game_start made.maker seed clients) server

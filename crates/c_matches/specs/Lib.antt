@@ -4,6 +4,7 @@ pub mod Histories
 pub mod Held
 pub mod Packets
 pub mod Peers
+pub mod Plays
 pub mod Servers
 pub mod Terms
 pub mod Ticks

@@ -55,3 +55,25 @@ set_length [] zero x = refl
 set_length [] (suc i) x = refl
 set_length (y ∷ xs) zero x = refl
 set_length (y ∷ xs) (suc i) x = ap suc (set_length xs i x)
+
+-- Two maps have as many elements as both lists.
+pub both_counted : {A B C : Type 0} (f : A → C) (g : B → C) (xs : List A) (ys : List B) →
+    length (map f xs ++ map g ys) ≡ length xs + length ys
+both_counted f g [] ys = let all : length (map g ys) ≡ length ys = counted g ys in omega (arith, all)
+both_counted f g (x ∷ xs) ys =
+    let rest : length (map f xs ++ map g ys) ≡ length xs + length ys = both_counted f g xs ys in omega (arith, rest)
+
+-- An element of the first.
+pub in_front : {A B C : Type 0} (f : A → C) (g : B → C) (xs : List A) (ys : List B) (i : ℕ) (x : A) →
+    slice_get xs i ≡ Some x → slice_get (map f xs ++ map g ys) i ≡ Some (f x)
+in_front f g [] ys i x at = absurd cc
+in_front f g (y ∷ xs) ys zero x at = let same : y ≡ x = cc in ap (λ a. Some (f a)) same
+in_front f g (y ∷ xs) ys (suc i) x at = in_front f g xs ys i x at
+
+-- An element of the second.
+pub behind : {A B C : Type 0} (f : A → C) (g : B → C) (xs : List A) (ys : List B) (i k : ℕ) (y : B) →
+    i ≡ length xs + k → slice_get ys k ≡ Some y → slice_get (map f xs ++ map g ys) i ≡ Some (g y)
+behind f g [] ys i k y is at =
+    let same : i ≡ k = omega (arith, is) in ap (slice_get (map g ys)) same ∙ mapped g ys k y at
+behind f g (x ∷ xs) ys zero k y is at = absurd (omega (arith, is))
+behind f g (x ∷ xs) ys (suc i) k y is at = behind f g xs ys i k y (omega (arith, is)) at

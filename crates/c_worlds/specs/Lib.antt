@@ -1,8 +1,11 @@
 pub mod Actors
 pub mod Faults
+pub mod Ground
 pub mod Heads
 pub mod Held
+pub mod Items
 pub mod Kinds
+pub mod Routes
 pub mod Setups
 pub mod Told
 pub mod Worlds

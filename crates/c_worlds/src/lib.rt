@@ -9,19 +9,25 @@
 
 mod actors;
 mod fault_at;
+mod ground;
 mod heads;
 mod held;
+mod items;
 mod kinds;
 mod ore;
 mod room;
+mod routes;
 mod setups;
 mod worlds;
 
 pub use actors::{CActor, read_actors};
 pub use fault_at::CFault;
+pub use ground::setup_terrain;
 pub use heads::{CHead, read_head};
 pub use held::{game_of, made_of};
+pub use items::{CItem, read_items};
 pub use kinds::{CKind, setup_kind, setup_kind_name};
 pub use ore::read_ore;
+pub use routes::{CCell, CRoute, RouteAsk, find_route};
 pub use setups::{MAP, RULES, setup_add, setup_create, setup_read, setup_share};
 pub use worlds::{read_frame, world_create, world_step};

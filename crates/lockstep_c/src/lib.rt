@@ -7,9 +7,12 @@ ghost use Rattle.std.specs.Prelude.{◌≡◌, ◌≢◌, None, length};
 ghost use Rattle.lockstep_c.specs.declared.TheConstants.{ABI};
 ghost use Rattle.c_objects.specs.declared.code.TheConstants.{NO_MEMORY};
 ghost use Rattle.c_worlds.specs.Actors.{actors_told};
+ghost use Rattle.c_worlds.specs.Ground.{terrain_told, width_told};
 ghost use Rattle.c_worlds.specs.Heads.{head_told};
 ghost use Rattle.c_worlds.specs.Held.{game_in, made_in, told_of};
+ghost use Rattle.c_worlds.specs.Items.{items_told};
 ghost use Rattle.c_worlds.specs.Kinds.{kind_told, name_told};
+ghost use Rattle.c_worlds.specs.Routes.{TellsRoute, outs};
 ghost use Rattle.c_worlds.specs.Setups.{add_code, added, create_code as setup_code};
 ghost use Rattle.c_worlds.specs.Setups.{created as setup_created, read_after, read_answer, read_at};
 ghost use Rattle.c_worlds.specs.Setups.{share_code, shared};
@@ -17,9 +20,11 @@ ghost use Rattle.c_worlds.specs.Told.{list_code, list_needed, list_out, one_code
 ghost use Rattle.c_worlds.specs.Worlds.{create_code, created, ore_told, step_code, stepped};
 
 mod matches;
+#[cfg(test)]
+mod tests;
 
 use c_objects::Object;
-use c_worlds::{CActor, CFault, CHead, CKind};
+use c_worlds::{CActor, CCell, CFault, CHead, CItem, CKind, CRoute};
 use std::alloc::Global;
 
 /// The version of this interface.
@@ -132,6 +137,29 @@ pub extern "C" fn lockstep_setup_kind_name(
     c_worlds::setup_kind_name(setup, alloc, kind, out, needed)
 }
 
+/// The terrain of each cell of a setup that was read, row by row, how many cells there are, and how
+/// many a row has. `NO_ROOM` where the array is too short: then only these numbers are written.
+#[unsafe(no_mangle)]
+pub extern "C" fn lockstep_setup_terrain(
+    setup: &mut Object,
+    alloc: Global,
+    width: &mut u32,
+    out: &mut [u8],
+    needed: &mut usize,
+) -> u32
+    ensures code { result
+        ≡ list_code (told_of (made_in setup.old.held.held) terrain_told) (length out.old) }
+    ensures width { width.new
+        ≡ one_out (told_of (made_in setup.old.held.held) width_told) width.old }
+    ensures out { out.new
+        ≡ list_out (told_of (made_in setup.old.held.held) terrain_told) out.old }
+    ensures needed { needed.new
+        ≡ list_needed (told_of (made_in setup.old.held.held) terrain_told) needed.old }
+    ensures stays { setup.new.held.held ≡ setup.old.held.held }
+{
+    c_worlds::setup_terrain(setup, alloc, width, out, needed)
+}
+
 /// Makes an empty object the opening world of a match of 1 to 16 clients over a setup that was
 /// read.
 #[unsafe(no_mangle)]
@@ -193,6 +221,28 @@ pub extern "C" fn lockstep_read_actors(
     c_worlds::read_actors(object, alloc, out, needed)
 }
 
+/// What an actor of a world, a peer or a server is to do, and how much it is: its activities, the
+/// one at work first, and then its builds. `NONE` where there is no actor with this id, `NO_ROOM`
+/// where the array is too short: then only their number is written.
+#[unsafe(no_mangle)]
+pub extern "C" fn lockstep_read_items(
+    object: &mut Object,
+    alloc: Global,
+    id: u32,
+    out: &mut [CItem],
+    needed: &mut usize,
+) -> u32
+    ensures code { result
+        ≡ list_code (told_of (game_in object.old.held.held) (items_told id)) (length out.old) }
+    ensures out { out.new
+        ≡ list_out (told_of (game_in object.old.held.held) (items_told id)) out.old }
+    ensures needed { needed.new
+        ≡ list_needed (told_of (game_in object.old.held.held) (items_told id)) needed.old }
+    ensures stays { object.new.held.held ≡ object.old.held.held }
+{
+    c_worlds::read_items(object, alloc, id, out, needed)
+}
+
 /// The ore of each cell of a world, a peer or a server, row by row, and how many cells there are.
 /// `NO_ROOM` where the array is too short: then only their number is written.
 #[unsafe(no_mangle)]
@@ -210,4 +260,31 @@ pub extern "C" fn lockstep_read_ore(
     ensures stays { object.new.held.held ≡ object.old.held.held }
 {
     c_worlds::read_ore(object, alloc, out, needed)
+}
+
+/// The way of least cost that an actor of a kind would begin now in a world, a peer or a server:
+/// over the terrain and the buildings as they stand, not around other units. Its cells begin with
+/// the first and end with the last. `NONE` where there is no way, as of a kind that doesn't move,
+/// or both cells are the same. `NO_ROOM` where the array is too short: then only the cost and the
+/// number of the cells are written. `BAD_ARGUMENT` where the rules have no such kind, or the map no
+/// such cells.
+#[unsafe(no_mangle)]
+pub extern "C" fn lockstep_find_route(
+    object: &mut Object,
+    alloc: Global,
+    kind: u32,
+    x: u32,
+    y: u32,
+    to_x: u32,
+    to_y: u32,
+    out: &mut [CCell],
+    route: &mut CRoute,
+) -> u32
+    ensures told { result ≢ NO_MEMORY → TellsRoute (game_in object.old.held.held) kind x y to_x
+        to_y out.old route.old (outs result out.new route.new) }
+    ensures out { result ≡ NO_MEMORY → out.new ≡ out.old }
+    ensures route { result ≡ NO_MEMORY → route.new ≡ route.old }
+    ensures stays { object.new.held.held ≡ object.old.held.held }
+{
+    c_worlds::find_route(object, alloc, kind, x, y, to_x, to_y, out, route)
 }

@@ -1,7 +1,7 @@
 //! The calls over matches.
 ghost use Rattle.std.specs.Prelude.{◌≡◌, ◌≢◌};
 ghost use Rattle.c_objects.specs.declared.code.TheConstants.{NO_MEMORY};
-ghost use Rattle.c_worlds.specs.Held.{made_in, told_of};
+ghost use Rattle.c_worlds.specs.Held.{game_in, made_in, told_of};
 ghost use Rattle.c_worlds.specs.Told.{one_code, one_out};
 ghost use Rattle.c_matches.specs.Answers.{answer_by, told_in};
 ghost use Rattle.c_matches.specs.Greetings.{greeting_answer, hello_told, welcome_code, welcome_out};
@@ -11,12 +11,13 @@ ghost use Rattle.c_matches.specs.Packets.{down_in, orders_in, packet_out, up_in}
 ghost use Rattle.c_matches.specs.Peers.{create_code as peer_code, created as peer_created};
 ghost use Rattle.c_matches.specs.Peers.{deliver_answer, delivered, report_told, seal_told, sealed};
 ghost use Rattle.c_matches.specs.Peers.{tick_answer_of as peer_answer, ticked as peer_ticked};
+ghost use Rattle.c_matches.specs.Plays.{bot_told, play_out};
 ghost use Rattle.c_matches.specs.Servers.{alarm_told, create_code as server_code};
 ghost use Rattle.c_matches.specs.Servers.{created as server_created, dropped, dropped_answer};
 ghost use Rattle.c_matches.specs.Servers.{entry_told, received, received_answer};
 ghost use Rattle.c_matches.specs.Servers.{tick_answer_of as server_answer, ticked as server_ticked};
 
-use c_matches::{CAlarm, CPacket, CTerms};
+use c_matches::{CAlarm, CPacket, CPlay, CTerms};
 use c_objects::Object;
 use std::alloc::Global;
 
@@ -276,4 +277,24 @@ pub extern "C" fn lockstep_server_alarm(
     ensures stays { object.new.held.held ≡ object.old.held.held }
 {
     c_matches::server_alarm(object, alloc, client, out)
+}
+
+/// Writes the play that a bot would make now that is this client, by the world of a world, a peer or
+/// a server alone: whoever has the same world gets the same play. `BAD_ARGUMENT` where the match has
+/// no such client.
+#[unsafe(no_mangle)]
+pub extern "C" fn lockstep_bot(
+    object: &mut Object,
+    alloc: Global,
+    client: u32,
+    out: &mut CPlay,
+) -> u32
+    ensures code { result ≢ NO_MEMORY
+        → result ≡ one_code (told_of (game_in object.old.held.held) (bot_told client)) }
+    ensures out { result ≢ NO_MEMORY
+        → out.new ≡ play_out (told_of (game_in object.old.held.held) (bot_told client)) out.old }
+    ensures memory { result ≡ NO_MEMORY → out.new ≡ out.old }
+    ensures stays { object.new.held.held ≡ object.old.held.held }
+{
+    c_matches::bot(object, alloc, client, out)
 }
