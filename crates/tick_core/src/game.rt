@@ -186,6 +186,14 @@ impl Game {
         self.live.rules()
     }
 
+    /// The same rules, as it shares them.
+    pub fn shared_rules(&self) -> &Rc<Rules>
+        ensures { result.now.value ≡ self.now.setup.rules }
+    {
+        let _steps = self.steps;
+        self.live.shared_rules()
+    }
+
     /// The map that it stands on.
     pub fn map(&self) -> &Map
         ensures { result.now ≡ self.now.setup.map }

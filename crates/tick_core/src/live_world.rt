@@ -119,6 +119,14 @@ impl LiveWorld {
         self.scene.rules()
     }
 
+    /// The same rules, as it shares them.
+    pub(crate) fn shared_rules(&self) -> &Rc<Rules>
+        ensures { result.now.value ≡ self.now.setup.rules }
+    {
+        let _hasher = &self.hasher;
+        &self.scene.rules
+    }
+
     /// The map that it stands on.
     pub(crate) fn map(&self) -> &Map
         ensures { result.now ≡ self.now.setup.map }
