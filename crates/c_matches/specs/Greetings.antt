@@ -8,8 +8,8 @@ use Rattle.order_packets.specs.PacketBytes.{up_bytes, down_bytes}
 use Rattle.setup_files.specs.declared.making.Made.{Made}
 use Rattle.c_objects.specs.declared.code.TheConstants.{OK, REFUSED, BAD_BYTES, BAD_ARGUMENT}
 use Rattle.c_matches.specs.declared.answer.Answer.{Answer}
-use Rattle.c_matches.specs.declared.greetings.TheConstants.{VERSION, OTHER_VERSION, OTHER_RULES}
-use Rattle.c_matches.specs.declared.greetings.TheConstants.{NO_HELLO}
+use Rattle.order_packets.specs.declared.limits.TheConstants.{VERSION, OTHER_VERSION, OTHER_RULES}
+use Rattle.order_packets.specs.declared.limits.TheConstants.{NO_HELLO}
 use Rattle.c_matches.specs.declared.terms.CTerms.{CTerms}
 use Rattle.c_matches.specs.declared.terms.Terms.{Terms}
 use Rattle.c_matches.specs.Answers.{only, telling}

@@ -13,21 +13,9 @@ use crate::packet_reading::packet_in;
 use crate::terms::{CTerms, terms_in};
 use c_objects::{BAD_ARGUMENT, BAD_BYTES, OK, Object, REFUSED, WRONG_OBJECT};
 use c_worlds::made_of;
-use order_packets::{Down, Up};
+use order_packets::{Down, NO_HELLO, OTHER_RULES, OTHER_VERSION, Up, VERSION};
 use setup_files::Made;
 use std::alloc::Global;
-
-/// The version of the packets, as a client's greeting has it.
-pub const VERSION: u16 = 2;
-
-/// Why a client is refused: its packets are of another version.
-pub const OTHER_VERSION: u32 = 1;
-
-/// Why a client is refused: its rules or its map are others.
-pub const OTHER_RULES: u32 = 2;
-
-/// Why a client is refused: its first packet is no greeting.
-pub const NO_HELLO: u32 = 3;
 
 /// Writes the greeting with which a client begins its link: the version of the packets, and the
 /// number of the setup's rules and map.
@@ -65,10 +53,10 @@ fn answer_to(made: &Made, version: u16, rules: u64) -> Answer
     ensures { result ≡ up_answer (Up.Hello version rules) made.now }
 {
     if version != VERSION {
-        return Answer::telling(REFUSED, OTHER_VERSION);
+        return Answer::telling(REFUSED, u32::from(OTHER_VERSION));
     }
     if rules != made.number {
-        return Answer::telling(REFUSED, OTHER_RULES);
+        return Answer::telling(REFUSED, u32::from(OTHER_RULES));
     }
     Answer::only(OK)
 }
@@ -79,7 +67,7 @@ fn answer_first(made: &Made, bytes: &[u8]) -> Answer
 {
     match packet_in::<Up>(bytes) {
         Some(Up::Hello { version, rules }) => answer_to(made, version, rules),
-        Some(_) => Answer::telling(REFUSED, NO_HELLO),
+        Some(_) => Answer::telling(REFUSED, u32::from(NO_HELLO)),
         None => Answer::only(BAD_BYTES),
     }
 }

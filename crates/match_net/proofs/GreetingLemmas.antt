@@ -13,7 +13,8 @@ use Rattle.order_packets.specs.declared.up.Up.TheVariants.{Hello, Orders, Sync, 
 use Rattle.order_packets.specs.PacketBytes.{up_payload, framed, up_bytes}
 use Rattle.order_packets.specs.PacketReading.{FirstPacket, packet_at, up_at}
 use Rattle.order_packets.specs.Feed.{Fed, unfed, more_fed, answer_of}
-use Rattle.match_net.specs.declared.limits.TheConstants.{VERSION, MAX_LINK_BYTES}
+use Rattle.order_packets.specs.declared.limits.TheConstants.{VERSION}
+use Rattle.match_net.specs.declared.limits.TheConstants.{MAX_LINK_BYTES}
 use Rattle.match_net.specs.declared.greeting.Greeting.{Greeting}
 use Rattle.match_net.specs.declared.greeting.Greeting.TheVariants as greeting
 use Rattle.match_net.specs.declared.piece.Piece.TheVariants as piece

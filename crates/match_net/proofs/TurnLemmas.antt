@@ -19,7 +19,8 @@ use Rattle.order_packets.specs.StreamLemmas.{all_stay}
 use Rattle.frame_core.specs.Column.{Column}
 use Rattle.frame_table.specs.declared.view.View.{View}
 use Rattle.frame_table.specs.Part.{Part, part_of, OthersStay}
-use Rattle.match_net.specs.declared.limits.TheConstants.{VERSION, MAX_LINK_BYTES}
+use Rattle.order_packets.specs.declared.limits.TheConstants.{VERSION}
+use Rattle.match_net.specs.declared.limits.TheConstants.{MAX_LINK_BYTES}
 use Rattle.report_line.specs.declared.heard.Heard.{Heard}
 use Rattle.match_net.specs.declared.ending.Ending.{Ending}
 use Rattle.match_net.specs.declared.ending.Ending.TheVariants as ending

@@ -8,8 +8,9 @@ use Rattle.order_packets.specs.declared.up.Up.TheVariants.{Hello, Orders, Sync, 
 use Rattle.order_packets.specs.PacketBytes.{up_bytes}
 use Rattle.order_packets.specs.PacketReading.{FirstPacket, packet_at, up_at}
 use Rattle.order_packets.specs.Feed.{Fed, unfed, more_fed, answer_of}
-use Rattle.match_net.specs.declared.limits.TheConstants.{VERSION, OTHER_VERSION, OTHER_RULES}
-use Rattle.match_net.specs.declared.limits.TheConstants.{NO_HELLO, MAX_LINK_BYTES, PIECE_BYTES}
+use Rattle.order_packets.specs.declared.limits.TheConstants.{VERSION, OTHER_VERSION, OTHER_RULES}
+use Rattle.order_packets.specs.declared.limits.TheConstants.{NO_HELLO}
+use Rattle.match_net.specs.declared.limits.TheConstants.{MAX_LINK_BYTES, PIECE_BYTES}
 use Rattle.match_net.specs.declared.greeting.Greeting.{Greeting}
 use Rattle.match_net.specs.declared.greeting.Greeting.TheVariants as greeting
 use Rattle.match_net.specs.PieceTaking.{Took, NoneLeft}

@@ -13,8 +13,9 @@ use Rattle.order_packets.specs.declared.up.Up.{Up}
 use Rattle.order_packets.specs.declared.up.Up.TheVariants.{Hello, Orders, Sync, Bye}
 use Rattle.order_packets.specs.PacketReading.{FirstPacket, packet_at, up_at}
 use Rattle.order_packets.specs.Feed.{ReadsAll}
-use Rattle.match_net.specs.declared.limits.TheConstants.{MAX_LINK_BYTES, OTHER_VERSION}
-use Rattle.match_net.specs.declared.limits.TheConstants.{OTHER_RULES}
+use Rattle.order_packets.specs.declared.limits.TheConstants.{OTHER_VERSION}
+use Rattle.match_net.specs.declared.limits.TheConstants.{MAX_LINK_BYTES}
+use Rattle.order_packets.specs.declared.limits.TheConstants.{OTHER_RULES}
 use Rattle.report_line.specs.declared.heard.Heard.{Heard}
 use Rattle.match_net.specs.declared.greeting.Greeting.{Greeting}
 use Rattle.match_net.specs.declared.greeting.Greeting.TheVariants as greeting

@@ -11,7 +11,8 @@ use Rattle.order_packets.specs.declared.up.Up.TheVariants.{Hello}
 use Rattle.order_packets.specs.PacketBytes.{up_bytes}
 use Rattle.order_packets.specs.PacketReading.{FirstPacket}
 use Rattle.peer_core.specs.Peer.{fresh_peer}
-use Rattle.match_net.specs.declared.limits.TheConstants.{VERSION, MAX_PLAY_BYTES}
+use Rattle.order_packets.specs.declared.limits.TheConstants.{VERSION}
+use Rattle.match_net.specs.declared.limits.TheConstants.{MAX_PLAY_BYTES}
 use Rattle.match_net.specs.declared.stop_reason.StopReason.{StopReason}
 use Rattle.match_net.specs.declared.stop_reason.StopReason.TheVariants as stop
 use Rattle.match_net.specs.declared.play_cause.PlayCause.{PlayCause}

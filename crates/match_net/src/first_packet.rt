@@ -7,12 +7,12 @@ ghost use Rattle.match_net.specs.Greeting.{greeting_of, decided, hello_bytes, Gr
 
 use crate::greeting::Greeting;
 use crate::invite::Invite;
-use crate::limits::{MAX_LINK_BYTES, NO_HELLO, OTHER_RULES, OTHER_VERSION, VERSION};
+use crate::limits::MAX_LINK_BYTES;
 use crate::piece::Piece;
 use crate::piece_taking::take_counted;
 use base::NoMemory;
 use game_io::Source;
-use order_packets::{Up, UpFeeder};
+use order_packets::{NO_HELLO, OTHER_RULES, OTHER_VERSION, Up, UpFeeder, VERSION};
 
 /// The length of the longest packet: with so many bytes the first one is decided.
 const LONGEST_PACKET: usize = 258;

@@ -7,7 +7,8 @@ pub enum Greeting {
     Welcome,
     /// The packet is whole, and the client is not in the match.
     Refuse {
-        /// Why: [`crate::OTHER_VERSION`], [`crate::OTHER_RULES`] or [`crate::NO_HELLO`].
+        /// Why: [`order_packets::OTHER_VERSION`], [`order_packets::OTHER_RULES`] or
+        /// [`order_packets::NO_HELLO`].
         code: u8,
     },
     /// This fault stands in the packet's place.

@@ -56,7 +56,7 @@ pub use law::{
     a_players_bytes_have_one_match, a_players_world_is_the_fold,
     a_session_begins_that_of_its_bytes, an_ended_session_is_that_of_its_bytes,
 };
-pub use limits::{MAX_LINK_BYTES, MAX_PLAY_BYTES, NO_HELLO, OTHER_RULES, OTHER_VERSION, VERSION};
+pub use limits::{MAX_LINK_BYTES, MAX_PLAY_BYTES};
 pub use order_source::OrderSource;
 pub use play_cause::PlayCause;
 pub use play_end::PlayEnd;

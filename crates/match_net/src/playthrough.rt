@@ -13,7 +13,6 @@ ghost use Rattle.match_net.specs.Stages.{greeting_bytes, terms_by, terms_from};
 
 use crate::coming_packet::ComingPacket;
 use crate::downward::next_packet;
-use crate::limits::VERSION;
 use crate::order_source::OrderSource;
 use crate::play_cause::PlayCause;
 use crate::play_end::PlayEnd;
@@ -24,7 +23,7 @@ use base::NoMemory;
 use frame_core::Maker;
 use game_io::{Sink, Source};
 use game_orders::Orders;
-use order_packets::{Down, DownFeeder, Up, write_up};
+use order_packets::{Down, DownFeeder, Up, VERSION, write_up};
 use std::alloc::Global;
 
 /// Plays a script over a link: as [`play_match_from`] plays the orders of each of its frames,

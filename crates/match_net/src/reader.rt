@@ -10,14 +10,13 @@ ghost use Rattle.match_net.specs.declared.limits.TheConstants.{MAX_LINK_BYTES};
 
 use crate::greeting::Greeting;
 use crate::invite::Invite;
-use crate::limits::{OTHER_RULES, OTHER_VERSION};
 use crate::link_reading::read_packets;
 use crate::read_cause::ReadCause;
 use crate::reader_end::ReaderEnd;
 use frame_core::Leaving;
 use frame_table::{FrameTable, Pass};
 use game_io::Source;
-use order_packets::UpFeeder;
+use order_packets::{OTHER_RULES, OTHER_VERSION, UpFeeder};
 use report_line::Reports;
 use std::sync::Wait;
 

@@ -20,7 +20,8 @@ use Rattle.frame_table.specs.Part.{Part, part_of}
 use Rattle.frame_table.specs.Steps.{published}
 use Rattle.frame_table.specs.Calls.{view_of, IsPassOf}
 use Rattle.report_line.specs.Reports.{pushed, StaysOf}
-use Rattle.match_net.specs.declared.limits.TheConstants.{MAX_LINK_BYTES, VERSION}
+use Rattle.order_packets.specs.declared.limits.TheConstants.{VERSION}
+use Rattle.match_net.specs.declared.limits.TheConstants.{MAX_LINK_BYTES}
 use Rattle.match_net.specs.declared.invite.Invite.{Invite}
 use Rattle.match_net.specs.declared.greeting.Greeting.{Greeting}
 use Rattle.match_net.specs.declared.greeting.Greeting.TheVariants as greeting

@@ -19,7 +19,8 @@ use Rattle.order_packets.specs.PacketReading.{FirstPacket, packet_at, sized_at, 
 use Rattle.order_packets.specs.Feed.{Fed}
 use Rattle.frame_table.specs.declared.view.View.{View}
 use Rattle.report_line.specs.declared.heard.Heard.{Heard}
-use Rattle.match_net.specs.declared.limits.TheConstants.{MAX_LINK_BYTES, VERSION, OTHER_RULES}
+use Rattle.order_packets.specs.declared.limits.TheConstants.{VERSION, OTHER_RULES}
+use Rattle.match_net.specs.declared.limits.TheConstants.{MAX_LINK_BYTES}
 use Rattle.match_net.specs.declared.greeting.Greeting.{Greeting}
 use Rattle.match_net.specs.declared.greeting.Greeting.TheVariants as greeting
 use Rattle.match_net.specs.declared.reader_end.ReaderEnd.{ReaderEnd}

@@ -3,7 +3,8 @@
 use game_io::{MatchEvent, NoGreeting, Watch};
 use game_orders::{Frame, MAX_CLIENTS};
 use idle_pause::{NAP_MICROS, SPINS_BEFORE_SLEEP};
-use match_net::{Greeting, OTHER_RULES, OTHER_VERSION};
+use match_net::Greeting;
+use order_packets::{OTHER_RULES, OTHER_VERSION};
 
 /// For how many millionths of a second the match waits, at the least, before that is logged once
 /// more.

@@ -35,7 +35,7 @@ pub use law::{
     a_fault_stands_in_its_place, a_stream_is_read_one_way, down_is_read_back,
     no_down_begins_another, no_up_begins_another, up_is_read_back,
 };
-pub use limits::MAX_PAYLOAD;
+pub use limits::{MAX_PAYLOAD, NO_HELLO, OTHER_RULES, OTHER_VERSION, VERSION};
 pub use packet::Packet;
 pub use up::Up;
 pub use writing::{write_down, write_up};
