@@ -1,7 +1,5 @@
 -- Labels that are taken away row by row, where a mark says that one was set.
-use Rattle.std.proofs.Common.{◌≡◌, ℕ, ◌+◌, ◌-◌, ◌*◌, ◌<◌, ◌≤◌, inl, inr, Bool, true, false, List, [], ◌∷◌, length}
-use Rattle.std.proofs.Common.{refl, ap, sym, ◌∙◌, arith, subst, suc, replicate, get_or, get_or-set_other}
-use Rattle.std.proofs.Common.{get_or-set_same, length-set, slice_index_or, slice_set}
+use Rattle.std.proofs.Common.{◌≡◌, ℕ, ◌+◌, ◌-◌, ◌*◌, ◌<◌, ◌≤◌, inl, inr, Bool, true, false, List, [], ◌∷◌, length, refl, ap, sym, ◌∙◌, arith, subst, suc, replicate, get_or, get_or-set_other, get_or-set_same, length-set, slice_index_or, slice_set}
 use Rattle.std.proofs.lemmas.Bool.{cases_eq, cases_lt, true≢false}
 use Rattle.std.proofs.lemmas.List.{get_or-replicate, length-replicate}
 use Rattle.std.proofs.lemmas.Nat.{mul-add-lt, row_fits, same_from_place}
