@@ -17,7 +17,7 @@ use Rattle.grid_routes.proofs.Shelves.{pushed-fits, pushed-room}
 use Rattle.grid_routes.proofs.Lowering.{one-or-not}
 use Rattle.grid_routes.proofs.Advancing.{no-both}
 
-pub same-replicate : (n : ℕ) (i d : ℕ) → get_or (replicate n d) i d ≡ d
+same-replicate : (n : ℕ) (i d : ℕ) → get_or (replicate n d) i d ≡ d
 same-replicate n i d =
     elim (cases_lt i n) [
       | inl below ↦ get_or-replicate n i d d below

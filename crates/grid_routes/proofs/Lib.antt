@@ -13,7 +13,6 @@ pub mod Keeping
 pub mod Knowing
 pub mod Looking
 pub mod Lowering
-pub mod Marks
 pub mod Shelves
 pub mod Shortest
 pub mod Walking

@@ -1,6 +1,5 @@
 -- What a field of distances promises: labels of cells, right for a search that may go on.
 use Rattle.std.specs.Prelude.{◌≡◌, ℕ, ◌+◌, ◌*◌, ◌<◌, ◌≤◌, nat_lt, not, List, length, replicate}
-use Rattle.std.specs.Prelude.{Bool, false, slice_index_or}
 use Rattle.std.specs.List.{count_by}
 use Rattle.world_units.specs.declared.cell.CPos.{CPos}
 use Rattle.game_model.specs.Grid.{Grid, IsOn, with_cell}
@@ -22,24 +21,6 @@ pub record IsFull (grid : Grid ℕ) : Type 0 where
 -- The label of a cell. Off the map there is none.
 abbrev pub label_of : Grid ℕ → CPos → ℕ
 label_of labels p = value_in NONE labels p
-
--- No cell of the rows above y has a label.
-abbrev pub AreNone : Grid ℕ → ℕ → Type 0
-AreNone labels y = (i : ℕ) → i < y * labels.width → slice_index_or labels.cells i NONE ≡ NONE
-
--- From one place up to another there is no label, and elsewhere all stays.
-pub record IsCleared (old new : List ℕ) (first end : ℕ) : Type 0 where
-  pub length : length new ≡ length old
-  pub none : (i : ℕ) → first ≤ i → i < end → slice_index_or new i NONE ≡ NONE
-  pub before : (i : ℕ) → i < first → slice_index_or new i NONE ≡ slice_index_or old i NONE
-  pub after : (i : ℕ) → end ≤ i → slice_index_or new i NONE ≡ slice_index_or old i NONE
-
--- There is a mark for each row that can be, and in a row without one no cell has a label.
-pub record AreMarked (width : ℕ) (cells : List ℕ) (marks : List Bool) : Type 0 where
-  pub count : length marks ≡ 256
-  pub none :
-      (y x : ℕ) → y < 256 → x < width → slice_index_or marks y false ≡ false →
-      slice_index_or cells (y * width + x) NONE ≡ NONE
 
 -- The field of a search that begins: the goal alone has a label.
 abbrev pub begun : Distances → CPos → Distances

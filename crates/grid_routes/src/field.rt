@@ -1,7 +1,7 @@
-ghost use Rattle.std.specs.Prelude.{◌≡◌, ◌+◌, ◌<◌, ◌≤◌, IfOk, IfSome, length, replicate};
+ghost use Rattle.std.specs.Prelude.{◌≡◌, IfOk, IfSome};
 ghost use Rattle.game_model.specs.Grid.{IsOn, HasSize, is_on, place_of, with_cell};
 ghost use Rattle.grid_routes.specs.Beside.{IsPlaced};
-ghost use Rattle.grid_routes.specs.Labels.{AreNone, IsCleared, IsFull, label_of, begun};
+ghost use Rattle.grid_routes.specs.Labels.{IsFull, label_of, begun};
 
 use crate::beside::Placed;
 use base::NoMemory;
@@ -12,9 +12,6 @@ use world_units::CPos;
 /// The label of a cell to which no walk is known.
 pub(crate) const NONE: u32 = u32::MAX;
 
-/// How many rows a map can have.
-const ROWS: usize = 256;
-
 /// Distances to a goal, as far as a search has come.
 #[derive(Drop)]
 pub(crate) struct Field {
@@ -22,14 +19,12 @@ pub(crate) struct Field {
     height: u8,
     /// The cost of the best walk that is known from each cell, row by row.
     labels: Vec<u32>,
-    /// For each row whether a label of it was set since the field began. The others have none.
-    written: [bool; ROWS],
     /// Up to this the labels are final.
     level: u32,
 }
 
 impl Model for Field {
-    ghost use Rattle.grid_routes.specs.Labels.{AreMarked, Distances, IsFull};
+    ghost use Rattle.grid_routes.specs.Labels.{Distances, IsFull};
 
     ghost Value = { Distances };
 
@@ -44,18 +39,7 @@ impl Model for Field {
       height = f.height;
       cells =
           f.labels.items;
-    }) × AreMarked f.width f.labels.items f.written };
-}
-
-/// Takes the labels from one place up to another away.
-fn clear_part(labels: &mut Vec<u32>, first: usize, end: usize)
-    requires ordered { first ≤ end }
-    requires within { end ≤ length labels.old.items }
-    ensures { IsCleared labels.old.items labels.new.items first end }
-{
-    for at in first..end {
-        labels[at] = NONE;
-    }
+    }) };
 }
 
 impl Field {
@@ -69,7 +53,6 @@ impl Field {
             width: w,
             height: h,
             labels,
-            written: [false; ROWS],
             level: NONE,
         })
     }
@@ -91,7 +74,6 @@ impl Field {
             width: w,
             height: h,
             labels,
-            written: [true; ROWS],
             level: NONE,
         })
     }
@@ -102,39 +84,9 @@ impl Field {
         ensures value { self.new ≡ begun self.old goal }
         ensures full { IsFull self.old.labels }
     {
-        self.clear();
+        self.labels.as_mut_slice().fill(NONE);
         self.level = 0;
         self.lower(goal, 0);
-    }
-
-    /// Takes all labels away.
-    fn clear(&mut self)
-        ensures labels { self.new.labels ≡ record self.old.labels {
-          cells = replicate (length self.old.labels.cells) NONE;
-        } }
-        ensures full { IsFull self.old.labels }
-    {
-        for y in 0..self.height {
-            self.clear_row(y);
-        }
-    }
-
-    /// Takes the labels of a row away, if one was set.
-    fn clear_row(&mut self, y: u8)
-        requires row { y < self.old.labels.height }
-        requires above { AreNone self.old.labels y }
-        ensures above { AreNone self.new.labels (y + 1) }
-        ensures width { self.new.labels.width ≡ self.old.labels.width }
-        ensures height { self.new.labels.height ≡ self.old.labels.height }
-        ensures full { IsFull self.new.labels }
-    {
-        let row = usize::from(y);
-        if self.written[row] {
-            let width = usize::from(self.width);
-            let first = row * width;
-            clear_part(&mut self.labels, first, first + width);
-            self.written[row] = false;
-        }
     }
 
     /// Whether a cell is on the map.
@@ -163,7 +115,6 @@ impl Field {
         ensures full { IsFull self.old.labels }
     {
         self.labels[usize::from(p.y) * usize::from(self.width) + usize::from(p.x)] = label;
-        self.written[usize::from(p.y)] = true;
     }
 
     /// The place of a cell of the map.
@@ -194,7 +145,6 @@ impl Field {
         ensures full { IsFull self.old.labels }
     {
         self.labels[n.at] = label;
-        self.written[usize::from(n.cell.y)] = true;
     }
 
     /// Up to this the labels are final.
