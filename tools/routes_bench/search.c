@@ -60,7 +60,7 @@ static void take_ground(Router *r, const Ground *g) {
     r->current = -1;
 }
 
-static uint32_t toll(const Router *r, const Ask *ask, int i) {
+static uint32_t entry_cost(const Router *r, const Ask *ask, int i) {
     return ask->costs[i == ask->goal ? terrain_at(&r->ground, i) : r->kinds[i]];
 }
 
@@ -80,12 +80,12 @@ static void offer(Router *r, Field *f, int x, int y, uint32_t label) {
 /* Offers the neighbours of a cell the walk that enters it. */
 static void expand(Router *r, const Ask *ask, Field *f, int x, int y) {
     int w = r->ground.width, i = y * w + x;
-    uint32_t cost = toll(r, ask, i), straight = f->labels[i] + 5 * cost, across = f->labels[i] + 7 * cost;
+    uint32_t cost = entry_cost(r, ask, i), straight = f->labels[i] + 5 * cost, across = f->labels[i] + 7 * cost;
     if (cost == 0)
         return;
     int north = y > 0, south = y + 1 < r->ground.height, west = x > 0, east = x + 1 < w;
-    int north_free = north && toll(r, ask, i - w), south_free = south && toll(r, ask, i + w);
-    int west_free = west && toll(r, ask, i - 1), east_free = east && toll(r, ask, i + 1);
+    int north_free = north && entry_cost(r, ask, i - w), south_free = south && entry_cost(r, ask, i + w);
+    int west_free = west && entry_cost(r, ask, i - 1), east_free = east && entry_cost(r, ask, i + 1);
     if (north) offer(r, f, x, y - 1, straight);
     if (north_free && east_free) offer(r, f, x + 1, y - 1, across);
     if (east) offer(r, f, x + 1, y, straight);
@@ -172,11 +172,11 @@ static int best_dir(Router *r, const Ground *g, const Ask *ask, int from) {
         int to_x = x + DX[d], to_y = y + DY[d], to = to_y * w + to_x;
         if (to_x < 0 || to_x >= w || to_y < 0 || to_y >= g->height || f->labels[to] >= f->labels[from])
             continue;
-        uint32_t cost = toll(r, ask, to);
+        uint32_t cost = entry_cost(r, ask, to);
         if (d % 2 == 0)
             cost *= 5;
         else
-            cost *= toll(r, ask, y * w + to_x) && toll(r, ask, to_y * w + x) ? 7 : 0;
+            cost *= entry_cost(r, ask, y * w + to_x) && entry_cost(r, ask, to_y * w + x) ? 7 : 0;
         if (cost > 0 && f->labels[to] + cost == f->labels[from])
             return d;
     }
