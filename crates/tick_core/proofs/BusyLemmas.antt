@@ -1,8 +1,8 @@
 -- What is kept after a step, and a turn step by step.
 use Rattle.std.proofs.Common.{◌≡◌, ◌≢◌, ℕ, zero, suc, cond, ◌+◌, ◌<◌, ◌≤◌, Bool, true, false, eqb, List, [], ◌∷◌, length, map, drop, get_or, Option, Some, None, inl, inr, refl, sym, ap, ap₂, subst, ◌∙◌, add-one, arith}
-use Rattle.std.specs.Prelude.{◌==◌, ◌⊎◌, ◌-◌, ◌&&◌, if◌then◌else◌, is_some, nat_le, not, slice_get, slice_set, IfSome, fold}
+use Rattle.std.specs.Prelude.{◌==◌, ◌⊎◌, ◌-◌, ◌&&◌, if◌then◌else◌, is_some, nat_le, not, slice_get, slice_set, IfSome, IsSome, fold}
 use Rattle.std.specs.List.{All, AllPairs}
-use Rattle.std.specs.Option.{unwrap_or}
+use Rattle.std.specs.Option.{option_map, unwrap_or}
 use Rattle.std.proofs.lemmas.List.Elements.{All-head}
 use Rattle.std.proofs.lemmas.Bool.{and_parts, or_right}
 use Rattle.std.proofs.lemmas.Option.{get_or_from_slice_get}
@@ -25,9 +25,10 @@ use Rattle.game_model.specs.ValidWorld.{IsActivityOf}
 use Rattle.game_model.specs.Kinds.{capacity_in, load_delay_in, unload_delay_in, kind_of}
 use Rattle.game_model.specs.World.{actor_of, clients_of, ids_of, is_alive, living_of}
 use Rattle.game_tick.specs.ActorsLemmas.{step_actors}
+use Rattle.game_tick.specs.Building.{after_build}
 use Rattle.game_tick.specs.Harvesting.{Harvested, after_deliver, after_harvest, after_search, is_beside, nearest_refinery, delivered_to}
 use Rattle.game_tick.specs.StepKeepsLemmas.{dead_stay, step_keeps, steps_keep}
-use Rattle.game_tick.specs.IdleLemmas.{idle_stays}
+use Rattle.game_tick.specs.IdleLemmas.{idle_stays, living_changed}
 use Rattle.game_tick.specs.Nearest.{nearest_ore, ore_at}
 use Rattle.game_tick.specs.Turn.{after_first, after_step, after_steps, after_turn, after_way, blocks_of, buried, harvest_of, reloaded, with_build, with_reload, with_way}
 use Rattle.game_tick.specs.TurnLemmas.{length-ids_of, living_steps}
@@ -38,7 +39,7 @@ use Rattle.sync_hash.specs.declared.actor_number.ActorNumber.{ActorNumber}
 use Rattle.sync_hash.specs.Kept.{IsKeptOf, Kept, cell_number, cell_numbers, numbered}
 use Rattle.sync_hash.specs.KeptLemmas.{ore_numbered}
 use Rattle.tick_core.specs.Live.{Standing}
-use Rattle.tick_core.specs.Scene.{IsActing, prepared, prepared_if}
+use Rattle.tick_core.specs.Scene.{HasNoBuilds, IsActing, IsLoaded, prepared, prepared_if}
 use Rattle.actor_table.specs.Idle.{IsIdle}
 use Rattle.actor_table.specs.Table.{Table, IsTable}
 use Rattle.tick_core.specs.Telling.{IsKeptButIf, IsKeptIf, IsSizedIf, IsToldIf, cell_in, cell_of, target_of, told_ore, told_ore_if, with_some}
@@ -72,6 +73,58 @@ prepared_ore_by setup w id None = refl
 prepared_ore_by setup w id (Some a) =
     build_ore setup (with_reload w id) (living_of (with_reload w id).actors id)
 
+-- The parts that change nothing may be left out.
+no_build : (setup : Setup) (w : World) (a : Actor) → HasNoBuilds a → with_build setup w (Some a) ≡ w
+unfolding after_build
+no_build setup w a none = rw none refl
+
+abbrev reload_where : Bool → World → (id : ℕ) → World
+reload_where reloads w id = if reloads then with_reload w id else w
+
+abbrev build_where : Bool → Setup → World → (id : ℕ) → World
+build_where builds setup w id = if builds then with_build setup w (living_of w.actors id) else w
+
+reload_part :
+    (w : World) (id : ℕ) (a : Actor) (reloads : Bool) → IdsRise w.actors → living_of w.actors id ≡ Some a →
+    (reloads ≡ false → IsLoaded a) → reload_where reloads w id ≡ with_reload w id
+reload_part w id a true rise found loaded = refl
+reload_part w id a false rise found loaded =
+    sym (ap (with_list w) (unchanged w.actors id a reloaded rise (living_actor w.actors id a rise found) (loaded_same a (loaded refl))))
+
+build_part :
+    (setup : Setup) (w : World) (id : ℕ) (a : Actor) (builds : Bool) → living_of w.actors id ≡ Some a →
+    (builds ≡ false → HasNoBuilds a) → build_where builds setup w id ≡ with_build setup w (living_of w.actors id)
+build_part setup w id a true found none = refl
+build_part setup w id a false found none =
+    sym (ap (with_build setup w) found ∙ no_build setup w a (none refl))
+
+parts_by :
+    (setup : Setup) (w : World) (id : ℕ) (found : Option Actor) (reloads builds : Bool) → living_of w.actors id ≡ found →
+    IdsRise w.actors → (reloads ≡ true → IsSome found) → (reloads ≡ false → IfSome found IsLoaded) →
+    (builds ≡ false → IfSome found HasNoBuilds) →
+    build_where builds setup (reload_where reloads w id) id ≡ prepared_if setup w id found
+parts_by setup w id None true builds found rise lives loaded none =
+    absurd (let never : false ≡ true = lives refl in cc)
+parts_by setup w id None false builds found rise lives loaded none =
+    by_if (λ (v : World). v ≡ w) builds _ w (ap (with_build setup w) found) refl
+parts_by setup w id (Some a) reloads builds found rise lives loaded none =
+    let next : living_of (with_reload w id).actors id ≡ Some (reloaded a) =
+    living_changed w.actors id reloaded (λ x. refl) (λ x. refl) ∙ ap (option_map reloaded) found in
+    ap (λ v. build_where builds setup v id) (reload_part w id a reloads rise found loaded)
+    ∙ build_part setup (with_reload w id) id (reloaded a) builds next none
+
+pub prepared_whole :
+    (s mid new : Standing) (id : ℕ) (reloads builds : Bool) →
+    mid ≡ record s { world = if reloads then with_reload s.world id else s.world } →
+    new ≡ record mid { world = if builds then with_build mid.setup mid.world (living_of mid.world.actors id) else mid.world } →
+    IdsRise s.world.actors → (reloads ≡ true → IsSome (living_of s.world.actors id)) →
+    (reloads ≡ false → IfSome (living_of s.world.actors id) IsLoaded) →
+    (builds ≡ false → IfSome (living_of s.world.actors id) HasNoBuilds) →
+    new ≡ record s { world = prepared s.setup s.world id }
+prepared_whole s mid new id reloads builds mid_is new_is rise lives loaded none =
+    new_is ∙ ap (λ (x : Standing). the_standing x.setup (build_where builds x.setup x.world id)) mid_is
+    ∙ ap (the_standing s.setup) (parts_by s.setup s.world id (living_of s.world.actors id) reloads builds refl rise lives loaded none)
+
 -- Ids that are among others.
 among_first : (id : ℕ) (ids : List ℕ) → is_among (id ∷ ids) id ≡ true
 among_first id ids = elim (eqb_tells id id) [
@@ -88,6 +141,24 @@ differ m n other = elim (eqb_tells m n) [
   | inl here ↦ absurd (other (sym here.1))
   | inr there ↦ there.0
 ]
+
+-- The actors that were there are at the same places after the first two parts.
+grown_at :
+    (ids : List ℕ) (old new : List Actor) (i id : ℕ) → GrowsBut ids old new → slice_get (ids_of old) i ≡ Some id →
+    slice_get (ids_of new) i ≡ Some id
+grown_at ids [] new i id grows at = absurd cc
+grown_at ids (a ∷ old) [] i id grows at = absurd grows
+grown_at ids (a ∷ old) (b ∷ new) zero id grows at = ap Some grows.0 ∙ at
+grown_at ids (a ∷ old) (b ∷ new) (suc i) id grows at = grown_at ids old new i id grows.2 at
+
+pub prepared_at :
+    (s p : Standing) (i id : ℕ) → p ≡ record s { world = prepared s.setup s.world id } →
+    slice_get (ids_of s.world.actors) i ≡ Some id → slice_get (ids_of p.world.actors) i ≡ Some id
+prepared_at s p i id is at =
+    let ids : List ℕ = id ∷ s.world.next_id ∷ [] in
+    rw is (grown_at ids s.world.actors (prepared s.setup s.world id).actors i id
+    (prepared_same ids s.setup s.world id (among_first id (s.world.next_id ∷ []))
+    (λ other. or_right (s.world.next_id == id) (is_among (s.world.next_id ∷ []) s.world.next_id) (among_first s.world.next_id []))) at)
 
 moved_grows :
     (setup : Setup) (w p n : World) (id : ℕ) (target added : Option ℕ) →
@@ -499,27 +570,27 @@ is_not true denied = refl
 is_not false denied = absurd cc
 
 -- The actor at the place of an id is the living one of the id, if it lives.
-pub idle_at :
+pub living_there :
     (actors : List Actor) (i id : ℕ) (a : Actor) → IdsRise actors → slice_get (ids_of actors) i ≡ Some id → slice_get actors i ≡ Some a →
-    (is_alive a ≡ true → IsIdle a) → IfSome (living_of actors id) IsIdle
+    living_of actors id ≡ cond (is_alive a) (Some a) None
+living_there actors i id a rise at there = living_found actors id a rise found where
+  within : i < length actors
+  within = within_of actors i a there
+
+  same : get_or actors i a ≡ a
+  same = get_or_from_slice_get actors i a a there
+
+  named : a.id ≡ id
+  named = id_at actors i id a at there
+
+  found : Some a ≡ actor_of actors id
+  found = sym (subst (λ n. actor_of actors n ≡ Some a) named (subst (λ (x : Actor). actor_of actors x.id ≡ Some x) same (found_at actors i a rise within)))
+
+idle_at :
+    (actors : List Actor) (i id : ℕ) (a : Actor) → IdsRise actors → slice_get (ids_of actors) i ≡ Some id → slice_get actors i ≡ Some a →
+    IsIdle a → IfSome (living_of actors id) IsIdle
 idle_at actors i id a rise at there idle =
-    rw (living_found actors id a rise found) (by_life (is_alive a) refl)
-  where
-    within : i < length actors
-    within = within_of actors i a there
-
-    same : get_or actors i a ≡ a
-    same = get_or_from_slice_get actors i a a there
-
-    named : a.id ≡ id
-    named = id_at actors i id a at there
-
-    found : Some a ≡ actor_of actors id
-    found = sym (subst (λ n. actor_of actors n ≡ Some a) named (subst (λ (x : Actor). actor_of actors x.id ≡ Some x) same (found_at actors i a rise within)))
-
-    by_life : (alive : Bool) → is_alive a ≡ alive → IfSome (cond alive (Some a) None) IsIdle
-    by_life true lives = idle lives
-    by_life false dead = tt
+    rw (living_there actors i id a rise at there) (by_if (λ found. IfSome found IsIdle) (is_alive a) (Some a) None idle tt)
 
 -- So where it is known that the one at the place is idle.
 pub idle_marked :
@@ -530,7 +601,7 @@ idle_marked actors i id rise at idle = by_place (slice_get actors i) refl idle
     by_place :
         (found : Option Actor) → slice_get actors i ≡ found → IfSome found IsIdle →
         IfSome (living_of actors id) IsIdle
-    by_place (Some a) there idle = idle_at actors i id a rise at there (λ lives. idle)
+    by_place (Some a) there idle = idle_at actors i id a rise at there idle
     by_place None there idle = nobody_at actors i id at there
 
 pub slice_none : {A : Type 0} (xs : List A) (i : ℕ) → slice_get xs i ≡ None → length xs ≤ i

@@ -1,6 +1,6 @@
 -- A world in which actors act, as the code holds it: its head, its actors in a table, its ore, the
 -- cells on which buildings stand, the routes and the dice.
-use Rattle.std.specs.Prelude.{◌≡◌, ℕ, Bool, Option, Some, None, slice_get}
+use Rattle.std.specs.Prelude.{◌≡◌, ℕ, Bool, [], Option, Some, None, slice_get}
 use Rattle.activities.specs.declared.activity.Activity.{Activity}
 use Rattle.activities.specs.declared.activity.Activity.TheVariants.{Move, Attack, Harvest, Deliver}
 use Rattle.twister.specs.Place.{Place}
@@ -39,6 +39,13 @@ prepared_if setup w id (Some a) =
 
 abbrev pub prepared : Setup → World → (id : ℕ) → World
 prepared setup w id = prepared_if setup w id (living_of w.actors id)
+
+-- The actor can fire at once.
+abbrev pub IsLoaded : Actor → Type 0
+IsLoaded a = a.body.reload ≡ 0
+
+abbrev pub HasNoBuilds : Actor → Type 0
+HasNoBuilds a = a.body.builds ≡ []
 
 -- The actor is on no leg, and this is the first that it is to do.
 abbrev pub DoesFirst : Activity → Actor → Type 0

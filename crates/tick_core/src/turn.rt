@@ -16,6 +16,7 @@ ghost use Rattle.tick_core.specs.Telling.{target_of, told_of, told_ore, told_ore
 ghost use Rattle.tick_core.specs.Touched.{KeptBut};
 ghost use Rattle.tick_core.specs.Waiting.{IsDone, IsWaiting};
 
+use crate::acting::living_at;
 use crate::burial::is_alive;
 use crate::live_world::LiveWorld;
 use crate::scene::Scene;
@@ -48,15 +49,13 @@ fn lives_at(table: &ActorTable, i: usize, id: u32) -> bool
     requires { slice_get (ids_of table.now.actors) i ≡ Some id }
     ensures { result ≡ false → IfSome (living_of table.now.actors id) IsIdle }
 {
-    let _ids_rise = table.len();
-    match table.nth_actor(i) {
-        Some(a) => a.body.health > 0,
-        None => false,
-    }
+    living_at(table, i, id).is_some()
 }
 
-/// What the first activity of the actor of an id, if it lives, may change beside the actor itself.
-fn effects_of(table: &ActorTable, id: u32) -> StepEffects
+/// What the first activity of the actor at a place of the table, which has this id, if it lives, may
+/// change beside the actor itself.
+fn effects_at(table: &ActorTable, i: usize, id: u32) -> StepEffects
+    requires { slice_get (ids_of table.now.actors) i ≡ Some id }
     ensures target { result.target ≡ target_of (living_of table.now.actors id) }
     ensures cell { result.cell ≡ cell_of (living_of table.now.actors id) }
 {
@@ -64,7 +63,7 @@ fn effects_of(table: &ActorTable, id: u32) -> StepEffects
         target: None,
         cell: None,
     };
-    let Some(a) = table.living(id) else {
+    let Some(a) = living_at(table, i, id) else {
         return none;
     };
     match a.body.acts.head() {
@@ -80,12 +79,13 @@ fn effects_of(table: &ActorTable, id: u32) -> StepEffects
     }
 }
 
-/// Whether the actor of an id, if it lives, waits for a unit that it has built, and has nothing
-/// else to do.
-fn is_waiting(table: &ActorTable, id: u32) -> bool
+/// Whether the actor at a place of the table, which has this id, if it lives, waits for a unit that
+/// it has built, and has nothing else to do.
+fn is_waiting_at(table: &ActorTable, i: usize, id: u32) -> bool
+    requires { slice_get (ids_of table.now.actors) i ≡ Some id }
     ensures { result ≡ true → IfSome (living_of table.now.actors id) IsWaiting }
 {
-    match table.living(id) {
+    match living_at(table, i, id) {
         Some(a) => waits(&a.body),
         None => false,
     }
@@ -231,12 +231,14 @@ impl Scene {
         self.table.nth(i)
     }
 
-    /// What the last part of the step of the actor of an id may change beside the actor itself.
-    fn effects(&self, id: u32) -> StepEffects
+    /// What the last part of the step of the actor at a place, which has this id, may change beside
+    /// the actor itself.
+    fn effects_at(&self, i: usize, id: u32) -> StepEffects
+        requires { slice_get (ids_of self.now.world.actors) i ≡ Some id }
         ensures target { result.target ≡ target_of (living_of self.now.world.actors id) }
         ensures cell { result.cell ≡ cell_of (living_of self.now.world.actors id) }
     {
-        effects_of(&self.table, id)
+        effects_at(&self.table, i, id)
     }
 
     /// Whether it is known that a step leaves the actor at a place as it is. It takes no look at
@@ -248,8 +250,7 @@ impl Scene {
         is_idle_at(&self.table, i)
     }
 
-    /// Whether the actor at a place, which has this id, lives. It is found at once, where an id
-    /// would be searched.
+    /// Whether the actor at a place, which has this id, lives.
     fn lives_at(&self, i: usize, id: u32) -> bool
         requires { slice_get (ids_of self.now.world.actors) i ≡ Some id }
         ensures { result ≡ false → IfSome (living_of self.now.world.actors id) IsIdle }
@@ -257,12 +258,13 @@ impl Scene {
         lives_at(&self.table, i, id)
     }
 
-    /// Whether the actor of an id, if it lives, waits for a unit that it has built, and has nothing
-    /// else to do.
-    fn is_waiting(&self, id: u32) -> bool
+    /// Whether the actor at a place, which has this id, if it lives, waits for a unit that it has
+    /// built, and has nothing else to do.
+    fn is_waiting_at(&self, i: usize, id: u32) -> bool
+        requires { slice_get (ids_of self.now.world.actors) i ≡ Some id }
         ensures { result ≡ true → IfSome (living_of self.now.world.actors id) IsWaiting }
     {
-        is_waiting(&self.table, id)
+        is_waiting_at(&self.table, i, id)
     }
 
     /// Tells the hasher, if there is one, of the actors of these ids, as far as they are there: the
@@ -357,15 +359,16 @@ impl LiveWorld {
             return;
         };
         if self.scene.lives_at(i, id) {
-            self.step_busy(id);
+            self.step_busy(i, id);
         }
     }
 
-    /// The step of the actor of an id by its parts, and the telling: of the actor itself where it
-    /// may have changed, of who was hit, and of who came out. It is noted where one of them has
-    /// died.
-    fn step_busy(&mut self, id: u32)
-        requires { self.old.world.drawn < 2 ^ 64 - 1 }
+    /// The step of the actor at a place, which has this id, by its parts, and the telling: of the
+    /// actor itself where it may have changed, of who was hit, and of who came out. It is noted
+    /// where one of them has died.
+    fn step_busy(&mut self, i: usize, id: u32)
+        requires at { slice_get (ids_of self.old.world.actors) i ≡ Some id }
+        requires drawn { self.old.world.drawn < 2 ^ 64 - 1 }
         ensures { self.new ≡ (record self.old {
           world = after_step self.old.setup self.old.world id;
         }) }
@@ -373,11 +376,11 @@ impl LiveWorld {
         self.scene.recall_invariant();
         let next_id = self.scene.next_id();
         let drawn = self.scene.drawn();
-        let waited = self.scene.is_waiting(id);
-        self.scene.prepare(id);
+        let waited = self.scene.is_waiting_at(i, id);
+        self.scene.prepare(i, id);
         self.scene.recall_invariant();
-        let effects = self.scene.effects(id);
-        self.scene.go_on(id);
+        let effects = self.scene.effects_at(i, id);
+        self.scene.go_on(i, id);
         let target = if_changed(drawn, self.scene.drawn(), effects.target);
         let new_id = self.scene.next_id();
         let added = if_changed(u64::from(next_id), u64::from(new_id), Some(next_id));

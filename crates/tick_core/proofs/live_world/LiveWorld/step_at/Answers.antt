@@ -21,6 +21,10 @@ returns-in_default-clause-world c = λ id at.
     absurd (let never : None ≡ Some id = c.in_default.ensures ∙ here in cc)
 
 -- It makes its step.
+pub step_busy-requires-clause-at : goal.step_busy-requires-clause-at
+step_busy-requires-clause-at c =
+    subst (λ (s : Standing). slice_get (ids_of s.world.actors) c.args.i ≡ Some c.in-Some.id) c.self.view_is (sym c.in-Some.ensures)
+
 pub returns-then-lives_at-clause-world : goal.returns-then-lives_at-clause-world
 returns-then-lives_at-clause-world c = λ id at.
     let here : slice_get (ids_of c.self.inside.scene.world.actors) c.args.i ≡ Some id =

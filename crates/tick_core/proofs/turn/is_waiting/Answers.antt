@@ -1,6 +1,0 @@
-use Rattle.std.proofs.Common.{refl}
-use Rattle.tick_core.proofs.turn.is_waiting.Goals as goal
-
--- It lives.
-pub returns-in-Some : goal.returns-in-Some
-returns-in-Some c = λ waits. rw (← c.in-Some.ensures.living) (c.waits.ensures c.in-Some.a.now refl waits)
