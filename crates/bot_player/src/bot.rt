@@ -3,7 +3,6 @@ ghost use Rattle.bot_player.specs.BotOrders.{bot_orders_by, bot_orders_of};
 ghost use Rattle.game_model.specs.World.{clients_of};
 
 use crate::drafting::{drafts_of, show_all};
-use crate::products::Products;
 use crate::survey::Survey;
 use game_model::{Map, Purse, World};
 use game_orders::Orders;
@@ -36,9 +35,7 @@ pub fn bot_orders_from<A: LendsActors>(rules: &Rules, cash: &Purse, actors: &A, 
     requires { c < length cash.now }
     ensures { result ≡ bot_orders_by rules.now (record { actors = A.actors_of actors.now; cash = cash.now }) c }
 {
-    let survey = Survey::of(rules, actors, c);
-    let mut products = Products::of(rules, &survey.owned, cash.get(c));
-    let mut drafts = drafts_of(&mut products, survey.first, c, actors);
+    let mut drafts = drafts_of(&mut Survey::new(rules, cash, actors, c));
     show_all(rules, c, &mut drafts, actors);
     drafts.orders()
 }

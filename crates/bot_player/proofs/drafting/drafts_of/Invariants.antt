@@ -6,8 +6,7 @@ use Rattle.bot_player.proofs.drafting.drafts_of.Given as goal
 
 abbrev pub invariant-loop-i : goal.invariant-loop-i
 invariant-loop-i g l =
-    (l.products ≡ l.initial.products)
+    (l.survey ≡ l.initial.survey)
     × (l.drafts
-    ≡ filter_map (own_draft l.initial.products l.first l.c)
-    (take l.i (g.A.LendsActors.actors_of l.fn.actors)))
+    ≡ filter_map (own_draft l.initial.survey) (take l.i l.initial.survey.goods.actors))
     × (length l.drafts ≤ MAX_ORDERS)
