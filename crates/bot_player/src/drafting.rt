@@ -1,4 +1,4 @@
-ghost use Rattle.std.specs.Prelude.{◌≡◌, fold};
+ghost use Rattle.std.specs.Prelude.{◌≡◌, [], fold};
 ghost use Rattle.bot_player.specs.BotOrders.{harvest_order, produce_order};
 ghost use Rattle.bot_player.specs.Drafts.{attack_draft, draft_for, drafts_of, own_draft, shown};
 ghost use Rattle.bot_player.specs.Survey.{first_enemy};
@@ -86,19 +86,18 @@ fn own_draft<A: LendsActors>(survey: &mut Survey<'_, A>, a: &Actor) -> Option<Dr
     }
 }
 
-/// The first drafts for the actors, as many as a client can order.
-pub(crate) fn drafts_of<A: LendsActors>(survey: &mut Survey<'_, A>) -> Drafts
-    ensures { result ≡ drafts_of survey.old }
+/// Adds the first drafts for the actors, as many as a client can order, to no drafts.
+pub(crate) fn draft_all<A: LendsActors>(survey: &mut Survey<'_, A>, drafts: &mut Drafts)
+    requires { drafts.old ≡ [] }
+    ensures { drafts.new ≡ drafts_of survey.old }
 {
     let actors = survey.actors();
-    let mut drafts = Drafts::empty();
     for i in 0..actors.actor_count() {
         if drafts.is_full() {
-            return drafts;
+            return;
         }
         drafts.add(own_draft(survey, nth_actor(actors, i)));
     }
-    drafts
 }
 
 /// Shows an actor to the drafts, if it is an enemy.

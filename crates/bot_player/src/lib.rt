@@ -9,8 +9,8 @@
 //! lends the actors ([`shroud::LendsActors`]), so a game needs no copy of its world. No memory is
 //! taken. The actors are gone over once for the client's orders but the targets of attacks, and
 //! once more for these targets, for all attackers at once, where one is to attack. What the client
-//! can produce, and its first enemy, is looked for where an actor first asks for it: then the kinds
-//! that it owns, too, are gone over all actors, once.
+//! can produce and who its first enemy is are looked for where an actor first asks for them, each
+//! by one pass at most. What a kind of producer can produce is looked for once.
 #![tactic(auto)]
 
 mod bot;

@@ -12,8 +12,8 @@ returns g c =
     let actors : List Actor = g.A.LendsActors.actors_of c.args.actors.now in
     let s : Sight =
     (record { rules = c.args.rules.now; goods = record { actors = actors; cash = c.args.cash.now }; c = c.args.c }) in
-    let drafts : c.drafts_of-drafts.result ≡ drafts_of s =
-    c.drafts_of-drafts.ensures ∙ ap (λ (t : Sight). drafts_of t) c.new.ensures in
+    let drafts : c.draft_all.new.drafts ≡ drafts_of s =
+    c.draft_all.ensures ∙ ap (λ (t : Sight). drafts_of t) c.new.ensures in
     c.orders.ensures
     ∙ ap (λ (ds : List Draft). map ordered ds)
     (c.show_all.ensures ∙ ap (λ (ds : List Draft). fold (shown s.rules s.c) ds actors) drafts)

@@ -6,7 +6,7 @@ use Rattle.bot_player.specs.declared.draft.Draft.{Draft}
 use Rattle.bot_player.specs.Drafts.{own_draft}
 use Rattle.bot_player.specs.Survey.{Sight}
 use Rattle.bot_player.proofs.ListLemmas.{made_first, made_next}
-use Rattle.bot_player.proofs.drafting.drafts_of.Goals as goal
+use Rattle.bot_player.proofs.drafting.draft_all.Goals as goal
 
 pub returns-then-is_full : goal.returns-then-is_full
 returns-then-is_full g c =
