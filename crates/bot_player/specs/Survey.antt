@@ -1,5 +1,6 @@
 -- What a bot looks for among the actors.
-use Rattle.std.specs.Prelude.{◌≡◌, ℕ, ◌<◌, Bool, List, length, find, fold, Option, option_map, IfSome}
+use Rattle.std.specs.Prelude.{◌≡◌, ℕ, ◌<◌, Bool, List, length, find, fold, Option, option_map}
+use Rattle.std.specs.Prelude.{IfSome}
 use Rattle.rule_traits.specs.declared.kind.Kind.{Kind}
 use Rattle.game_model.specs.declared.actor.Actor.{Actor}
 use Rattle.game_tick.specs.Orders.{Goods}
@@ -31,7 +32,8 @@ owned_of c actors = fold (owned_with c) no_flags actors
 
 -- The products find for each kind of producer the least kind that is ready.
 abbrev pub AreProductsOf : Sight → ProductState → Type 0
-AreProductsOf s p = (builder : ℕ) → first_product p builder ≡ least_ready s.rules s.goods s.c builder
+AreProductsOf s p =
+    (builder : ℕ) → first_product p builder ≡ least_ready s.rules s.goods s.c builder
 
 -- The client has cash, and what was looked for already was found.
 pub record FitsSight (s : Sight) (products : Option ProductState) (first : Option (Option Enemy))
