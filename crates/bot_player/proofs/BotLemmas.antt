@@ -1,47 +1,34 @@
 -- The orders of the drafts are a bot's.
-use Rattle.std.proofs.Common.{◌≡◌, ℕ, Bool, true, false, cond, List, [], ◌∷◌, map, take, Option, Some, None, refl, sym, subst, ap, ap₂, ◌∙◌}
-use Rattle.std.specs.Prelude.{filter, filter_map, find, fold, option_map, slice_index}
+use Rattle.std.proofs.Common.{◌≡◌, Bool, true, false, cond, List, [], ◌∷◌, map, take, Option, Some, None, refl, sym, ap, ap₂, ◌∙◌}
+use Rattle.std.specs.Prelude.{filter, filter_map, fold, option_map}
 use Rattle.std.specs.List.{cons_option, take-map}
 use Rattle.std.specs.Option.{option_or}
-use Rattle.rule_traits.specs.declared.kind.Kind.{Kind}
-use Rattle.rule_traits.specs.ValidRules.{AreValidRules}
 use Rattle.game_orders.specs.declared.limits.TheConstants.{MAX_ORDERS}
 use Rattle.game_orders.specs.declared.order.Order.{Order}
 use Rattle.game_model.specs.declared.actor.Actor.{Actor}
-use Rattle.game_tick.specs.Orders.{Goods}
 use Rattle.bot_player.specs.declared.draft.Draft.{Draft}
 use Rattle.bot_player.specs.declared.draft.Draft.TheVariants.{Whole}
-use Rattle.bot_player.specs.declared.survey.Enemy.{Enemy}
-use Rattle.bot_player.specs.BotOrders.{bot_orders_by, harvest_order, is_enemy, is_own, order_for, produce_order}
-use Rattle.bot_player.specs.Drafts.{attack_draft, draft_for, drafts_of, ordered, own_draft, produce_draft, shown}
-use Rattle.bot_player.specs.Products.{AreReady, ProductState}
-use Rattle.bot_player.specs.Survey.{enemy_of, survey_of}
+use Rattle.bot_player.specs.BotOrders.{bot_orders_by, harvest_order, is_own, order_for, produce_order}
+use Rattle.bot_player.specs.Drafts.{attack_draft, draft_for, drafts_of, ordered, own_draft, shown}
+use Rattle.bot_player.specs.Survey.{first_enemy, Sight}
 use Rattle.bot_player.proofs.DraftLemmas.{attack_is, finished, finished_all, finished_whole}
-use Rattle.bot_player.proofs.ProductLemmas.{produce_is}
-use Rattle.bot_player.proofs.SurveyLemmas.{survey_first, survey_owned}
 
 -- The draft for an actor becomes its order.
 order_is :
-    (p : ProductState) (goods : Goods) (c : ℕ) (a : Actor) →
-    produce_draft p a ≡ produce_order p.rules goods c a →
-    option_map (finished p.rules goods.actors c)
-    (draft_for p (option_map enemy_of (find (is_enemy p.rules c) goods.actors)) a)
-    ≡ order_for p.rules goods c a
-order_is p goods c a produces =
-    at (produce_draft p a) (harvest_order p.rules a)
-    (attack_draft p.rules (option_map enemy_of (find (is_enemy p.rules c) goods.actors)) a)
-    ∙ ap₂ (λ (x y : Option Order). option_or x (option_or (harvest_order p.rules a) y)) produces
-    (attack_is p.rules goods.actors c a)
+    (s : Sight) (a : Actor) →
+    option_map (finished s.rules s.goods.actors s.c) (draft_for s a) ≡ order_for s.rules s.goods s.c a
+order_is s a =
+    at (produce_order s.rules s.goods s.c a) (harvest_order s.rules a)
+    (attack_draft s.rules (first_enemy s.rules s.goods.actors s.c) a)
+    ∙ ap (λ (o : Option Order). option_or (produce_order s.rules s.goods s.c a) (option_or (harvest_order s.rules a) o))
+    (attack_is s.rules s.goods.actors s.c a)
   where
-    done : Draft → Order
-    done d = finished p.rules goods.actors c d
-
     at :
         (x y : Option Order) (z : Option Draft) →
-        option_map (finished p.rules goods.actors c) (option_or (option_map Whole x) (option_or (option_map Whole y) z))
-        ≡ option_or x (option_or y (option_map (finished p.rules goods.actors c) z))
-    at (Some o) y z = ap (λ (q : Order). Some q) (finished_whole p.rules goods.actors c o)
-    at None (Some o) z = ap (λ (q : Order). Some q) (finished_whole p.rules goods.actors c o)
+        option_map (finished s.rules s.goods.actors s.c) (option_or (option_map Whole x) (option_or (option_map Whole y) z))
+        ≡ option_or x (option_or y (option_map (finished s.rules s.goods.actors s.c) z))
+    at (Some o) y z = ap (λ (q : Order). Some q) (finished_whole s.rules s.goods.actors s.c o)
+    at None (Some o) z = ap (λ (q : Order). Some q) (finished_whole s.rules s.goods.actors s.c o)
     at None None z = refl
 
 -- The same of all actors, of which the own ones get orders.
@@ -69,43 +56,15 @@ made_same {X} {Y} {Z} h own draft order (x ∷ xs) same =
         first d ∙ ap₂ (λ (o : Option Z) (zs : List Z). cons_option o zs) e later
     at false d e later = later
 
-orders_are :
-    (p : ProductState) (goods : Goods) (c : ℕ) → AreValidRules p.rules →
-    AreReady p.rules (survey_of p.rules goods.actors c).owned (slice_index goods.cash c) p.ready →
-    map ordered
-    (fold (shown p.rules c) (drafts_of p (survey_of p.rules goods.actors c).first c goods.actors) goods.actors)
-    ≡ bot_orders_by p.rules goods c
+-- The drafts, once all actors were shown to them, become a bot's orders.
+pub orders_are :
+    (s : Sight) →
+    map ordered (fold (shown s.rules s.c) (drafts_of s) s.goods.actors)
+    ≡ bot_orders_by s.rules s.goods s.c
 unfolding bot_orders_by
-orders_are p goods c valid ready =
-    finished_all p.rules c goods.actors (drafts_of p first c goods.actors)
-    ∙ sym (take-map (finished p.rules goods.actors c) MAX_ORDERS (filter_map (own_draft p first c) goods.actors))
+orders_are s =
+    finished_all s.rules s.c s.goods.actors (drafts_of s)
+    ∙ sym (take-map (finished s.rules s.goods.actors s.c) MAX_ORDERS (filter_map (own_draft s) s.goods.actors))
     ∙ ap (take MAX_ORDERS)
-    (made_same (finished p.rules goods.actors c) (is_own c) (draft_for p first) (order_for p.rules goods c) goods.actors each)
-  where
-    first : Option Enemy
-    first = (survey_of p.rules goods.actors c).first
-
-    each : (a : Actor) → option_map (finished p.rules goods.actors c) (draft_for p first a) ≡ order_for p.rules goods c a
-    each a =
-        ap (λ (e : Option Enemy). option_map (finished p.rules goods.actors c) (draft_for p e a))
-        (survey_first p.rules goods.actors c)
-        ∙ order_is p goods c a (produce_is p goods c (survey_of p.rules goods.actors c).owned a valid
-        (λ j below. survey_owned p.rules goods.actors c j below) ready)
-
--- The same, where the rules stand apart.
-pub orders_are_by :
-    (p : ProductState) (rules : List Kind) (goods : Goods) (c : ℕ) → p.rules ≡ rules →
-    AreValidRules rules →
-    AreReady rules (survey_of rules goods.actors c).owned (slice_index goods.cash c) p.ready →
-    map ordered
-    (fold (shown rules c) (drafts_of p (survey_of rules goods.actors c).first c goods.actors) goods.actors)
-    ≡ bot_orders_by rules goods c
-orders_are_by p rules goods c same =
-    subst
-    (λ (r : List Kind).
-    AreValidRules r →
-    AreReady r (survey_of r goods.actors c).owned (slice_index goods.cash c) p.ready →
-    map ordered
-    (fold (shown r c) (drafts_of p (survey_of r goods.actors c).first c goods.actors) goods.actors)
-    ≡ bot_orders_by r goods c)
-    same (orders_are p goods c)
+    (made_same (finished s.rules s.goods.actors s.c) (is_own s.c) (draft_for s) (order_for s.rules s.goods s.c) s.goods.actors
+    (order_is s))

@@ -1,7 +1,8 @@
 -- What the drafts for the actors are, once all actors were shown to them.
 use Rattle.std.proofs.Common.{◌≡◌, ℕ, eqb, Bool, true, false, cond, ◌&&◌, List, [], ◌∷◌, map, length, Option, Some, None, is_some, refl, sym, subst, ap, ◌∙◌}
 use Rattle.std.specs.Prelude.{filter, find, fold, option_map}
-use Rattle.std.specs.List.{reduce}
+use Rattle.std.specs.List.{list_any, reduce}
+use Rattle.std.proofs.lemmas.Bool.{true≢false}
 use Rattle.std.proofs.lemmas.List.{map-id}
 use Rattle.world_units.specs.declared.cell.CPos.{CPos}
 use Rattle.rule_traits.specs.declared.kind.Kind.{Kind}
@@ -15,8 +16,8 @@ use Rattle.bot_player.specs.declared.draft.Draft.TheVariants.{Whole, Attack}
 use Rattle.bot_player.specs.declared.draft.Aim.{Aim}
 use Rattle.bot_player.specs.declared.survey.Enemy.{Enemy}
 use Rattle.bot_player.specs.BotOrders.{attack_order, is_enemy, nearer_of, nearest_enemy}
-use Rattle.bot_player.specs.Drafts.{aim_at, attack_draft, nearer_aim, ordered, seeing, shown}
-use Rattle.bot_player.specs.Survey.{enemy_of}
+use Rattle.bot_player.specs.Drafts.{aim_at, attack_draft, is_attack, nearer_aim, ordered, seeing, shown}
+use Rattle.bot_player.specs.Survey.{enemy_of, first_enemy}
 
 -- A draft after one actor more.
 abbrev one_more : List Kind → (c : ℕ) → Draft → Actor → Draft
@@ -155,7 +156,7 @@ nearest_from rules actors c from o found =
 pub attack_is :
     (rules : List Kind) (actors : List Actor) (c : ℕ) (a : Actor) →
     option_map (finished rules actors c)
-    (attack_draft rules (option_map enemy_of (find (is_enemy rules c) actors)) a)
+    (attack_draft rules (first_enemy rules actors c) a)
     ≡ attack_order rules actors c a
 attack_is rules actors c a =
     at (is_some (kind_of rules a.kind).armament && eqb (length a.body.acts) 0)
@@ -174,3 +175,21 @@ attack_is rules actors c a =
         ap (λ (d : Draft). Some (ordered d)) (aim_after rules c actors a.id a.cell y)
         ∙ sym (ap (λ (p : Option Actor). option_map (λ (e : Actor). order.Attack a.id e.id false) p)
         (nearest_from rules actors c a.cell (Some y) found))
+
+-- Drafts of which none is to attack stay.
+pub none_shown :
+    (rules : List Kind) (c : ℕ) (actors : List Actor) (drafts : List Draft) →
+    list_any is_attack drafts ≡ false → fold (shown rules c) drafts actors ≡ drafts
+none_shown rules c [] drafts none = refl
+none_shown rules c (x ∷ actors) drafts none =
+    ap (λ (ds : List Draft). fold (shown rules c) ds actors) (same (is_enemy rules c x))
+    ∙ none_shown rules c actors drafts none
+  where
+    stay : (ds : List Draft) → list_any is_attack ds ≡ false → map (seeing (enemy_of x)) ds ≡ ds
+    stay [] none = refl
+    stay (Whole o ∷ ds) none = ap (λ (es : List Draft). Whole o ∷ es) (stay ds none)
+    stay (Attack actor from aim ∷ ds) none = absurd (true≢false none)
+
+    same : (test : Bool) → cond test (map (seeing (enemy_of x)) drafts) drafts ≡ drafts
+    same true = stay drafts none
+    same false = refl

@@ -1,20 +1,17 @@
 -- The nearest enemy is the nearest, and the least product the least.
-use Rattle.std.proofs.Common.{◌≡◌, ℕ, zero, suc, ◌+◌, ◌<◌, ◌≤◌, ◌⊎◌, ltb, eqb, Bool, true, false, cond, ◌&&◌, ◌||◌, List, [], ◌∷◌, length, Option, Some, None, is_some, inl, inr, refl, sym, subst, ap, ◌∙◌, arith}
+use Rattle.std.proofs.Common.{◌≡◌, ℕ, zero, suc, ◌+◌, ◌<◌, ◌≤◌, ◌⊎◌, ltb, eqb, Bool, true, false, cond, ◌&&◌, ◌||◌, List, [], ◌∷◌, length, Option, Some, None, is_some, inl, inr, refl, sym, subst, arith}
 use Rattle.std.specs.Prelude.{Contains, MatchOption, filter, find, fold}
 use Rattle.std.specs.List.{range_with_len, reduce}
-use Rattle.std.specs.Option.{unwrap_or}
-use Rattle.std.proofs.lemmas.Bool.{and_right, cases_Bool, cases_lt, both_ways, eqb-true, eqb-false, ltb-true, ltb-false, true≢false}
+use Rattle.std.proofs.lemmas.Bool.{cases_lt, both_ways, eqb-true, eqb-false, ltb-true, ltb-false, true≢false}
 use Rattle.std.proofs.lemmas.List.Elements.{Contains-append_cases, Contains-append_left, Contains-append_right, Contains-push, Contains-push_cases}
 use Rattle.std.proofs.lemmas.Option.{slice_get_past}
 use Rattle.world_units.specs.declared.cell.CPos.{CPos}
 use Rattle.world_units.specs.Cells.{dist_sq_of}
 use Rattle.rule_traits.specs.declared.kind.Kind.{Kind}
-use Rattle.rule_traits.specs.Rules.{builds, cost_of, kind_at}
-use Rattle.rule_traits.specs.Typed.{plain_kind}
 use Rattle.game_model.specs.declared.actor.Actor.{Actor}
-use Rattle.game_model.specs.Kinds.{is_unit, kind_of}
+use Rattle.game_model.specs.Kinds.{kind_of}
 use Rattle.game_model.specs.NearestActor.{is_nearer, IsAsNear, IsNearest}
-use Rattle.game_tick.specs.Orders.{Goods, has_needs, produce_fits}
+use Rattle.game_tick.specs.Orders.{Goods, produce_fits}
 use Rattle.bot_player.specs.BotOrders.{is_enemy, least_product, nearer_of, nearest_enemy}
 use Rattle.bot_player.specs.Laws.{IsEnemyAmong, IsLeastThatFits, TellsLeast, TellsNearest}
 

@@ -1,5 +1,6 @@
 mod ListLemmas
 mod FlagLemmas
+mod WordLemmas
 mod SurveyLemmas
 mod ProductLemmas
 mod DraftLemmas

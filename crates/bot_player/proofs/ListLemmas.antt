@@ -1,8 +1,8 @@
 -- Steps of loops over lists.
-use Rattle.std.proofs.Common.{◌≡◌, ℕ, zero, suc, ◌+◌, ◌-◌, ◌<◌, Bool, true, false, List, [], ◌∷◌, ◌++◌, length, take, drop, Option, Some, None, refl, sym, subst, ap, ◌∙◌, add-one, arith}
+use Rattle.std.proofs.Common.{◌≡◌, ℕ, zero, suc, ◌+◌, ◌-◌, ◌<◌, ◌≤◌, Bool, true, false, List, [], ◌∷◌, ◌++◌, length, take, drop, Option, Some, None, refl, sym, subst, ap, ◌∙◌, add-one, arith}
 use Rattle.std.specs.Prelude.{find, fold, filter_map, option_to_list, slice_get}
 use Rattle.std.specs.List.{cons_option, range_with_len}
-use Rattle.std.proofs.lemmas.List.{take-append-drop}
+use Rattle.std.proofs.lemmas.List.{drop_more, take-append-drop}
 use Rattle.std.proofs.lemmas.List.Elements.{filter_map-append}
 use Rattle.std.proofs.lemmas.List.Sums.{fold_more}
 use Rattle.std.proofs.lemmas.Option.{get_or_from_slice_get, slice_get_within}
@@ -68,3 +68,23 @@ pub later_from :
 later_from test n i below fails =
     let left : n - i ≡ suc (n - (i + 1)) = omega arith in
     rw left (rw fails refl)
+
+-- A search among what is left of a list.
+pub find_here :
+    {X : Type 0} (test : X → Bool) (xs : List X) (i : ℕ) (x : X) → slice_get xs i ≡ Some x →
+    test x ≡ true → find test (drop i xs) ≡ Some x
+find_here test xs i x found met =
+    rw (drop_more xs i x (slice_get_within xs i x found), get_or_from_slice_get xs i x x found, met) refl
+
+pub find_later :
+    {X : Type 0} (test : X → Bool) (xs : List X) (i : ℕ) (x : X) → slice_get xs i ≡ Some x →
+    test x ≡ false → find test (drop i xs) ≡ find test (drop (i + 1) xs)
+find_later test xs i x found fails =
+    rw (drop_more xs i x (slice_get_within xs i x found), get_or_from_slice_get xs i x x found, fails) refl
+
+pub find_end :
+    {X : Type 0} (test : X → Bool) (xs : List X) (i : ℕ) → length xs ≤ i → find test (drop i xs) ≡ None
+find_end test [] zero past = refl
+find_end test [] (suc i) past = refl
+find_end test (x ∷ xs) zero past = absurd (omega (arith, past))
+find_end test (x ∷ xs) (suc i) past = find_end test xs i (omega (arith, past))

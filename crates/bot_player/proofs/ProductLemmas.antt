@@ -1,9 +1,9 @@
 -- Which products are ready, and what that tells of orders to produce.
 use Rattle.std.proofs.Common.{◌≡◌, ℕ, ◌+◌, ◌<◌, ◌≤◌, eqb, ltb, leb, Bool, true, false, cond, ◌&&◌, ◌||◌, List, [], ◌∷◌, length, get_or, Option, Some, None, is_some, inl, inr, refl, sym, subst, ap, ap₂, ◌∙◌, arith}
-use Rattle.std.specs.Prelude.{IfSome, find, option_map, slice_index}
+use Rattle.std.specs.Prelude.{IfSome, find, slice_index}
 use Rattle.std.specs.List.{AllByRecursion, list_all, range_with_len}
 use Rattle.std.specs.Option.{unwrap_or}
-use Rattle.std.proofs.lemmas.Bool.{cases_eq, cases_lt, eq-eqb, eqb-true, ne_eqb, lt-ltb, le-ltb}
+use Rattle.std.proofs.lemmas.Bool.{cases_eq, cases_lt, eq-eqb, ne_eqb, lt-ltb, le-ltb}
 use Rattle.std.proofs.lemmas.List.Elements.{recursion_from_All}
 use Rattle.std.proofs.lemmas.List.{get_or_past, get_or-replicate, length-replicate}
 use Rattle.std.proofs.lemmas.Option.{slice_get_past, slice_get_within, get_or_from_slice_get}
@@ -16,12 +16,12 @@ use Rattle.rule_traits.specs.ValidRules.{AreValidRules, IsValidBuildable, IsVali
 use Rattle.game_model.specs.declared.actor.Actor.{Actor}
 use Rattle.game_model.specs.Kinds.{is_unit, kind_of, needs_in}
 use Rattle.game_tick.specs.Orders.{Goods, has_kind, has_needs, produce_fits}
-use Rattle.bot_player.specs.BotOrders.{least_product, produce_order}
-use Rattle.bot_player.specs.Drafts.{produce_draft}
+use Rattle.bot_player.specs.BotOrders.{least_product}
 use Rattle.bot_player.specs.KindFlags.{flag_of, no_flags, with_flag}
-use Rattle.bot_player.specs.Products.{first_product, is_product, is_ready, is_ready_at, AreReady, ProductState}
-use Rattle.game_orders.specs.declared.order.Order.TheVariants.{Produce}
+use Rattle.bot_player.specs.Products.{can_produce, is_product, is_ready, is_ready_at, least_ready, AreReady, ProductState}
+use Rattle.bot_player.specs.Survey.{owned_of, AreProductsOf}
 use Rattle.bot_player.proofs.FlagLemmas.{flag_with, size_with}
+use Rattle.bot_player.proofs.SurveyLemmas.{owned_are}
 
 -- The flags of the first kinds are right, and no others are set.
 pub record AreReadyBelow (rules : List Kind) (owned : List Bool) (cash bound : ℕ) (ready : List Bool)
@@ -127,13 +127,6 @@ low_needs kinds (Some b) few valid =
     recursion_from_All (λ (k : ℕ). k < MAX_KINDS) b.needs
     (λ k d within. let low : get_or b.needs k d < kinds = valid.needs k d within in omega (arith, low, few))
 
--- What makes a Produce of a kind fit, apart from the actor.
-abbrev can_produce : List Kind → Goods → (c number : ℕ) → Bool
-can_produce rules goods c number =
-    let product = kind_of rules number in
-    is_unit product && has_needs goods.actors c product
-    && leb (cost_of product) (slice_index goods.cash c)
-
 ready_agrees :
     (rules : List Kind) (goods : Goods) (c : ℕ) (owned : List Bool) (k : ℕ) → AreValidRules rules →
     ((j : ℕ) → j < MAX_KINDS → flag_of owned j ≡ has_kind goods.actors c j) →
@@ -183,30 +176,43 @@ find_agrees f g [] same = refl
 find_agrees f g (x ∷ xs) same =
     ap₂ (λ (b : Bool) (o : Option ℕ). cond b (Some x) o) (same x) (find_agrees f g xs same)
 
--- What the products say is what the definition says.
-pub produce_is :
-    (p : ProductState) (goods : Goods) (c : ℕ) (owned : List Bool) (a : Actor) → AreValidRules p.rules →
-    ((j : ℕ) → j < MAX_KINDS → flag_of owned j ≡ has_kind goods.actors c j) →
-    AreReady p.rules owned (slice_index goods.cash c) p.ready →
-    produce_draft p a ≡ produce_order p.rules goods c a
-produce_is p goods c owned a valid each ready =
-    at (is_some (kind_of p.rules a.kind).production) (eqb (length a.body.builds) 0) refl refl
+products_are :
+    (p : ProductState) (goods : Goods) (c : ℕ) → AreValidRules p.rules →
+    AreReady p.rules (owned_of c goods.actors) (slice_index goods.cash c) p.ready →
+    AreProductsOf (record { rules = p.rules; goods = goods; c = c }) p
+products_are p goods c valid ready builder =
+    find_agrees (is_product p builder)
+    (λ (k : ℕ). can_produce p.rules goods c k && builds p.rules builder k)
+    (range_with_len 0 (length p.rules)) same
   where
-    same :
-        is_some (kind_of p.rules a.kind).production ≡ true → length a.body.builds ≡ 0 → (k : ℕ) →
-        is_product p a.kind k ≡ produce_fits p.rules goods c k a
-    same produces none k =
-        ap (λ (b : Bool). b && builds p.rules a.kind k)
-        (ready.each k ∙ ready_agrees p.rules goods c owned k valid each)
-        ∙ sym (fits_agrees p.rules goods c k a produces none)
+    same : (k : ℕ) → is_product p builder k ≡ (can_produce p.rules goods c k && builds p.rules builder k)
+    same k =
+        ap (λ (b : Bool). b && builds p.rules builder k)
+        (ready.each k
+        ∙ ready_agrees p.rules goods c (owned_of c goods.actors) k valid
+        (λ j below. owned_are goods.actors c j below))
 
-    at :
-        (t u : Bool) → is_some (kind_of p.rules a.kind).production ≡ t → eqb (length a.body.builds) 0 ≡ u →
-        cond (t && u) (option_map (Produce a.id) (first_product p a.kind)) None
-        ≡ cond (t && u) (option_map (Produce a.id) (least_product p.rules goods c a)) None
-    at true true produces none =
-        ap (λ (o : Option ℕ). option_map (Produce a.id) o)
-        (find_agrees (is_product p a.kind) (λ (k : ℕ). produce_fits p.rules goods c k a)
-        (range_with_len 0 (length p.rules)) (same produces (eqb-true (length a.body.builds) 0 none)))
-    at true false produces none = refl
-    at false u produces none = refl
+-- The products find what the definition says; the rules stand apart.
+pub products_of :
+    (p : ProductState) (rules : List Kind) (goods : Goods) (c : ℕ) → p.rules ≡ rules →
+    AreValidRules rules →
+    AreReady rules (owned_of c goods.actors) (slice_index goods.cash c) p.ready →
+    AreProductsOf (record { rules = rules; goods = goods; c = c }) p
+products_of p rules goods c same =
+    subst
+    (λ (r : List Kind).
+    AreValidRules r →
+    AreReady r (owned_of c goods.actors) (slice_index goods.cash c) p.ready →
+    AreProductsOf (record { rules = r; goods = goods; c = c }) p)
+    same (products_are p goods c)
+
+-- For an actor that produces and has no builds, the least kind that is ready is the least of which
+-- a Produce fits.
+pub least_is :
+    (rules : List Kind) (goods : Goods) (c : ℕ) (a : Actor) →
+    is_some (kind_of rules a.kind).production ≡ true → length a.body.builds ≡ 0 →
+    least_ready rules goods c a.kind ≡ least_product rules goods c a
+least_is rules goods c a produces none =
+    find_agrees (λ (k : ℕ). can_produce rules goods c k && builds rules a.kind k)
+    (λ (k : ℕ). produce_fits rules goods c k a) (range_with_len 0 (length rules))
+    (λ k. sym (fits_agrees rules goods c k a produces none))

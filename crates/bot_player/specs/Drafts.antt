@@ -1,6 +1,6 @@
 -- The orders of a bot before all enemies were looked at.
-use Rattle.std.specs.Prelude.{ℕ, ◌==◌, nat_lt, ◌&&◌, ◌||◌, if◌then◌else◌, false, List, length}
-use Rattle.std.specs.Prelude.{Option, None, is_some, option_map, filter_map, map, take}
+use Rattle.std.specs.Prelude.{ℕ, ◌==◌, nat_lt, ◌&&◌, ◌||◌, if◌then◌else◌, Bool, true, false, List}
+use Rattle.std.specs.Prelude.{length, Option, None, is_some, option_map, filter_map, map, take}
 use Rattle.std.specs.Option.{option_or}
 use Rattle.world_units.specs.declared.cell.CPos.{CPos}
 use Rattle.world_units.specs.Cells.{dist_sq_of}
@@ -14,9 +14,8 @@ use Rattle.bot_player.specs.declared.draft.Draft.{Draft}
 use Rattle.bot_player.specs.declared.draft.Draft.TheVariants.{Whole, Attack}
 use Rattle.bot_player.specs.declared.draft.Aim.{Aim}
 use Rattle.bot_player.specs.declared.survey.Enemy.{Enemy}
-use Rattle.bot_player.specs.BotOrders.{harvest_order, is_enemy, is_own}
-use Rattle.bot_player.specs.Products.{first_product, ProductState}
-use Rattle.bot_player.specs.Survey.{enemy_of}
+use Rattle.bot_player.specs.BotOrders.{harvest_order, is_enemy, is_own, produce_order}
+use Rattle.bot_player.specs.Survey.{enemy_of, first_enemy, Sight}
 
 -- An enemy, seen from a cell.
 abbrev pub aim_at : CPos → Enemy → Aim
@@ -42,13 +41,6 @@ abbrev pub shown : List Kind → (c : ℕ) → List Draft → Actor → List Dra
 shown rules c drafts x =
     if is_enemy rules c x then map (seeing (enemy_of x)) drafts else drafts
 
--- The first case, by the kinds that are ready.
-abbrev pub produce_draft : ProductState → Actor → Option Order
-produce_draft p a =
-    if is_some (kind_of p.rules a.kind).production && (length a.body.builds == 0)
-    then option_map (order.Produce a.id) (first_product p a.kind)
-    else None
-
 -- The third case, before any enemy but the first was looked at.
 abbrev pub attack_draft : List Kind → Option Enemy → Actor → Option Draft
 attack_draft rules first a =
@@ -57,15 +49,21 @@ attack_draft rules first a =
     else None
 
 -- The draft for an actor, if it gets an order.
-abbrev pub draft_for : ProductState → Option Enemy → Actor → Option Draft
-draft_for p first a =
-    option_or (option_map Whole (produce_draft p a))
-    (option_or (option_map Whole (harvest_order p.rules a)) (attack_draft p.rules first a))
+abbrev pub draft_for : Sight → Actor → Option Draft
+draft_for s a =
+    option_or (option_map Whole (produce_order s.rules s.goods s.c a))
+    (option_or (option_map Whole (harvest_order s.rules a))
+    (attack_draft s.rules (first_enemy s.rules s.goods.actors s.c) a))
 
 -- The same, for the client's living actors alone.
-abbrev pub own_draft : ProductState → Option Enemy → (c : ℕ) → Actor → Option Draft
-own_draft p first c a = if is_own c a then draft_for p first a else None
+abbrev pub own_draft : Sight → Actor → Option Draft
+own_draft s a = if is_own s.c a then draft_for s a else None
 
--- The first drafts for these actors, as many as a client can order.
-abbrev pub drafts_of : ProductState → Option Enemy → (c : ℕ) → List Actor → List Draft
-drafts_of p first c actors = take MAX_ORDERS (filter_map (own_draft p first c) actors)
+-- The first drafts for the actors, as many as a client can order.
+abbrev pub drafts_of : Sight → List Draft
+drafts_of s = take MAX_ORDERS (filter_map (own_draft s) s.goods.actors)
+
+-- It is a draft to attack.
+abbrev pub is_attack : Draft → Bool
+is_attack (Whole order) = false
+is_attack (Attack actor from aim) = true

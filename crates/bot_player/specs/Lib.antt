@@ -1,6 +1,6 @@
 pub mod BotOrders
 pub mod KindFlags
-pub mod Survey
 pub mod Products
+pub mod Survey
 pub mod Drafts
 pub mod Laws

@@ -2,8 +2,8 @@ ghost use Rattle.std.specs.Prelude.{◌≡◌, ◌<◌, length};
 ghost use Rattle.bot_player.specs.BotOrders.{bot_orders_by, bot_orders_of};
 ghost use Rattle.game_model.specs.World.{clients_of};
 
-use crate::drafting::{drafts_of, show_all};
-use crate::products::Products;
+use crate::drafting::{draft_all, show_all};
+use crate::drafts::Drafts;
 use crate::survey::Survey;
 use game_model::{Map, Purse, World};
 use game_orders::Orders;
@@ -36,9 +36,8 @@ pub fn bot_orders_from<A: LendsActors>(rules: &Rules, cash: &Purse, actors: &A, 
     requires { c < length cash.now }
     ensures { result ≡ bot_orders_by rules.now (record { actors = A.actors_of actors.now; cash = cash.now }) c }
 {
-    let survey = Survey::of(rules, actors, c);
-    let mut products = Products::of(rules, &survey.owned, cash.get(c));
-    let mut drafts = drafts_of(&mut products, survey.first, c, actors);
+    let mut drafts = Drafts::empty();
+    draft_all(&mut Survey::new(rules, cash, actors, c), &mut drafts);
     show_all(rules, c, &mut drafts, actors);
     drafts.orders()
 }

@@ -1,5 +1,5 @@
 ghost use Rattle.std.specs.Prelude.{◌≡◌};
-ghost use Rattle.bot_player.specs.Drafts.{aim_at, nearer_aim, ordered, seeing};
+ghost use Rattle.bot_player.specs.Drafts.{aim_at, is_attack, nearer_aim, ordered, seeing};
 
 use crate::survey::Enemy;
 use game_orders::Order;
@@ -65,6 +65,16 @@ impl Draft {
                 from,
                 aim: aim.nearer(Aim::at(from, enemy)),
             },
+        }
+    }
+
+    /// Whether it is to attack.
+    pub(crate) fn is_attack(&self) -> bool
+        ensures { result ≡ is_attack self.now }
+    {
+        match self {
+            Draft::Whole(_) => false,
+            Draft::Attack { .. } => true,
         }
     }
 

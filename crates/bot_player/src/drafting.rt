@@ -1,13 +1,12 @@
-ghost use Rattle.std.specs.Prelude.{◌≡◌, fold};
-ghost use Rattle.bot_player.specs.BotOrders.{harvest_order};
-ghost use Rattle.bot_player.specs.Drafts.{attack_draft, draft_for, drafts_of, own_draft};
-ghost use Rattle.bot_player.specs.Drafts.{produce_draft, shown};
+ghost use Rattle.std.specs.Prelude.{◌≡◌, [], fold};
+ghost use Rattle.bot_player.specs.BotOrders.{harvest_order, produce_order};
+ghost use Rattle.bot_player.specs.Drafts.{attack_draft, draft_for, drafts_of, own_draft, shown};
+ghost use Rattle.bot_player.specs.Survey.{first_enemy};
 
 use crate::draft::{Aim, Draft};
 use crate::drafts::Drafts;
 use crate::nth::nth_actor;
-use crate::products::Products;
-use crate::survey::{Enemy, is_enemy, is_own};
+use crate::survey::{Enemy, Survey, is_enemy, is_own};
 use game_model::Actor;
 use game_orders::Order;
 use rule_traits::Rules;
@@ -15,15 +14,15 @@ use shroud::LendsActors;
 
 /// The order to produce, if the actor can produce and has no builds: the least ready kind that it
 /// builds.
-fn produce_draft(products: &mut Products<'_>, a: &Actor) -> Option<Order>
-    ensures value { result ≡ produce_draft products.old a.now }
-    ensures same { products.new ≡ products.old }
+fn produce_order<A: LendsActors>(survey: &mut Survey<'_, A>, a: &Actor) -> Option<Order>
+    ensures value { result ≡ produce_order survey.old.rules survey.old.goods survey.old.c a.now }
+    ensures same { survey.new ≡ survey.old }
 {
-    let kind = products.rules().get(a.kind)?;
+    let kind = survey.rules().get(a.kind)?;
     if kind.production.is_none() || !a.body.builds.is_empty() {
         return None;
     }
-    let kind = products.least(a.kind)?;
+    let kind = survey.least_ready(a.kind)?;
     Some(Order::Produce { actor: a.id, kind })
 }
 
@@ -44,14 +43,16 @@ fn harvest_order(rules: &Rules, a: &Actor) -> Option<Order>
 }
 
 /// The draft to attack, if the actor is armed and has no activities, and there is an enemy.
-fn attack_draft(rules: &Rules, first: Option<Enemy>, a: &Actor) -> Option<Draft>
-    ensures { result ≡ attack_draft rules.now first a.now }
+fn attack_draft<A: LendsActors>(survey: &mut Survey<'_, A>, a: &Actor) -> Option<Draft>
+    ensures value { result ≡ attack_draft survey.old.rules
+        (first_enemy survey.old.rules survey.old.goods.actors survey.old.c) a.now }
+    ensures same { survey.new ≡ survey.old }
 {
-    let kind = rules.get(a.kind)?;
+    let kind = survey.rules().get(a.kind)?;
     if kind.armament.is_none() || a.body.acts.len() > 0 {
         return None;
     }
-    let enemy = first?;
+    let enemy = survey.first_enemy()?;
     Some(Draft::Attack {
         actor: a.id,
         from: a.cell,
@@ -60,49 +61,43 @@ fn attack_draft(rules: &Rules, first: Option<Enemy>, a: &Actor) -> Option<Draft>
 }
 
 /// The draft for an actor, if it gets an order: the first applicable case decides.
-fn draft_for(products: &mut Products<'_>, first: Option<Enemy>, a: &Actor) -> Option<Draft>
-    ensures value { result ≡ draft_for products.old first a.now }
-    ensures same { products.new ≡ products.old }
+fn draft_for<A: LendsActors>(survey: &mut Survey<'_, A>, a: &Actor) -> Option<Draft>
+    ensures value { result ≡ draft_for survey.old a.now }
+    ensures same { survey.new ≡ survey.old }
 {
-    if let Some(order) = produce_draft(products, a) {
+    if let Some(order) = produce_order(survey, a) {
         return Some(Draft::Whole(order));
     }
-    let rules = products.rules();
-    if let Some(order) = harvest_order(rules, a) {
+    if let Some(order) = harvest_order(survey.rules(), a) {
         return Some(Draft::Whole(order));
     }
-    attack_draft(rules, first, a)
+    attack_draft(survey, a)
 }
 
 /// The same, for the client's living actors alone.
-fn own_draft(products: &mut Products<'_>, first: Option<Enemy>, c: u8, a: &Actor) -> Option<Draft>
-    ensures value { result ≡ own_draft products.old first c a.now }
-    ensures same { products.new ≡ products.old }
+fn own_draft<A: LendsActors>(survey: &mut Survey<'_, A>, a: &Actor) -> Option<Draft>
+    ensures value { result ≡ own_draft survey.old a.now }
+    ensures same { survey.new ≡ survey.old }
 {
-    if is_own(c, a) {
-        draft_for(products, first, a)
+    if is_own(survey.client(), a) {
+        draft_for(survey, a)
     } else {
         None
     }
 }
 
-/// The first drafts for these actors, as many as a client can order.
-pub(crate) fn drafts_of<A: LendsActors>(
-    products: &mut Products<'_>,
-    first: Option<Enemy>,
-    c: u8,
-    actors: &A,
-) -> Drafts
-    ensures { result ≡ drafts_of products.old first c (A.actors_of actors.now) }
+/// Adds the first drafts for the actors, as many as a client can order, to no drafts.
+pub(crate) fn draft_all<A: LendsActors>(survey: &mut Survey<'_, A>, drafts: &mut Drafts)
+    requires { drafts.old ≡ [] }
+    ensures { drafts.new ≡ drafts_of survey.old }
 {
-    let mut drafts = Drafts::empty();
+    let actors = survey.actors();
     for i in 0..actors.actor_count() {
         if drafts.is_full() {
-            return drafts;
+            return;
         }
-        drafts.add(own_draft(products, first, c, nth_actor(actors, i)));
+        drafts.add(own_draft(survey, nth_actor(actors, i)));
     }
-    drafts
 }
 
 /// Shows an actor to the drafts, if it is an enemy.
@@ -114,10 +109,13 @@ fn show(rules: &Rules, c: u8, drafts: &mut Drafts, x: &Actor)
     }
 }
 
-/// Shows all these actors to the drafts.
+/// Shows all these actors to the drafts. Where none is to attack, that changes nothing.
 pub(crate) fn show_all<A: LendsActors>(rules: &Rules, c: u8, drafts: &mut Drafts, actors: &A)
     ensures { drafts.new ≡ fold (shown rules.now c) drafts.old (A.actors_of actors.now) }
 {
+    if !drafts.have_attack() {
+        return;
+    }
     for i in 0..actors.actor_count() {
         show(rules, c, drafts, nth_actor(actors, i));
     }

@@ -1,6 +1,7 @@
 ghost use Rattle.std.specs.Prelude.{◌≡◌, ◌<◌, ◌≤◌, ◌↔◌, [], ◌++◌, length, map, option_to_list};
 ghost use Rattle.std.specs.Prelude.{IsTrue};
-ghost use Rattle.bot_player.specs.Drafts.{ordered, seeing};
+ghost use Rattle.std.specs.List.{list_any};
+ghost use Rattle.bot_player.specs.Drafts.{is_attack, ordered, seeing};
 
 use crate::draft::Draft;
 use crate::survey::Enemy;
@@ -65,6 +66,13 @@ impl Drafts {
         if let Some(draft) = draft {
             self.held.push(draft);
         }
+    }
+
+    /// Whether one of them is to attack.
+    pub(crate) fn have_attack(&self) -> bool
+        ensures { result ≡ list_any is_attack self.now }
+    {
+        self.held.as_slice().iter().any(|draft| draft.is_attack())
     }
 
     /// Shows an enemy to all drafts: each attack is on the nearest that was shown.

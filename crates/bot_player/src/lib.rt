@@ -7,9 +7,10 @@
 //!
 //! [`bot_orders`] takes a world. [`bot_orders_from`] takes the cash of the clients and whatever
 //! lends the actors ([`shroud::LendsActors`]), so a game needs no copy of its world. No memory is
-//! taken. The actors are gone over three times: for what the client owns, for its orders but the
-//! targets of attacks, and for these targets, for all attackers at once. What a kind of producer
-//! can produce is looked for once.
+//! taken. The actors are gone over once for the client's orders but the targets of attacks, and
+//! once more for these targets, for all attackers at once, where one is to attack. What the client
+//! can produce and who its first enemy is are looked for where an actor first asks for them, each
+//! by one pass at most. What a kind of producer can produce is looked for once.
 #![tactic(auto)]
 
 mod bot;

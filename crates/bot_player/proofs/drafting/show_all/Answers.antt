@@ -1,8 +1,9 @@
-use Rattle.std.proofs.Common.{ap, ◌∙◌}
+use Rattle.std.proofs.Common.{sym, ap, ◌∙◌}
 use Rattle.std.specs.Prelude.{List}
 use Rattle.game_model.specs.declared.actor.Actor.{Actor}
 use Rattle.bot_player.specs.declared.draft.Draft.{Draft}
 use Rattle.bot_player.specs.Drafts.{shown}
+use Rattle.bot_player.proofs.DraftLemmas.{none_shown}
 use Rattle.bot_player.proofs.ListLemmas.{fold_next}
 use Rattle.bot_player.proofs.drafting.show_all.Goals as goal
 
@@ -13,3 +14,8 @@ loop-i-preserved g c =
     c.show.ensures
     ∙ ap (λ (ds : List Draft). shown c.args.rules.now c.args.c ds a) c.loop-i.invariant
     ∙ fold_next (shown c.args.rules.now c.args.c) c.args.drafts.now actors c.loop-i.i a c.nth_actor.ensures
+
+pub returns-then-not-have_attack : goal.returns-then-not-have_attack
+returns-then-not-have_attack g c =
+    sym (none_shown c.args.rules.now c.args.c (g.A.LendsActors.actors_of c.args.actors.now) c.args.drafts.now
+    (sym c.have_attack.ensures ∙ c.if-not-have_attack.true))
