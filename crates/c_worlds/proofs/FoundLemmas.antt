@@ -4,7 +4,7 @@ use Rattle.std.specs.Prelude.{◌==◌, slice_get}
 use Rattle.game_model.specs.declared.actor.Actor.{Actor}
 use Rattle.game_model.specs.World.{actor_of}
 
--- An element stands in front of those after it.
+-- An element comes before those after it.
 pub dropped : {A : Type 0} (xs : List A) (i : ℕ) (x : A) → slice_get xs i ≡ Some x → drop i xs ≡ x ∷ drop (suc i) xs
 dropped [] i x at = absurd cc
 dropped (y ∷ xs) zero x at = let same : y ≡ x = cc in ap (λ a. a ∷ xs) same
