@@ -1,4 +1,4 @@
-use Rattle.std.proofs.Common.{arith, ◌≡◌, ◌++◌, ◌<◌, ◌≤◌, ◌+◌, ℕ, List, Bool, false, Some, length, map, drop, refl, sym, ap, ◌∙◌}
+use Rattle.std.proofs.Common.{arith, ◌≡◌, ◌<◌, ◌≤◌, ◌+◌, ℕ, List, Bool, false, Some, length, map, refl, sym, ap, ◌∙◌}
 use Rattle.std.specs.Prelude.{slice_index_or, replicate}
 use Rattle.std.proofs.lemmas.Option.{slice_get-get_or}
 use Rattle.game_orders.specs.Order.{flag_number}

@@ -1,4 +1,4 @@
-use Rattle.std.proofs.Common.{arith, ◌≡◌, ◌<◌, ◌≤◌, ◌++◌, ℕ, suc, ◌+◌, ◌*◌, List, length, drop, ap, ap₂, sym, ◌∙◌}
+use Rattle.std.proofs.Common.{arith, ◌≡◌, ◌≤◌, ◌++◌, ℕ, ◌*◌, List, length, drop, ap, ap₂, ◌∙◌}
 use Rattle.c_worlds.specs.Sights.{flags_of}
 use Rattle.c_worlds.proofs.SightLemmas.{flags_length}
 use Rattle.c_worlds.proofs.WriteLemmas.{all_written}
