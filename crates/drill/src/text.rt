@@ -1,4 +1,4 @@
-ghost use Rattle.std.specs.Prelude.{◌≡◌, ◌<◌, ◌≤◌, ◌++◌, List, string_bytes, OnOk, OnErr, length};
+ghost use Rattle.std.specs.Prelude.{◌≡◌, ◌<◌, ◌≤◌, ◌++◌, [], ◌∷◌, List, string_bytes, OnOk, OnErr, length};
 ghost use Rattle.std.specs.Fmt.{decimal};
 ghost use Rattle.drill.specs.Text.{place_text, seal_fault_text};
 ghost use Rattle.drill_words.specs.Hash.{hash_digits, hex_digit, hex_from};
@@ -29,17 +29,29 @@ pub(crate) fn add_outcome_line(
         ≡ string_bytes text.old ++ outcome_line number outcome.now) }
 {
     add_number(text, number)?;
-    text.push_str(" ")?;
+    text.push(' ')?;
     add_outcome(text, outcome)?;
-    text.push_str("\n")
+    text.push('\n')
 }
 
 /// Adds a number, in less time than `write!` takes: there may be a line for each of many events.
 fn add_number(text: &mut String, n: u32) -> Result<(), NoMemory>
     ensures { OnOk result (string_bytes text.new ≡ string_bytes text.old ++ decimal n) }
 {
+    if n < 10 {
+        return text.push(digit_char(n as u8));
+    }
     let mut buffer = Buffer::new();
     text.push_str(buffer.format(n))
+}
+
+/// A decimal digit.
+fn digit_char(digit: u8) -> char
+    requires { digit < 10 }
+    ensures value { result ∷ [] ≡ decimal digit }
+    ensures ascii { result < 128 }
+{
+    char::from(b'0' + digit)
 }
 
 /// Adds a client's frame after a word.
@@ -48,9 +60,9 @@ fn add_place(text: &mut String, word: &str, client: u8, frame: u32) -> Result<()
         ≡ string_bytes text.old ++ place_text word.now client frame) }
 {
     text.push_str(word)?;
-    text.push_str(" ")?;
+    text.push(' ')?;
     add_number(text, u32::from(client))?;
-    text.push_str(" ")?;
+    text.push(' ')?;
     add_number(text, frame)
 }
 
