@@ -336,6 +336,12 @@ uint32_t lockstep_read_items(lockstep_object *any, uint32_t id, lockstep_item *o
 /* The ore of each cell, row by row, 0 to 90. */
 uint32_t lockstep_read_ore(lockstep_object *any, uint8_t *out, size_t places, size_t *needed);
 
+/* Which cells a client sees now, row by row: 1 seen, 0 not. `width`, the columns, is written as
+ * `needed` is. What it has explored is the engine's to keep: what was seen after some frame, or in
+ * the opening world. BAD_ARGUMENT: no such client. It holds up to 1.1 MB until it returns. */
+uint32_t lockstep_seen(lockstep_object *any, uint32_t client, uint32_t *width, uint8_t *out,
+                       size_t places, size_t *needed);
+
 /* ---- Ways and bots: in a world, a peer or a server ---- */
 
 typedef struct {

@@ -196,6 +196,44 @@ static void try_ground(lockstep_object *setup) {
   EQUAL(cells[256], 0x5a);
 }
 
+/* What two clients see: one whose scout sees a cell far, and one without actors. */
+static void try_seen(lockstep_object *setup) {
+  static const char rules[] = "scout:\n\tRevealsShroud:\n\t\tRange: 1c0\n";
+  static const char map[] = "Size: 4,3\nActors:\n\ta1: scout\n\t\tOwner: 0\n\t\tLocation: 1,0\n";
+  static const uint8_t sight[12] = {1, 1, 1, 0, 0, 1, 0, 0, 0, 0, 0, 0};
+  lockstep_object own = LOCKSTEP_EMPTY, world = LOCKSTEP_EMPTY;
+  lockstep_fault at = {0, 0, 0};
+  uint8_t cells[13];
+  uint32_t width = 9;
+  size_t needed = 9;
+  uint64_t before;
+  WANT(LOCKSTEP_WRONG_OBJECT, lockstep_seen(&world, 0, &width, cells, 12, &needed));
+  WANT(LOCKSTEP_WRONG_OBJECT, lockstep_seen(setup, 0, &width, cells, 12, &needed));
+  MUST(lockstep_setup_create(&own));
+  MUST(lockstep_setup_add(&own, LOCKSTEP_RULES, (const uint8_t *)rules, sizeof rules - 1));
+  MUST(lockstep_setup_add(&own, LOCKSTEP_MAP, (const uint8_t *)map, sizeof map - 1));
+  MUST(lockstep_setup_read(&own, &at));
+  MUST(lockstep_world_create(&world, &own, 1, 2));
+  before = hash_of(&world);
+  WANT(LOCKSTEP_BAD_ARGUMENT, lockstep_seen(&world, 2, &width, cells, 12, &needed));
+  WANT(LOCKSTEP_BAD_ARGUMENT, lockstep_seen(&world, 256, &width, cells, 12, &needed));
+  EQUAL(width, 9);
+  EQUAL(needed, 9);
+  memset(cells, 0x5a, sizeof cells);
+  WANT(LOCKSTEP_NO_ROOM, lockstep_seen(&world, 0, &width, cells, 11, &needed));
+  EQUAL(width, 4);
+  EQUAL(needed, 12);
+  EQUAL(cells[0], 0x5a);
+  WANT(LOCKSTEP_OK, lockstep_seen(&world, 0, &width, cells, 13, &needed));
+  EQUAL(memcmp(cells, sight, 12), 0);
+  EQUAL(cells[12], 0x5a);
+  WANT(LOCKSTEP_OK, lockstep_seen(&world, 1, &width, cells, 12, &needed));
+  for (int i = 0; i < 12; i++) EQUAL(cells[i], 0);
+  EQUAL(hash_of(&world), before);
+  let_go(&world);
+  let_go(&own);
+}
+
 /* What the actors of a world are to do after an order of each kind. */
 static void try_items(lockstep_object *setup) {
   lockstep_object world = LOCKSTEP_EMPTY;
@@ -528,6 +566,7 @@ int main(int argc, char **argv) {
   setup = sample();
   try_kinds(&setup);
   try_ground(&setup);
+  try_seen(&setup);
   try_items(&setup);
   try_ways(&setup);
   try_bot(&setup);

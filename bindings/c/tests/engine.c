@@ -6,6 +6,7 @@
  *   local --script FILE [--bots N] [--map FILE] [RULES]
  *   replay --file FILE [--map FILE] [RULES]
  *   worlds --file FILE [--from N] [--to N] [--every N] [--map FILE] [RULES]
+ *   view --file FILE --client N [--map FILE] [RULES]
  *   check [--map FILE] RULES
  *   route --map FILE --kind NAME --from X,Y --to X,Y RULES
  *
@@ -172,6 +173,7 @@ static request read_request(int count, char **list) {
     else if (!strcmp(option, "--every")) it.every = number_in(value);
     else if (!strcmp(option, "--record")) it.record = value;
     else if (!strcmp(option, "--kind")) it.kind = value;
+    else if (!strcmp(option, "--client")) it.client = value;
     else if (!strcmp(option, "--bots")) it.bots = number_in(value);
     else die("no option %s", option);
     if (value != list[i]) value[-1] = '=';
@@ -328,6 +330,52 @@ static int answer_worlds(request *it, lockstep_object *setup, FILE *out) {
   return 0;
 }
 
+/* ---- view ---- */
+
+/* Adds what a client sees of a world to what is shown of each cell: `o` where it sees it now, `.`
+ * where it did before. */
+static void look(lockstep_object *world, uint32_t client, uint8_t *shown) {
+  static uint8_t seen[128 * 128];
+  lockstep_head head = head_of(world);
+  uint32_t width = 0, all = head.width * head.height;
+  size_t cells = 0;
+  if (ASK(lockstep_seen(world, client, &width, seen, all - 1, &cells)) != LOCKSTEP_NO_ROOM)
+    die("seen: code %u where there is no room", last_code());
+  MUST(lockstep_seen(world, client, &width, seen, sizeof seen, &cells));
+  if (width != head.width || cells != all) die("seen: %zu cells in rows of %u", cells, width);
+  for (uint32_t i = 0; i < all; i++) {
+    if (seen[i]) shown[i] = 'o';
+    else if (shown[i] == 'o') shown[i] = '.';
+  }
+  if (head_of(world).hash != head.hash) die("seen changes the world");
+}
+
+static int answer_view(request *it, lockstep_object *setup, FILE *out) {
+  uint8_t shown[128 * 128], tag;
+  replay file = open_replay(it->file);
+  lockstep_object world = open_world(&file, setup);
+  uint32_t client = number_in(it->client);
+  lockstep_head head;
+  memset(shown, '#', sizeof shown);
+  look(&world, client, shown);
+  while ((tag = next_part(&file)) != 0) {
+    if (tag == 2) {
+      file.at += 8;
+      continue;
+    }
+    step_frame(&file, &world);
+    look(&world, client, shown);
+  }
+  head = head_of(&world);
+  fprintf(out, "view %u frames %u\n", client, head.frames);
+  for (uint32_t y = 0; y < head.height; y++)
+    fprintf(out, "%.*s\n", (int)head.width, (char *)shown + y * head.width);
+  fprintf(out, "end\n");
+  let_go(&world);
+  free(file.file.bytes);
+  return 0;
+}
+
 /* ---- check ---- */
 
 static void print_traits(lockstep_object *setup, FILE *out) {
@@ -416,6 +464,7 @@ static const struct {
                 {"local", answer_local},
                 {"replay", answer_replay},
                 {"worlds", answer_worlds},
+                {"view", answer_view},
                 {"check", answer_check},
                 {"route", answer_route}};
 

@@ -39,7 +39,7 @@ void print_summary(lockstep_object *any, FILE *out);
 #define MOST_RULES 64
 
 typedef struct {
-  const char *map, *script, *file, *from, *to, *record, *kind;
+  const char *map, *script, *file, *from, *to, *record, *kind, *client;
   uint32_t every, bots;
   char *rules[MOST_RULES];
   int count;

@@ -10,7 +10,7 @@ from concurrent.futures import ThreadPoolExecutor
 HERE = os.path.dirname(os.path.abspath(__file__))
 TOP = os.path.dirname(os.path.dirname(os.path.dirname(HERE)))
 
-COMMANDS = ('drill', 'local', 'replay', 'worlds', 'check', 'route')
+COMMANDS = ('drill', 'local', 'replay', 'worlds', 'view', 'check', 'route')
 CAUSES = {'NotUtf8', 'BadIndent', 'TooDeep', 'LineTooLong', 'TooManyLines', 'NoParent', 'Cycle', 'NothingToRemove',
           'TooLarge', 'BadValue', 'OutOfRange', 'MissingField', 'UnknownKindName', 'TooManyKinds', 'BadField', 'BadRow',
           'UnknownTerrain', 'UnknownKind', 'CellTaken', 'BadOwner', 'TooManyActors'}

@@ -13,6 +13,7 @@ LIBRARY = f'{TOP}/bindings/c/out/liblockstep.a'
 SHARED = f'{TOP}/bindings/c/out/liblockstep.so'
 SAMPLE = f'{TOP}/examples/maps/sample.map', f'{TOP}/examples/maps/sample.yaml'
 BATTLE = f'{TOP}/examples/battle/map', f'{TOP}/examples/battle/rules.yaml'
+SCOUT = f'{TOP}/examples/scout/map', f'{TOP}/examples/scout/rules.yaml'
 
 STRICT = '-Wall -Wextra -Wpedantic -Werror'
 WRAPPED = '-Wl,--wrap=malloc,--wrap=realloc,--wrap=free'
@@ -134,9 +135,10 @@ class Library:
             it.write(random_drill(3, 60 if self.is_long else 6))
         call([self.program, 'drill', '--script', script, '--record', record, '--map', *SAMPLE])
         battle = f'{TOP}/examples/battle/battle.replay'
+        scout = f'{TOP}/examples/scout/scout.replay'
         for words in (['drill', '--script', script, '--map', *SAMPLE],
                       ['worlds', '--file', battle, '--map', *BATTLE], ['worlds', '--file', record, '--map', *SAMPLE],
-                      ['check', '--map', *SAMPLE]):
+                      ['view', '--file', scout, '--client', '0', '--map', *SCOUT], ['check', '--map', *SAMPLE]):
             want = call([self.program, *words])
             status, out, said = call([engine, '--refuse', *words], seconds=PATIENCE * 60)
             same = (status, out) == (want[0], recorded.as_engine(words[0], want[1]))

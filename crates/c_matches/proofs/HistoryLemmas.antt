@@ -1,5 +1,5 @@
 -- What stays so of a peer and of a server by each call.
-use Rattle.std.proofs.Common.{◌≡◌, ◌<◌, ℕ, List, [], ◌∷◌, Bool, true, false, Option, Some, None, length, refl, sym, ◌∙◌, subst}
+use Rattle.std.proofs.Common.{◌≡◌, ℕ, List, [], ◌∷◌, Bool, true, false, Option, Some, None, length, refl}
 use Rattle.std.specs.Prelude.{nat_lt, if◌then◌else◌}
 use Rattle.std.specs.List.{AllByRecursion}
 use Rattle.game_orders.specs.declared.entry.Entry as entries
@@ -10,7 +10,7 @@ use Rattle.order_packets.specs.declared.down.Down.TheVariants.{Welcome, Refused,
 use Rattle.order_packets.specs.declared.up.Up.{Up}
 use Rattle.peer_core.specs.Faithful.{IsFaithful}
 use Rattle.peer_core.specs.FaithfulLemmas.{fresh_faithful, deliver_faithful, seal_faithful, tick_faithful}
-use Rattle.peer_core.specs.Peer.{delivered_peer, ticked_peer}
+use Rattle.peer_core.specs.Peer.{delivered_peer}
 use Rattle.server_core.specs.Server.{after_drop}
 use Rattle.server_core.specs.Served.{IsServed}
 use Rattle.server_core.specs.ServedLemmas.{fresh_is_served, packet_is_served, drop_is_served, tick_is_served}
@@ -19,8 +19,8 @@ use Rattle.tick_core.specs.Game.{GameState, game_start, game_after}
 use Rattle.c_matches.specs.Histories.{PeerCall, Deliver, Seal, Tick, peer_after, peer_after_all, IsAgreed, PeersAgree}
 use Rattle.c_matches.specs.Histories.{ServerCall, Take, Drop, TickServer, server_after, server_after_all, match_of, ServersAgree}
 use Rattle.c_matches.specs.Packets.{down_in, orders_in, up_in}
-use Rattle.c_matches.specs.Peers.{GamePeer, opening_peer, down_delivered, entry_delivered, sealed}
-use Rattle.c_matches.specs.Servers.{GameServer, fresh_of, packet_taken, up_after, drop_after}
+use Rattle.c_matches.specs.Peers.{GamePeer, opening_peer, down_delivered, sealed}
+use Rattle.c_matches.specs.Servers.{GameServer, fresh_of, packet_taken}
 
 -- Faithful, and of so many clients.
 abbrev pub Stays : GameState → List Column → GamePeer → Type 0

@@ -27,7 +27,7 @@ use Rattle.c_objects.specs.declared.code.TheConstants.{NONE}
 use Rattle.c_worlds.specs.declared.routes.CCell.{CCell}
 use Rattle.c_worlds.specs.declared.routes.CRoute.{CRoute}
 use Rattle.c_worlds.specs.declared.routes.RouteAsk.{RouteAsk}
-use Rattle.c_worlds.specs.Routes.{TellsWay, c_cell_of, c_route_of, has_ground, outs, told_by}
+use Rattle.c_worlds.specs.Routes.{TellsWay, c_cell_of, c_route_of, has_ground, outs}
 use Rattle.c_worlds.specs.Told.{room_code, written}
 
 -- An actor of a valid world stands on the map.

@@ -1,7 +1,9 @@
 -- Values that are written over the beginning of a list, one by one.
-use Rattle.std.proofs.Common.{arith, ◌≡◌, ℕ, zero, suc, ◌+◌, ◌<◌, ◌≤◌, List, [], ◌∷◌, ◌++◌, map, take, drop, length, Option, None, Some, refl, ap, sym, ◌∙◌}
+use Rattle.std.proofs.Common.{arith, ◌≡◌, ℕ, zero, suc, ◌+◌, ◌<◌, Bool, true, false, List, [], ◌∷◌, ◌++◌, map, take, drop, length, None, Some, refl, ap, sym, ◌∙◌}
 use Rattle.std.specs.Prelude.{slice_get, slice_set}
 use Rattle.std.specs.List.{range_with_len}
+use mir.Val.{bool_byte}
+use Rattle.game_orders.specs.Order.{flag_number}
 
 -- A map has as many elements.
 pub counted : {A B : Type 0} (f : A → B) (xs : List A) → length (map f xs) ≡ length xs
@@ -77,3 +79,8 @@ behind f g [] ys i k y is at =
     let same : i ≡ k = omega (arith, is) in ap (slice_get (map g ys)) same ∙ mapped g ys k y at
 behind f g (x ∷ xs) ys zero k y is at = absurd (omega (arith, is))
 behind f g (x ∷ xs) ys (suc i) k y is at = behind f g xs ys i k y (omega (arith, is)) at
+
+-- The byte of a flag.
+pub byte_is : (flag : Bool) → bool_byte flag ≡ flag_number flag
+byte_is true = refl
+byte_is false = refl

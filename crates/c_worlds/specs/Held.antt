@@ -1,5 +1,5 @@
 -- What objects hold, by kind.
-use Rattle.std.specs.Prelude.{ℕ, Option, None, Some, Result, Ok, Err}
+use Rattle.std.specs.Prelude.{ℕ, Option, None, Some, Result, Err}
 use Rattle.tick_core.specs.Game.{GameState}
 use Rattle.setup_files.specs.declared.making.Made.{Made}
 use Rattle.c_objects.specs.declared.code.TheConstants.{WRONG_OBJECT}

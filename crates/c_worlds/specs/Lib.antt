@@ -7,5 +7,6 @@ pub mod Items
 pub mod Kinds
 pub mod Routes
 pub mod Setups
+pub mod Sights
 pub mod Told
 pub mod Worlds

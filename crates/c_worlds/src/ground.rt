@@ -27,7 +27,7 @@ fn number_of(terrain: Terrain) -> u8
 
 /// The cell at a place in the list of all cells of a map of this size, row by row.
 #[tactic(auto, using(crate::proofs::GroundLemmas::cell_steps))]
-fn cell_at(width: u8, height: u8, place: usize) -> CPos
+pub(crate) fn cell_at(width: u8, height: u8, place: usize) -> CPos
     requires { place < width * height }
     ensures column { result.x < width }
     ensures row { result.y < height }

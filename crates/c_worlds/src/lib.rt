@@ -18,6 +18,7 @@ mod ore;
 mod room;
 mod routes;
 mod setups;
+mod sights;
 mod worlds;
 
 pub use actors::{CActor, read_actors};
@@ -30,4 +31,5 @@ pub use kinds::{CKind, setup_kind, setup_kind_name};
 pub use ore::read_ore;
 pub use routes::{CCell, CRoute, RouteAsk, find_route};
 pub use setups::{MAP, RULES, setup_add, setup_create, setup_read, setup_share};
+pub use sights::seen;
 pub use worlds::{read_frame, world_create, world_step};

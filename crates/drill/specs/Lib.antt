@@ -1,4 +1,5 @@
 pub mod Entering
+pub mod PacketView
 pub mod Text
 pub mod Record
 pub mod Shown

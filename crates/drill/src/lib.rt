@@ -26,11 +26,13 @@ mod made_orders;
 mod made_round;
 mod opening;
 mod outcome;
+mod packet_view;
 mod peers;
 mod run;
 mod run_fault;
 mod running_match;
 mod sent;
+mod sent_view;
 mod text;
 
 pub use adding::{add_alarms, add_columns, add_hash, add_world};

@@ -35,13 +35,13 @@ fn open_peers<M: Maker>(
 }
 
 /// The running match of 1 to `MAX_CLIENTS` clients before its first event.
-pub(crate) fn open<M: Maker>(
+pub(crate) fn open<'a, M: Maker>(
     alloc: Global,
     maker: &M,
     seed: u32,
     clients: u8,
     lag: u8,
-) -> Result<RunningMatch<M::World>, NoMemory>
+) -> Result<RunningMatch<'a, M::World>, NoMemory>
     requires least { 1 ≤ clients }
     requires most { clients ≤ MAX_CLIENTS }
     requires least_lag { 1 ≤ lag }

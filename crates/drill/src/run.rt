@@ -76,9 +76,9 @@ pub fn run_without_report<M: Maker>(
 }
 
 /// Runs all events, and takes their lines.
-fn run_events<W: Sim, K: Sink, L: EventLines<K>>(
-    run: &mut RunningMatch<W>,
-    events: &EventList,
+fn run_events<'a, W: Sim, K: Sink, L: EventLines<K>>(
+    run: &mut RunningMatch<'a, W>,
+    events: &'a EventList,
     lines: &mut L,
     out: &mut K,
 ) -> Result<(), RunFault>
@@ -104,10 +104,10 @@ fn run_events<W: Sim, K: Sink, L: EventLines<K>>(
 }
 
 /// Runs an event, and takes its line.
-fn take_event<W: Sim, K: Sink, L: EventLines<K>>(
-    run: &mut RunningMatch<W>,
+fn take_event<'a, W: Sim, K: Sink, L: EventLines<K>>(
+    run: &mut RunningMatch<'a, W>,
     number: u32,
-    event: EventView<'_>,
+    event: EventView<'a>,
     lines: &mut L,
     out: &mut K,
 ) -> Result<(), RunFault>

@@ -1,6 +1,5 @@
 //! A match that runs: its packets, its server and its peers, and what each event does to them.
 ghost use Rattle.std.specs.Prelude.{◌≡◌, ◌<◌, ◌≤◌, true, slice_get, length};
-ghost use Rattle.std.specs.Option.{option_copied};
 ghost use Rattle.drill_words.specs.Event.{event_fits};
 ghost use Rattle.drill_words.specs.EventView.{event_of};
 ghost use Rattle.drill.specs.RunningMatch.{packet_frame, answer_outcome, receipt_outcome};
@@ -9,8 +8,10 @@ ghost use Rattle.drill.specs.RunningMatch.{match_from, IsWhole, RunsEvent};
 use crate::drilled::Drilled;
 use crate::entering::entering_of;
 use crate::outcome::Outcome;
+use crate::packet_view::PacketView;
 use crate::peers::Peers;
 use crate::sent::Sent;
+use crate::sent_view::SentView;
 use base::NoMemory;
 use drill_words::{Event, EventView, SealOrders};
 use frame_core::Sim;
@@ -20,22 +21,23 @@ use peer_core::{Peer, Receipt};
 use server_core::{Server, UpAnswer};
 use std::marker::Model;
 
-/// The server and the peers of a match, and the packets that were sent up.
+/// The server and the peers of a match, and the packets that were sent up, whose orders the list of
+/// the events lends.
 #[derive(Drop)]
-pub(crate) struct RunningMatch<W: Sim> {
+pub(crate) struct RunningMatch<'a, W: Sim> {
     /// The number of clients.
     pub(crate) clients: u8,
     /// How far a peer may seal ahead.
     pub(crate) lag: u8,
     /// The packets that were sent up, in order.
-    pub(crate) sent: Vec<Sent>,
+    pub(crate) sent: Vec<SentView<'a>>,
     /// The server.
     pub(crate) server: Server<W>,
     /// The peers, by rising number.
     pub(crate) peers: Vec<Peer<W>>,
 }
 
-impl<W: Sim> Model for RunningMatch<W> {
+impl<'a, W: Sim> Model for RunningMatch<'a, W> {
     ghost use Rattle.drill.specs.RunningMatch.{RunState};
 
     ghost Value = { RunState W };
@@ -49,9 +51,9 @@ impl<W: Sim> Model for RunningMatch<W> {
     } };
 }
 
-impl<W: Sim> RunningMatch<W> {
+impl<'a, W: Sim> RunningMatch<'a, W> {
     /// Runs an event. `Err` where it is out of memory; the match must not be used then.
-    pub(crate) fn run_event(&mut self, event: EventView<'_>) -> Result<Outcome, NoMemory>
+    pub(crate) fn run_event(&mut self, event: EventView<'a>) -> Result<Outcome, NoMemory>
         requires whole { IsWhole self.old }
         requires fits { event_fits self.old.clients (event_of event) ≡ true }
         ensures clients { self.new.clients ≡ self.old.clients }
@@ -60,7 +62,7 @@ impl<W: Sim> RunningMatch<W> {
             (event_of event.entry) self.old self.new result }
     {
         match event {
-            EventView::Seal { peer, orders } => self.seal(peer, &orders),
+            EventView::Seal { peer, orders } => self.seal(peer, orders),
             EventView::Up { packet } => self.up(packet),
             EventView::Down {
                 peer,
@@ -81,22 +83,19 @@ impl<W: Sim> RunningMatch<W> {
     }
 
     /// Peer `p` seals its next frame with these orders, and its packet is sent up.
-    fn seal(&mut self, p: u8, orders: &SealOrders<'_>) -> Result<Outcome, NoMemory>
+    fn seal(&mut self, p: u8, orders: SealOrders<'a>) -> Result<Outcome, NoMemory>
         requires whole { IsWhole self.old }
         requires own { p < self.old.clients }
         ensures clients { self.new.clients ≡ self.old.clients }
         ensures lag { self.new.lag ≡ self.old.lag }
         ensures runs { RunsEvent (match_from W.after W.hash_of W.summary_of self.old)
-            (Event.Seal p orders.now) self.old self.new result }
+            (Event.Seal p orders.entry) self.old self.new result }
     {
         let peer = &mut self.peers[p as usize];
         match peer.seal() {
             Ok(frame) => {
-                let packet = Up::Orders {
-                    frame,
-                    orders: orders.copy(),
-                };
-                self.sent.push(Sent { client: p, packet })?;
+                let packet = PacketView::Orders { frame, orders };
+                self.sent.push(SentView::of(p, packet))?;
                 Ok(Outcome::Sealed(frame))
             }
             Err(fault) => Ok(Outcome::NotSealed(fault)),
@@ -188,11 +187,11 @@ impl<W: Sim> RunningMatch<W> {
         let Some(report) = self.peers[p as usize].report() else {
             return Ok(Outcome::NoFrame);
         };
-        let packet = Up::Sync {
+        let packet = PacketView::Sync {
             frame: report.frame,
             hash: report.hash,
         };
-        self.sent.push(Sent { client: p, packet })?;
+        self.sent.push(SentView::of(p, packet))?;
         Ok(Outcome::ReportSent(report.frame))
     }
 
@@ -205,8 +204,8 @@ impl<W: Sim> RunningMatch<W> {
         ensures runs { RunsEvent (match_from W.after W.hash_of W.summary_of self.old)
             (Event.Forge c n hash) self.old self.new result }
     {
-        let packet = Up::Sync { frame: n, hash };
-        self.sent.push(Sent { client: c, packet })?;
+        let packet = PacketView::Sync { frame: n, hash };
+        self.sent.push(SentView::of(c, packet))?;
         Ok(Outcome::ReportSent(n))
     }
 
@@ -219,16 +218,15 @@ impl<W: Sim> RunningMatch<W> {
         ensures runs { RunsEvent (match_from W.after W.hash_of W.summary_of self.old)
             (Event.Bye p) self.old self.new result }
     {
-        let packet = Up::Bye;
-        self.sent.push(Sent { client: p, packet })?;
+        self.sent.push(SentView::of(p, PacketView::Bye))?;
         Ok(Outcome::ByeSent)
     }
 
     /// The server and the peers, at most `MAX_CLIENTS`.
     pub(crate) fn into_drilled(self) -> Drilled<W>
         requires { length self.peers ≤ MAX_CLIENTS }
-        ensures server { result.server ≡ self.server }
-        ensures peers { result.peers ≡ self.peers }
+        ensures server { result.server ≡ self.entry.server }
+        ensures peers { result.peers ≡ self.entry.peers }
     {
         let RunningMatch { server, peers, .. } = self;
         Drilled {
@@ -239,10 +237,13 @@ impl<W: Sim> RunningMatch<W> {
 }
 
 /// The packet of this number.
-fn sent_at(sent: &[Sent], number: u32) -> Option<&Sent>
-    ensures { option_copied result ≡ slice_get sent.now number }
+fn sent_at(sent: &[SentView<'_>], number: u32) -> Option<Sent>
+    ensures { result ≡ slice_get sent.now number }
 {
-    sent.get(number as usize)
+    match sent.get(number as usize) {
+        Some(view) => Some(view.sent()),
+        None => None,
+    }
 }
 
 /// The outcome of a packet of client `client` that the server answered so.

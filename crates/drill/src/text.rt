@@ -1,4 +1,5 @@
-ghost use Rattle.std.specs.Prelude.{◌≡◌, ◌<◌, ◌≤◌, ◌++◌, List, string_bytes, OnOk, OnErr, length};
+ghost use Rattle.std.specs.Prelude.{◌≡◌, ◌<◌, ◌≤◌, ◌++◌, [], ◌∷◌, List, string_bytes, OnOk, OnErr, length};
+ghost use Rattle.std.specs.Fmt.{decimal};
 ghost use Rattle.drill.specs.Text.{place_text, seal_fault_text};
 ghost use Rattle.drill_words.specs.Hash.{hash_digits, hex_digit, hex_from};
 ghost use Rattle.drill.specs.Text.{entering_text};
@@ -12,6 +13,7 @@ use crate::outcome::Outcome;
 use base::NoMemory;
 use drill_words::HASH_DIGITS;
 use frame_core::{Leaving, Sim, TickAnswer};
+use itoa::Buffer;
 use peer_core::SealFault;
 use server_core::{Alarm, Reported};
 use std::fmt::Write;
@@ -26,9 +28,42 @@ pub(crate) fn add_outcome_line(
     ensures { OnOk result (string_bytes text.new
         ≡ string_bytes text.old ++ outcome_line number outcome.now) }
 {
-    write!(text, "{number} ")?;
+    add_number(text, number)?;
+    text.push(' ')?;
     add_outcome(text, outcome)?;
-    writeln!(text)
+    text.push('\n')
+}
+
+/// Adds a number, in less time than `write!` takes: there may be a line for each of many events.
+fn add_number(text: &mut String, n: u32) -> Result<(), NoMemory>
+    ensures { OnOk result (string_bytes text.new ≡ string_bytes text.old ++ decimal n) }
+{
+    if n < 10 {
+        return text.push(digit_char(n as u8));
+    }
+    let mut buffer = Buffer::new();
+    text.push_str(buffer.format(n))
+}
+
+/// A decimal digit.
+fn digit_char(digit: u8) -> char
+    requires { digit < 10 }
+    ensures value { result ∷ [] ≡ decimal digit }
+    ensures ascii { result < 128 }
+{
+    char::from(b'0' + digit)
+}
+
+/// Adds a client's frame after a word.
+fn add_place(text: &mut String, word: &str, client: u8, frame: u32) -> Result<(), NoMemory>
+    ensures { OnOk result (string_bytes text.new
+        ≡ string_bytes text.old ++ place_text word.now client frame) }
+{
+    text.push_str(word)?;
+    text.push(' ')?;
+    add_number(text, u32::from(client))?;
+    text.push(' ')?;
+    add_number(text, frame)
 }
 
 /// Adds the result of an event.
@@ -37,7 +72,10 @@ fn add_outcome(text: &mut String, outcome: &Outcome) -> Result<(), NoMemory>
         ≡ string_bytes text.old ++ outcome_text outcome.now) }
 {
     match outcome {
-        Outcome::Sealed(frame) => write!(text, "sealed {frame}"),
+        Outcome::Sealed(frame) => {
+            text.push_str("sealed ")?;
+            add_number(text, *frame)
+        }
         Outcome::NotSealed(fault) => add_seal_fault(text, fault),
         Outcome::NoPacket => write!(text, "no packet"),
         Outcome::Entered {
@@ -52,8 +90,8 @@ fn add_outcome(text: &mut String, outcome: &Outcome) -> Result<(), NoMemory>
         } => add_reported(text, *client, *frame, reported),
         Outcome::Leaves { client, leaving } => add_leaving(text, *client, leaving),
         Outcome::NoEntry => write!(text, "no entry"),
-        Outcome::Arrived { client, frame } => write!(text, "kept {client} {frame}"),
-        Outcome::Repeated { client, frame } => write!(text, "repeat {client} {frame}"),
+        Outcome::Arrived { client, frame } => add_place(text, "kept", *client, *frame),
+        Outcome::Repeated { client, frame } => add_place(text, "repeat", *client, *frame),
         Outcome::Ticking(answer) => add_tick(text, answer),
         Outcome::ReportSent(frame) => write!(text, "sent {frame}"),
         Outcome::NoFrame => write!(text, "no frame"),
@@ -84,8 +122,8 @@ fn add_entering(
         ≡ string_bytes text.old ++ entering_text client frame entering) }
 {
     match entering {
-        Entering::Fixed => write!(text, "entry {client} {frame}"),
-        Entering::Repeat => write!(text, "repeat {client} {frame}"),
+        Entering::Fixed => add_place(text, "entry", client, frame),
+        Entering::Repeat => add_place(text, "repeat", client, frame),
         Entering::Conflict => write!(text, "conflict {client} {frame}"),
         Entering::Left(at) => write!(text, "left {client} {at}"),
         Entering::Ahead(length) => write!(text, "ahead {client} {frame} {length}"),
@@ -126,7 +164,10 @@ fn add_tick(text: &mut String, answer: &TickAnswer) -> Result<(), NoMemory>
     ensures { OnOk result (string_bytes text.new ≡ string_bytes text.old ++ tick_text answer.now) }
 {
     match answer {
-        TickAnswer::Ticked(frame) => write!(text, "ticked {frame}"),
+        TickAnswer::Ticked(frame) => {
+            text.push_str("ticked ")?;
+            add_number(text, *frame)
+        }
         TickAnswer::NotYet(client) => write!(text, "not yet {client}"),
         TickAnswer::Over => write!(text, "over"),
     }

@@ -4,8 +4,9 @@ use tick_core::Game;
 
 /// The actors of a game, as it lends them.
 #[derive(Drop)]
-pub(crate) struct GameActors<'a> {
-    pub(crate) game: &'a Game,
+pub struct GameActors<'a> {
+    /// The game.
+    pub game: &'a Game,
 }
 
 impl<'a> LendsActors for GameActors<'a> {

@@ -16,6 +16,7 @@ ghost use Rattle.c_worlds.specs.Routes.{TellsRoute, outs};
 ghost use Rattle.c_worlds.specs.Setups.{add_code, added, create_code as setup_code};
 ghost use Rattle.c_worlds.specs.Setups.{created as setup_created, read_after, read_answer, read_at};
 ghost use Rattle.c_worlds.specs.Setups.{share_code, shared};
+ghost use Rattle.c_worlds.specs.Sights.{columns_told, seen_told};
 ghost use Rattle.c_worlds.specs.Told.{list_code, list_needed, list_out, one_code, one_out};
 ghost use Rattle.c_worlds.specs.Worlds.{create_code, created, ore_told, step_code, stepped};
 
@@ -260,6 +261,35 @@ pub extern "C" fn lockstep_read_ore(
     ensures stays { object.new.held.held ≡ object.old.held.held }
 {
     c_worlds::read_ore(object, alloc, out, needed)
+}
+
+/// Which cells a client sees now in a world, a peer or a server: row by row 1 where it sees the
+/// cell, 0 where not, how many cells there are, and how many a row has. What it has seen before is
+/// not told. `BAD_ARGUMENT` where the match has no such client. `NO_ROOM` where the array is too
+/// short: then only these numbers are written.
+#[unsafe(no_mangle)]
+pub extern "C" fn lockstep_seen(
+    object: &mut Object,
+    alloc: Global,
+    client: u32,
+    width: &mut u32,
+    out: &mut [u8],
+    needed: &mut usize,
+) -> u32
+    ensures code { result ≢ NO_MEMORY → result
+        ≡ list_code (told_of (game_in object.old.held.held) (seen_told client)) (length out.old) }
+    ensures width { result ≢ NO_MEMORY → width.new
+        ≡ one_out (told_of (game_in object.old.held.held) (columns_told client)) width.old }
+    ensures out { result ≢ NO_MEMORY → out.new
+        ≡ list_out (told_of (game_in object.old.held.held) (seen_told client)) out.old }
+    ensures needed { result ≢ NO_MEMORY → needed.new
+        ≡ list_needed (told_of (game_in object.old.held.held) (seen_told client)) needed.old }
+    ensures same_width { result ≡ NO_MEMORY → width.new ≡ width.old }
+    ensures same_out { result ≡ NO_MEMORY → out.new ≡ out.old }
+    ensures same_needed { result ≡ NO_MEMORY → needed.new ≡ needed.old }
+    ensures stays { object.new.held.held ≡ object.old.held.held }
+{
+    c_worlds::seen(object, alloc, client, width, out, needed)
 }
 
 /// The way of least cost that an actor of a kind would begin now in a world, a peer or a server:

@@ -28,6 +28,7 @@ enum Call {
     ReadActors(usize),
     ReadItems(u32, usize),
     ReadOre(usize),
+    Seen(u32, usize),
     FindRoute(u32, u32, usize),
     Bot(u32),
     Hello,
@@ -53,12 +54,13 @@ enum Call {
 /// A call, its bytes, the code that it answers, and what it tells: 9 for nothing.
 type Row = (Call, &'static [u8], u32, u64);
 
-const RULES: &[u8] = b"jeep:\n\tMobile:\n\t\tSpeed: 128\n\t\tTurnSpeed: 64\n";
+const RULES: &[u8] =
+    b"jeep:\n\tMobile:\n\t\tSpeed: 128\n\t\tTurnSpeed: 64\n\tRevealsShroud:\n\t\tRange: 1c0\n";
 
 const MAP: &[u8] = b"Size: 3,2\nActors:\n\ta1: jeep\n\t\tOwner: 0\n\t\tLocation: 0,0\n";
 
 /// A setup, and a world of two clients.
-static WORLDS: [Row; 45] = [
+static WORLDS: [Row; 49] = [
     (C::Abi, b"", 1, 9),
     (C::SetupAdd(0), RULES, WRONG_OBJECT, 9),
     (C::SetupCreate, b"", OK, 9),
@@ -101,6 +103,11 @@ static WORLDS: [Row; 45] = [
     (C::ReadItems(2, 2), b"", NONE, 9),
     (C::ReadOre(6), b"", OK, 6),
     (C::ReadOre(5), b"", NO_ROOM, 6),
+    // It still turns at 0,0, and sees the cells to the east and the south.
+    (C::Seen(0, 6), b"", OK, 30652),
+    (C::Seen(1, 6), b"", OK, 30600),
+    (C::Seen(0, 5), b"", NO_ROOM, 30600),
+    (C::Seen(2, 6), b"", BAD_ARGUMENT, 900),
     // A step aslant for 14, and one to the east for 10.
     (C::FindRoute(0, 2, 9), b"", OK, 243),
     (C::FindRoute(0, 2, 2), b"", NO_ROOM, 243),
@@ -189,7 +196,7 @@ static MATCHES: [Row; 56] = [
 ];
 
 /// Without objects, and a fault of rules.
-static NOTHING: [Row; 30] = [
+static NOTHING: [Row; 31] = [
     (C::SetupAdd(0), RULES, WRONG_OBJECT, 9),
     (C::SetupRead, b"", WRONG_OBJECT, 9),
     (C::SetupKind(0), b"", WRONG_OBJECT, 9),
@@ -201,6 +208,7 @@ static NOTHING: [Row; 30] = [
     (C::ReadActors(1), b"", WRONG_OBJECT, 9),
     (C::ReadItems(1, 1), b"", WRONG_OBJECT, 9),
     (C::ReadOre(6), b"", WRONG_OBJECT, 9),
+    (C::Seen(0, 6), b"", WRONG_OBJECT, 900),
     (C::FindRoute(0, 2, 9), b"", WRONG_OBJECT, 9),
     (C::Bot(0), b"", WRONG_OBJECT, 9),
     (C::Hello, b"", WRONG_OBJECT, 9),
@@ -314,6 +322,15 @@ fn joined(first: u32, times: u64, count: usize) -> u64 {
     u64::from(first)
         .wrapping_mul(times)
         .wrapping_add(wide(count))
+}
+
+/// Bytes of 0 and 1 as a binary number.
+fn binary(bytes: &[u8]) -> u64 {
+    let mut number: u64 = 0;
+    for byte in bytes {
+        number = number.wrapping_mul(2).wrapping_add(u64::from(*byte));
+    }
+    number
 }
 
 /// So many bytes.
@@ -443,6 +460,24 @@ impl Desk {
             &mut needed,
         );
         self.told = wide(needed);
+        Ok(code)
+    }
+
+    /// It tells the columns times 10,000, the cells times 100, and the bytes by binary places.
+    fn seen(&mut self, client: u32, places: usize) -> Result<u32, AllocError> {
+        let mut out = bytes_of(self.alloc, places)?;
+        let mut width = 0;
+        let mut needed = 9;
+        let code = crate::lockstep_seen(
+            &mut self.world,
+            self.alloc,
+            client,
+            &mut width,
+            out.as_mut_slice(),
+            &mut needed,
+        );
+        let told = joined(width, 100, needed);
+        self.told = told.wrapping_mul(100).wrapping_add(binary(out.as_slice()));
         Ok(code)
     }
 
@@ -645,6 +680,7 @@ impl Desk {
             C::ReadActors(places) => self.read_actors(places),
             C::ReadItems(id, places) => self.read_items(id, places),
             C::ReadOre(places) => self.read_ore(places),
+            C::Seen(client, places) => self.seen(client, places),
             C::FindRoute(kind, to_x, places) => self.find_route(kind, to_x, places),
             C::Bot(client) => Ok(self.bot(client)),
             _ => self.of_match(call, bytes),

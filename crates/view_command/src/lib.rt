@@ -7,7 +7,6 @@
 //! `specs/Views.antt`, its lines in `specs/ViewText.antt`.
 #![tactic(auto)]
 
-mod game_actors;
 mod text;
 mod views;
 

@@ -9,11 +9,11 @@ ghost use Rattle.tick_core.specs.Game.{game_clients, game_start, game_steps};
 ghost use Rattle.view_command.specs.Views.{client_step, no_such_client, view_step, view_text};
 ghost use Rattle.view_command.specs.Watching.{HasWatched};
 
-use crate::game_actors::GameActors;
 use crate::text::shown_text;
 use base::NoMemory;
 use command_answers::{Answer, DONE, Stop};
 use frame_core::Maker;
+use game_bots::GameActors;
 use replay_commands::read_replay_file;
 use replay_file::Replay;
 use replay_run::Playback;

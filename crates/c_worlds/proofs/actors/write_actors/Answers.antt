@@ -1,4 +1,4 @@
-use Rattle.std.proofs.Common.{arith, ◌≡◌, ◌<◌, ◌≤◌, ◌++◌, ℕ, suc, ◌+◌, length, map, drop, Some, ap, sym, subst, ◌∙◌}
+use Rattle.std.proofs.Common.{arith, ◌≡◌, ◌<◌, ◌≤◌, ◌++◌, ℕ, ◌+◌, length, map, drop, Some, ap, sym, subst, ◌∙◌}
 use Rattle.std.specs.Option.{option_copied}
 use Rattle.c_worlds.specs.Actors.{c_actor_of}
 use Rattle.c_worlds.proofs.WriteLemmas.{all_written, counted, inside, mapped, one_more}

@@ -1,4 +1,4 @@
-use Rattle.std.proofs.Common.{arith, ◌≡◌, ◌<◌, ◌≤◌, ◌++◌, ℕ, suc, ◌+◌, length, map, drop, ap, sym, ◌∙◌}
+use Rattle.std.proofs.Common.{arith, ◌≡◌, ◌<◌, ◌≤◌, ◌++◌, ◌+◌, length, map, drop, ap, ◌∙◌}
 use Rattle.game_model.specs.Terrain.{number_of}
 use Rattle.c_worlds.proofs.WriteLemmas.{all_written, counted, one_more}
 use Rattle.c_worlds.proofs.ground.write_terrain.Goals as goal

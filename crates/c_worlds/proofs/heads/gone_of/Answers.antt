@@ -1,14 +1,9 @@
-use Rattle.std.proofs.Common.{arith, ◌≡◌, ◌++◌, ◌<◌, ◌≤◌, ◌+◌, ℕ, List, Bool, true, false, Some, length, map, drop, refl, sym, ap, ◌∙◌}
+use Rattle.std.proofs.Common.{arith, ◌≡◌, ◌<◌, ◌≤◌, ◌+◌, ℕ, List, Bool, false, Some, length, map, refl, sym, ap, ◌∙◌}
 use Rattle.std.specs.Prelude.{slice_index_or, replicate}
 use Rattle.std.proofs.lemmas.Option.{slice_get-get_or}
-use mir.Val.{bool_byte}
 use Rattle.game_orders.specs.Order.{flag_number}
-use Rattle.c_worlds.proofs.WriteLemmas.{mapped, one_more, set_length}
+use Rattle.c_worlds.proofs.WriteLemmas.{byte_is, mapped, one_more, set_length}
 use Rattle.c_worlds.proofs.heads.gone_of.Goals as goal
-
-byte_is : (b : Bool) → bool_byte b ≡ flag_number b
-byte_is true = refl
-byte_is false = refl
 
 pub loop-i-preserved : goal.loop-i-preserved
 loop-i-preserved c =

@@ -1,4 +1,4 @@
-use Rattle.std.proofs.Common.{arith, ◌≡◌, ◌<◌, ◌≤◌, ◌++◌, ℕ, suc, ◌+◌, length, drop, ap, sym, subst, ◌∙◌}
+use Rattle.std.proofs.Common.{arith, ◌≡◌, ◌<◌, ◌≤◌, ◌++◌, ◌+◌, length, drop, ap, ◌∙◌}
 use Rattle.c_worlds.specs.Items.{act_item, build_item, item_count, items_of}
 use Rattle.c_worlds.proofs.WriteLemmas.{all_written, both_counted, one_more}
 use Rattle.c_worlds.proofs.items.write_items.Goals as goal

@@ -1,6 +1,5 @@
 use Rattle.std.proofs.Common.{◌≡◌, List, ap, ◌∙◌}
 use Rattle.rule_traits.specs.declared.kind.Kind.{Kind}
-use Rattle.rule_traits.specs.declared.trait_fields.Costs.{Costs}
 use Rattle.game_model.specs.Kinds.{costs_in, kind_of}
 use Rattle.c_worlds.proofs.RouteLemmas.{way_found, way_sized}
 use Rattle.c_worlds.proofs.routes.way_of.Goals as goal

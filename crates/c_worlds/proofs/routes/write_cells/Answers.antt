@@ -1,4 +1,4 @@
-use Rattle.std.proofs.Common.{arith, ◌≡◌, ◌<◌, ◌≤◌, ◌+◌, ℕ, length, map}
+use Rattle.std.proofs.Common.{arith, ◌<◌, ◌≤◌, ◌+◌, length, map}
 use Rattle.c_worlds.specs.Routes.{c_cell_of}
 use Rattle.c_worlds.proofs.WriteLemmas.{one_more}
 use Rattle.c_worlds.proofs.routes.write_cells.Goals as goal

@@ -9,12 +9,12 @@ returns-in_ok-push-in-Ok-clause-runs g c =
     (seal_runs _ _ _ _ _ _ _ c.index_mut-peer.result.now _ (Ok c.in-Ok.frame)
     (subst IsWhole (sym c.self.view_is) c.requires.whole) (rw (← c.self.view_is) at c.requires.own)
     c.index_mut-peer.ensures.value c.in-Ok.ensures.answer c.in-Ok.ensures.after
-    (rw c.copy.ensures at c.in_ok-push-in-Ok.ensures.items))
+    (rw c.of.ensures at c.in_ok-push-in-Ok.ensures.items))
 
 pub returns-in-Err-clause-runs : goal.returns-in-Err-clause-runs
 returns-in-Err-clause-runs g c =
     rw (← c.self.view_is)
-    (seal_runs _ _ _ _ _ _ c.args.orders.now c.index_mut-peer.result.now _ (Err c.in-Err.fault)
+    (seal_runs _ _ _ _ _ _ c.args.orders c.index_mut-peer.result.now _ (Err c.in-Err.fault)
     (subst IsWhole (sym c.self.view_is) c.requires.whole) (rw (← c.self.view_is) at c.requires.own)
     c.index_mut-peer.ensures.value c.in-Err.ensures.answer c.in-Err.ensures.after
     (sym (append-nil c.self.inside.sent.items)))

@@ -6,5 +6,5 @@ use Rattle.drill.proofs.running_match.RunningMatch.up.Goals as goal
 pub returns-clause-runs : goal.returns-clause-runs
 returns-clause-runs g c =
     rw (← c.self.view_is, c.answer_outcome.ensures)
-    (up_runs _ _ _ _ _ _ c.in-Some.sent.now _ (subst IsWhole (sym c.self.view_is) c.requires.whole)
+    (up_runs _ _ _ _ _ _ c.in-Some.sent _ (subst IsWhole (sym c.self.view_is) c.requires.whole)
     (rw c.deref.ensures.value at c.in-Some.ensures) c.in_ok-answer.ensures.answer c.in_ok-answer.ensures.after)
