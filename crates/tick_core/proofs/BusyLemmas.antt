@@ -569,22 +569,21 @@ pub is_not : (b : Bool) → not b ≡ false → b ≡ true
 is_not true denied = refl
 is_not false denied = absurd cc
 
+-- The actor at a place, whose id it is, is the one of the id.
+pub near_found :
+    (actors : List Actor) (i id : ℕ) (a : Actor) → IdsRise actors → slice_get actors i ≡ Some a → a.id ≡ id →
+    Some a ≡ actor_of actors id
+near_found actors i id a rise there named =
+    sym (subst (λ n. actor_of actors n ≡ Some a) named
+    (subst (λ (x : Actor). actor_of actors x.id ≡ Some x) (get_or_from_slice_get actors i a a there)
+    (found_at actors i a rise (within_of actors i a there))))
+
 -- The actor at the place of an id is the living one of the id, if it lives.
 pub living_there :
     (actors : List Actor) (i id : ℕ) (a : Actor) → IdsRise actors → slice_get (ids_of actors) i ≡ Some id → slice_get actors i ≡ Some a →
     living_of actors id ≡ cond (is_alive a) (Some a) None
-living_there actors i id a rise at there = living_found actors id a rise found where
-  within : i < length actors
-  within = within_of actors i a there
-
-  same : get_or actors i a ≡ a
-  same = get_or_from_slice_get actors i a a there
-
-  named : a.id ≡ id
-  named = id_at actors i id a at there
-
-  found : Some a ≡ actor_of actors id
-  found = sym (subst (λ n. actor_of actors n ≡ Some a) named (subst (λ (x : Actor). actor_of actors x.id ≡ Some x) same (found_at actors i a rise within)))
+living_there actors i id a rise at there =
+    living_found actors id a rise (near_found actors i id a rise there (id_at actors i id a at there))
 
 idle_at :
     (actors : List Actor) (i id : ℕ) (a : Actor) → IdsRise actors → slice_get (ids_of actors) i ≡ Some id → slice_get actors i ≡ Some a →

@@ -3,7 +3,7 @@ ghost use Rattle.std.specs.Prelude.{IfSome, IsSome, IsSomeAnd, Some};
 ghost use Rattle.std.specs.Option.{option_copied};
 ghost use Rattle.activities.specs.declared.activity.Activity.TheVariants.{Attack, Move};
 ghost use Rattle.game_model.specs.ActorChanges.{changed_at};
-ghost use Rattle.game_model.specs.World.{ids_of, living_of};
+ghost use Rattle.game_model.specs.World.{actor_of, ids_of, living_of};
 ghost use Rattle.game_tick.specs.Turn.{reloaded, with_build, with_reload, with_way};
 ghost use Rattle.tick_core.specs.Scene.{DoesFirst, HasNoBuilds, IsGathering, IsLoaded, prepared};
 
@@ -18,12 +18,13 @@ use motion::{advance_leg, move_activity_on_current_ground};
 use production::build_step;
 use world_units::CPos;
 
-/// One turn less until the actor of an id, if it is there, can fire again.
-fn reload(t: &mut ActorTable, id: u32)
+/// One turn less until the actor of an id, if it is there, can fire again. It stands at this place
+/// most likely.
+fn reload(t: &mut ActorTable, i: usize, id: u32)
     ensures { t.new ≡ record t.old { actors = changed_at t.old.actors id reloaded } }
 {
     let _ids_rise = t.len();
-    let Some(a) = t.get(id) else {
+    let Some(a) = actor_near(t, i, id) else {
         return;
     };
     let reload = a.body.reload;
@@ -43,6 +44,17 @@ pub(crate) fn living_at(t: &ActorTable, i: usize, id: u32) -> Option<&Actor>
         return None;
     };
     if is_alive(a) { Some(a) } else { None }
+}
+
+/// The actor of an id, found at once where it stands at this place of the table, and else searched.
+pub(crate) fn actor_near(t: &ActorTable, i: usize, id: u32) -> Option<&Actor>
+    ensures { option_copied result ≡ actor_of t.now.actors id }
+{
+    let _ids_rise = t.len();
+    let Some(a) = t.nth_actor(i) else {
+        return t.get(id);
+    };
+    if a.id == id { Some(a) } else { t.get(id) }
 }
 
 /// Which of the first two parts of its step may change an actor.
@@ -82,7 +94,7 @@ impl Scene {
     {
         self.recall_invariant();
         let parts = self.parts_at(i, id);
-        self.reload_if(id, parts.reloads);
+        self.reload_if(i, id, parts.reloads);
         self.build_if(id, parts.builds);
     }
 
@@ -99,14 +111,14 @@ impl Scene {
     }
 
     /// One turn less until the actor can fire again, where it reloads.
-    fn reload_if(&mut self, id: u32, reloads: bool)
+    fn reload_if(&mut self, i: usize, id: u32, reloads: bool)
         requires lives { reloads ≡ true → IsSome (living_of self.old.world.actors id) }
         ensures { self.new ≡ record self.old {
           world = if reloads then with_reload self.old.world id else self.old.world;
         } }
     {
         if reloads {
-            self.reload(id);
+            self.reload(i, id);
         }
     }
 
@@ -124,11 +136,11 @@ impl Scene {
     }
 
     /// One turn less until the actor can fire again.
-    fn reload(&mut self, id: u32)
+    fn reload(&mut self, i: usize, id: u32)
         requires lives { IsSome (living_of self.old.world.actors id) }
         ensures { self.new ≡ record self.old { world = with_reload self.old.world id } }
     {
-        reload(&mut self.table, id);
+        reload(&mut self.table, i, id);
     }
 
     /// The step of the first build of the actor, if it lives.

@@ -118,7 +118,7 @@ impl LiveWorld {
         let subject = subject_of(order);
         let _died = self
             .scene
-            .update_hasher(&mut self.hasher, subject, None, None);
+            .update_hasher(&mut self.hasher, 0, subject, None, None);
     }
 
     /// Runs so many turns.

@@ -16,7 +16,7 @@ ghost use Rattle.tick_core.specs.Telling.{target_of, told_of, told_ore, told_ore
 ghost use Rattle.tick_core.specs.Touched.{KeptBut};
 ghost use Rattle.tick_core.specs.Waiting.{IsDone, IsWaiting};
 
-use crate::acting::living_at;
+use crate::acting::{actor_near, living_at};
 use crate::burial::is_alive;
 use crate::live_world::LiveWorld;
 use crate::scene::Scene;
@@ -119,8 +119,9 @@ fn or(one: bool, other: bool) -> bool
     one | other
 }
 
-/// Tells the hasher of the actor of an id, if it is there. Returns whether it has no health.
-fn update_actor_number(table: &ActorTable, hasher: &mut Hasher, id: Option<u32>) -> bool
+/// Tells the hasher of the actor of an id, if it is there, most likely at this place. Returns
+/// whether it has no health.
+fn update_actor_number(table: &ActorTable, hasher: &mut Hasher, i: usize, id: Option<u32>) -> bool
     requires { HasPlaceFor hasher.old.actors table.now.actors id }
     ensures told { hasher.new ≡ told_of hasher.old table.now.actors id }
     ensures living { result ≡ false → LivesOf table.now.actors id }
@@ -128,18 +129,19 @@ fn update_actor_number(table: &ActorTable, hasher: &mut Hasher, id: Option<u32>)
     let Some(id) = id else {
         return false;
     };
-    let Some(a) = table.get(id) else {
+    let Some(a) = actor_near(table, i, id) else {
         return false;
     };
     hasher.actor_set(a);
     !is_alive(a)
 }
 
-/// Tells the hasher of the actors of these ids, as far as they are there: the numbers of all others
-/// are right. Returns whether one of these has no health.
+/// Tells the hasher of the actors of these ids, as far as they are there, the first most likely at
+/// this place: the numbers of all others are right. Returns whether one of these has no health.
 fn update_actor_numbers(
     table: &ActorTable,
     hasher: &mut Hasher,
+    i: usize,
     id: Option<u32>,
     target: Option<u32>,
     added: Option<u32>,
@@ -154,33 +156,40 @@ fn update_actor_numbers(
         table.now.actors }
 {
     let _ids_rise = table.len();
-    let own = update_actor_number(table, hasher, id);
-    let hit = update_actor_number(table, hasher, target);
-    let new = update_actor_number(table, hasher, added);
+    let own = update_actor_number(table, hasher, i, id);
+    let hit = update_actor_number(table, hasher, i, target);
+    let new = update_actor_number(table, hasher, i, added);
     or(own, or(hit, new))
 }
 
-/// Whether the actor of an id, if it is there, has no health.
-fn is_dead(table: &ActorTable, id: Option<u32>) -> bool
+/// Whether the actor of an id, if it is there, most likely at this place, has no health.
+fn is_dead(table: &ActorTable, i: usize, id: Option<u32>) -> bool
     ensures { result ≡ false → LivesOf table.now.actors id }
 {
     let Some(id) = id else {
         return false;
     };
-    match table.get(id) {
+    match actor_near(table, i, id) {
         Some(a) => !is_alive(a),
         None => false,
     }
 }
 
-/// Whether one of the actors of these ids, as far as they are there, has no health.
-fn is_one_dead(table: &ActorTable, id: Option<u32>, target: Option<u32>, added: Option<u32>) -> bool
+/// Whether one of the actors of these ids, as far as they are there, the first most likely at this
+/// place, has no health.
+fn is_one_dead(
+    table: &ActorTable,
+    i: usize,
+    id: Option<u32>,
+    target: Option<u32>,
+    added: Option<u32>,
+) -> bool
     ensures { result ≡ false → AreLive (with_some id (with_some target (with_some added [])))
         table.now.actors }
 {
-    let own = is_dead(table, id);
-    let hit = is_dead(table, target);
-    let new = is_dead(table, added);
+    let own = is_dead(table, i, id);
+    let hit = is_dead(table, i, target);
+    let new = is_dead(table, i, added);
     or(own, or(hit, new))
 }
 
@@ -267,11 +276,13 @@ impl Scene {
         is_waiting_at(&self.table, i, id)
     }
 
-    /// Tells the hasher, if there is one, of the actors of these ids, as far as they are there: the
-    /// numbers of all others are right. Returns whether one of these has no health.
+    /// Tells the hasher, if there is one, of the actors of these ids, as far as they are there, the
+    /// first most likely at this place: the numbers of all others are right. Returns whether one of
+    /// these has no health.
     pub(crate) fn update_hasher(
         &self,
         hasher: &mut Option<Hasher>,
+        i: usize,
         id: Option<u32>,
         target: Option<u32>,
         added: Option<u32>,
@@ -283,8 +294,8 @@ impl Scene {
             (with_some target (with_some added []))) self.now.world.actors }
     {
         match hasher {
-            Some(hasher) => update_actor_numbers(&self.table, hasher, id, target, added),
-            None => is_one_dead(&self.table, id, target, added),
+            Some(hasher) => update_actor_numbers(&self.table, hasher, i, id, target, added),
+            None => is_one_dead(&self.table, i, id, target, added),
         }
     }
 
@@ -388,7 +399,7 @@ impl LiveWorld {
         let stepped = if_stepped(waited, added, id);
         let died = self
             .scene
-            .update_hasher(&mut self.hasher, stepped, target, added);
+            .update_hasher(&mut self.hasher, i, stepped, target, added);
         self.deaths = or(self.deaths, died);
         self.scene
             .update_hasher_cell(&mut self.hasher, effects.cell);
