@@ -1,4 +1,6 @@
-ghost use Rattle.std.specs.Prelude.{◌≡◌, [], fold};
+ghost use Rattle.std.specs.Prelude.{◌≡◌, List, [], fold};
+ghost use Rattle.rule_traits.specs.declared.kind.Kind.{Kind};
+ghost use Rattle.game_model.specs.Kinds.{kind_of};
 ghost use Rattle.bot_player.specs.BotOrders.{harvest_order, produce_order};
 ghost use Rattle.bot_player.specs.Drafts.{attack_draft, draft_for, drafts_of, own_draft, shown};
 ghost use Rattle.bot_player.specs.Survey.{first_enemy};
@@ -9,16 +11,20 @@ use crate::nth::nth_actor;
 use crate::survey::{Enemy, Survey, is_enemy, is_own};
 use game_model::Actor;
 use game_orders::Order;
-use rule_traits::Rules;
+use rule_traits::{Kind, Rules};
 use shroud::LendsActors;
 
 /// The order to produce, if the actor can produce and has no builds: the least ready kind that it
 /// builds.
-fn produce_order<A: LendsActors>(survey: &mut Survey<'_, A>, a: &Actor) -> Option<Order>
+fn produce_order<A: LendsActors>(
+    survey: &mut Survey<'_, A>,
+    kind: &Kind,
+    a: &Actor,
+) -> Option<Order>
+    requires { kind.now ≡ kind_of survey.old.rules a.now.kind }
     ensures value { result ≡ produce_order survey.old.rules survey.old.goods survey.old.c a.now }
     ensures same { survey.new ≡ survey.old }
 {
-    let kind = survey.rules().get(a.kind)?;
     if kind.production.is_none() || !a.body.builds.is_empty() {
         return None;
     }
@@ -27,10 +33,10 @@ fn produce_order<A: LendsActors>(survey: &mut Survey<'_, A>, a: &Actor) -> Optio
 }
 
 /// The order to harvest, if the actor gathers ore and has no activities.
-fn harvest_order(rules: &Rules, a: &Actor) -> Option<Order>
-    ensures { result ≡ harvest_order rules.now a.now }
+fn harvest_order(kind: &Kind, a: &Actor) -> Option<Order>
+    ensures { (rules : List Kind) → kind.now ≡ kind_of rules a.now.kind →
+        result ≡ harvest_order rules a.now }
 {
-    let kind = rules.get(a.kind)?;
     if kind.moves() && kind.harvester.is_some() && a.body.acts.len() == 0 {
         Some(Order::Harvest {
             actor: a.id,
@@ -43,12 +49,12 @@ fn harvest_order(rules: &Rules, a: &Actor) -> Option<Order>
 }
 
 /// The draft to attack, if the actor is armed and has no activities, and there is an enemy.
-fn attack_draft<A: LendsActors>(survey: &mut Survey<'_, A>, a: &Actor) -> Option<Draft>
+fn attack_draft<A: LendsActors>(survey: &mut Survey<'_, A>, kind: &Kind, a: &Actor) -> Option<Draft>
+    requires { kind.now ≡ kind_of survey.old.rules a.now.kind }
     ensures value { result ≡ attack_draft survey.old.rules
         (first_enemy survey.old.rules survey.old.goods.actors survey.old.c) a.now }
     ensures same { survey.new ≡ survey.old }
 {
-    let kind = survey.rules().get(a.kind)?;
     if kind.armament.is_none() || a.body.acts.len() > 0 {
         return None;
     }
@@ -60,18 +66,23 @@ fn attack_draft<A: LendsActors>(survey: &mut Survey<'_, A>, a: &Actor) -> Option
     })
 }
 
-/// The draft for an actor, if it gets an order: the first applicable case decides.
+/// The draft for an actor, if it gets an order: the first applicable case decides. An actor at work
+/// whose kind does not produce gets none.
 fn draft_for<A: LendsActors>(survey: &mut Survey<'_, A>, a: &Actor) -> Option<Draft>
     ensures value { result ≡ draft_for survey.old a.now }
     ensures same { survey.new ≡ survey.old }
 {
-    if let Some(order) = produce_order(survey, a) {
+    let kind = survey.rules().get(a.kind)?;
+    if a.body.acts.len() > 0 && kind.production.is_none() {
+        return None;
+    }
+    if let Some(order) = produce_order(survey, kind, a) {
         return Some(Draft::Whole(order));
     }
-    if let Some(order) = harvest_order(survey.rules(), a) {
+    if let Some(order) = harvest_order(kind, a) {
         return Some(Draft::Whole(order));
     }
-    attack_draft(survey, a)
+    attack_draft(survey, kind, a)
 }
 
 /// The same, for the client's living actors alone.
