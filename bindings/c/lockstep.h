@@ -8,11 +8,13 @@
  *
  * Codes. A call returns one of the codes below. From LOCKSTEP_BAD_BYTES on nothing has changed but
  * `at`, `needed`, `width` and `route`. `told` is written only where a call says so. Of several
- * causes the first decides: WRONG_OBJECT, BAD_ARGUMENT, and then what the call names.
+ * causes the first decides: WRONG_OBJECT, BAD_ARGUMENT, and then, in their order, those that the
+ * call names.
  *
  * Ownership. The caller owns an object's 16 bytes and all arrays, the library what the object
- * holds, until lockstep_free. A call keeps no pointer. The pointers of one call must not overlap,
- * and none is null: for no places or bytes pass LOCKSTEP_NIL, or any other pointer, and 0.
+ * holds, until lockstep_free. Objects are freed in any order, a setup before what was made from it
+ * too. A call keeps no pointer. The pointers of one call must not overlap, and none is null: for no
+ * places or bytes pass LOCKSTEP_NIL, or any other pointer, and 0.
  *
  * Threads. A setup and all that was made from it are a group. A group is used by one thread at a
  * time, also to read and to free; what moves it from thread to thread is the caller's lock. Groups
@@ -59,7 +61,7 @@ enum {
   LOCKSTEP_FAULT = 33, /* a fault of a rule file or the map */
   LOCKSTEP_BAD_ARGUMENT = 34,
   LOCKSTEP_WRONG_OBJECT = 35, /* of another kind, or empty; where one is made, not empty */
-  LOCKSTEP_NO_ROOM = 36,      /* more places are needed: `needed` says how many */
+  LOCKSTEP_NO_ROOM = 36,      /* `needed` places are needed; after OK so many were written */
   LOCKSTEP_NO_MEMORY = 37
 };
 
@@ -87,14 +89,17 @@ typedef struct {
   uint64_t place; /* a line, from 1; 0: of a map that has no size */
 } lockstep_fault;
 
-/* The orders of one client for one frame, as bytes: 1, their number, the orders. */
+/* The orders of one client for one frame, as bytes: 1, their number, the orders. Begin with
+ * LOCKSTEP_PLAY, no orders; to empty it later write in C `play = (lockstep_play)LOCKSTEP_PLAY`, in
+ * C++ `play = LOCKSTEP_PLAY`. */
 typedef struct {
   uint32_t len;
   uint8_t bytes[164];
 } lockstep_play;
 #define LOCKSTEP_PLAY {2, {1, 0}}
 
-/* A packet of docs/FORMATS.md, whole: its length in two bytes, then its payload. */
+/* A packet of docs/FORMATS.md, whole: the length of its payload in two bytes, then the payload, of
+ * at most 256 bytes. So `len` is at most 258; the last two bytes are never used. */
 typedef struct {
   uint32_t len;
   uint8_t bytes[260];
@@ -237,8 +242,8 @@ uint32_t lockstep_world_create(lockstep_object *world, lockstep_object *setup, u
                                uint32_t clients);
 
 /* Makes one step by a frame: for each client, by rising number, the bytes of its play, or one byte
- * 0 where it has departed, in this frame or before. BAD_BYTES: other bytes, or a play of a client
- * that has departed before. FULL: after 536,870,911 frames. It never answers NO_MEMORY. */
+ * 0 where it has departed, in this frame or before. FULL: after 536,870,911 frames. BAD_BYTES:
+ * other bytes, or a play of a client that has departed before. It never answers NO_MEMORY. */
 uint32_t lockstep_world_step(lockstep_object *world, const uint8_t *bytes, size_t len);
 
 /* ---- The beginning of a link ---- */
@@ -248,15 +253,16 @@ uint32_t lockstep_hello(lockstep_object *setup, lockstep_packet *out);
 
 /* Whether a link's first packet greets a match of this setup. REFUSED: `told` is the code to send
  * (lockstep_refuse): 1 another version, 2 other rules or another map, 3 no greeting. BAD_BYTES: not
- * one whole packet. */
+ * one whole packet for a server. */
 uint32_t lockstep_greeted(lockstep_object *setup, const uint8_t *bytes, size_t len,
                           uint32_t *told);
 
 /* The server's first packet to a client. BAD_ARGUMENT: no match has these terms. */
 uint32_t lockstep_welcome(const lockstep_terms *terms, lockstep_packet *out);
 
-/* What a client reads of the server's first packet. REFUSED: `out->me` is the code, and nothing
- * else is written. BAD_BYTES: neither one whole welcome nor a refusal. */
+/* What a client reads of the server's first packet, which may come late: `serve` sends none before
+ * its last link is there. REFUSED: `out->me` is the code, and nothing else is written. BAD_BYTES:
+ * neither one whole welcome nor a refusal. */
 uint32_t lockstep_welcomed(const uint8_t *bytes, size_t len, lockstep_terms *out);
 
 /* ---- Peers: a client of a match ---- */
@@ -266,11 +272,11 @@ uint32_t lockstep_welcomed(const uint8_t *bytes, size_t len, lockstep_terms *out
 uint32_t lockstep_peer_create(lockstep_object *peer, lockstep_object *setup,
                               const lockstep_terms *terms);
 
-/* Takes an entry that the server sent, in whatever order. OK: it is new. REPEAT: it is there.
- * CONFLICT: another of that client and frame is there. PAST: it contradicts what is there at the
- * frame `told`: the client's departure before it, or, if it is a departure, an entry after it.
- * NO_FRAME. IGNORED: a packet, but no entry. BAD_BYTES: not one whole packet, or of a client that the
- * match has not. Only OK changes the peer. */
+/* Takes an entry that the server sent, in whatever order. BAD_BYTES: not one whole packet for a
+ * client, or an entry of a client that the match has not. IGNORED: a welcome or a refusal.
+ * NO_FRAME. REPEAT: it is there. CONFLICT: another of that client and frame is there. PAST: it
+ * contradicts what is there at the frame `told`: the client's departure before it, or, if it is a
+ * departure, an entry after it. OK: it is new. Only OK changes the peer. */
 uint32_t lockstep_peer_deliver(lockstep_object *peer, const uint8_t *bytes, size_t len,
                                uint32_t *told);
 
@@ -279,9 +285,11 @@ uint32_t lockstep_peer_deliver(lockstep_object *peer, const uint8_t *bytes, size
  * answers NO_MEMORY. */
 uint32_t lockstep_peer_tick(lockstep_object *peer, uint32_t *told);
 
-/* Seals the client's next frame with a play, and gives the packet for the server. LEFT: its own
- * departure has come. FULL: 262,144 frames are sealed. TOO_EARLY: as many are sealed ahead of the
- * ticked ones as the lag allows; keep the play. BAD_BYTES: no play. Only OK changes the peer. */
+/* Seals the client's next frame with a play, and gives the packet for the server. The peer does not
+ * keep the play: it is ticked when the server sends it back as an entry, like everyone's.
+ * BAD_BYTES: no play. LEFT: its own departure has come. FULL: 262,144 frames are sealed. TOO_EARLY:
+ * as many are sealed ahead of the ticked ones as the lag allows, so never while
+ * sealed < ticked + lag; keep the play. Only OK changes the peer. */
 uint32_t lockstep_peer_seal(lockstep_object *peer, const uint8_t *bytes, size_t len,
                             lockstep_packet *out);
 
@@ -290,17 +298,19 @@ uint32_t lockstep_peer_report(lockstep_object *peer, lockstep_packet *out);
 
 /* ---- Servers ---- */
 
-/* Makes an empty object the server of a match of 1 to 16 clients, else BAD_ARGUMENT. */
+/* Makes an empty object the server of a match of 1 to 16 clients, else BAD_ARGUMENT. It has no lag,
+ * and takes plays however far they are sealed ahead. */
 uint32_t lockstep_server_create(lockstep_object *server, lockstep_object *setup, uint32_t clients,
                                 uint32_t seed);
 
 /* Takes a packet of a client: a play, a report, or a farewell, which is lockstep_server_drop.
- * Of a play: OK, REPEAT, CONFLICT; AHEAD: the play for the frame `told` comes first, and this
- * one has to be sent again; LEFT: the client departed at the frame `told`; FULL: 262,144 frames.
- * Of a report: OK; REPEAT: the first for a frame stays; NO_FRAME. A farewell of a client that has
- * departed: LEFT. OK of a farewell: `told` is the frame. IGNORED: a greeting. BAD_ARGUMENT: no
- * such client. BAD_BYTES: not one whole packet. Only OK changes the server. After CONFLICT or
- * BAD_BYTES drop the client. */
+ * BAD_ARGUMENT: no such client. BAD_BYTES: not one whole packet for a server. IGNORED: a greeting.
+ * Of a play: REPEAT; CONFLICT, also where the departure stands at its frame; LEFT: the client
+ * departed before it, at the frame `told`; AHEAD: the play for the frame `told` comes first, and
+ * this one has to be sent again; FULL: 262,144 frames; OK. Of a report: NO_FRAME; REPEAT: the first
+ * for a frame stays; OK. Of a farewell: LEFT, OK; `told` is the frame of the departure. Only OK
+ * changes the server. After CONFLICT or BAD_BYTES drop the client; after AHEAD too where links are
+ * streams, which lose nothing. */
 uint32_t lockstep_server_up(lockstep_object *server, uint32_t client, const uint8_t *bytes,
                             size_t len, uint32_t *told);
 
@@ -308,12 +318,12 @@ uint32_t lockstep_server_up(lockstep_object *server, uint32_t client, const uint
  * BAD_ARGUMENT: no such client. It never answers NO_MEMORY. */
 uint32_t lockstep_server_drop(lockstep_object *server, uint32_t client, uint32_t *told);
 
-/* The packet with a client's entry at a frame, which is for all clients. NONE: it has none yet, or
- * departed before. BAD_ARGUMENT: no such client. */
+/* The packet with a client's entry at a frame, which is for all clients, this one too. NONE: it has
+ * none yet, or departed before. BAD_ARGUMENT: no such client. */
 uint32_t lockstep_server_entry(lockstep_object *server, uint32_t client, uint32_t frame,
                                lockstep_packet *out);
 
-/* As lockstep_peer_tick. */
+/* As lockstep_peer_tick, but it may answer NO_MEMORY. */
 uint32_t lockstep_server_tick(lockstep_object *server, uint32_t *told);
 
 /* The least frame after which a client reported another hash than the server's. NONE.
@@ -336,9 +346,11 @@ uint32_t lockstep_read_items(lockstep_object *any, uint32_t id, lockstep_item *o
 /* The ore of each cell, row by row, 0 to 90. */
 uint32_t lockstep_read_ore(lockstep_object *any, uint8_t *out, size_t places, size_t *needed);
 
-/* Which cells a client sees now, row by row: 1 seen, 0 not. `width`, the columns, is written as
- * `needed` is. What it has explored is the engine's to keep: what was seen after some frame, or in
- * the opening world. BAD_ARGUMENT: no such client. It holds up to 1.1 MB until it returns. */
+/* Which cells a client sees now, row by row: 1 seen, 0 not. It sees those within `sight` of its
+ * living actors whose kinds have LOCKSTEP_REVEALS_SHROUD: those of examples/river have it, none of
+ * the sample rules. `width`, the columns, is written as `needed` is. What it has explored is the
+ * engine's to keep: what was seen after some frame, or in the opening world. BAD_ARGUMENT: no such
+ * client. It holds up to 1.1 MB until it returns. */
 uint32_t lockstep_seen(lockstep_object *any, uint32_t client, uint32_t *width, uint8_t *out,
                        size_t places, size_t *needed);
 
@@ -367,13 +379,13 @@ uint32_t lockstep_bot(lockstep_object *any, uint32_t client, lockstep_play *out)
 /* ---- Beside the library: inline, in C ---- */
 
 /* The length of the packet with which a stream begins, or 0 where it is not whole yet. Above 260 no
- * packet begins so. */
+ * packet begins so, which two bytes show; to one of 259 or 260 bytes all calls answer BAD_BYTES. */
 static inline size_t lockstep_packet_size(const uint8_t *bytes, size_t len) {
   size_t size = len < 2 ? 0 : 2 + (size_t)bytes[0] + ((size_t)bytes[1] << 8);
   return size > 260 || size <= len ? size : 0;
 }
 
-/* A client's farewell. */
+/* A client's farewell. After it send nothing more, but deliver and tick until OVER. */
 static inline lockstep_packet lockstep_bye(void) {
   lockstep_packet packet = {3, {1, 0, 4}};
   return packet;
