@@ -3,8 +3,8 @@ ghost use Rattle.std.specs.Prelude.{◌≤◌, length};
 use crate::case::Case;
 use crate::world_fields::world_fields;
 use base::NoMemory;
-use command_answers::{GivenFiles, PlayedFile, read_played_files};
-use command_words::{MAX_FILES, MatchQuery, Request, read_words};
+use command_answers::{GivenFiles, InputFile, read_played_files};
+use command_words::{MAX_FILES, MatchQuery, Request, read_arguments};
 use drill::run_without_report;
 use drill_words::{Drill, MAX_DRILL_BYTES, read_drill};
 use game_io::Disk;
@@ -16,7 +16,7 @@ use tick_core::GameMaker;
 /// The world that a drill leaves its server in, field by field. There is none where a case is no
 /// drill, or a file of it is refused.
 pub fn server_world(alloc: Global, case: &Case<'_>) -> Result<Option<String>, NoMemory> {
-    let Ok(Request::Drill { query, .. }) = read_words(alloc, &case.words) else {
+    let Ok(Request::Drill { query, .. }) = read_arguments(alloc, &case.words) else {
         return Ok(None);
     };
     let mut disk = case.disk(alloc)?;
@@ -35,7 +35,7 @@ fn read_and_run<D: Disk>(
     requires { length query.now.rules ≤ MAX_FILES }
 {
     let names = query.rules.as_slice();
-    let played = PlayedFile::Script(query.file);
+    let played = InputFile::Script(query.file);
     match read_played_files(alloc, disk, names, query.map_file, played) {
         Ok((given, script)) => run_given(alloc, query, &given, &script),
         Err(_) => Ok(None),

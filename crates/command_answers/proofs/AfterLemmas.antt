@@ -8,9 +8,9 @@ use Rattle.command_answers.specs.Reply.{refusal}
 use Rattle.command_answers.specs.Step.{Step}
 use Rattle.command_answers.specs.WantedFiles.{Wanted, WantedFiles, and_then, in_order}
 use Rattle.command_answers.specs.Contents.{Contents, content_of, contents_of, read_optional, IsFirstThere, IsWithinLimit, AreContents}
-use Rattle.command_answers.specs.Stop.{IsReadStop, IsUntoldStop}
+use Rattle.command_answers.specs.Stop.{IsReadStop, IsOpaqueStop}
 use Rattle.command_answers.specs.OptionLemmas.{map_some, map_none}
-use Rattle.command_answers.proofs.FilesLemmas.{there_more, untold_more, untold_later}
+use Rattle.command_answers.proofs.FilesLemmas.{there_more, opaque_more, opaque_later}
 
 -- The contents of some files and then of the last one, which those may decide of.
 abbrev pub then_read : Step Contents → (Contents → Step (Option (List ℕ))) → (Contents → Option (List ℕ) → Contents) → Step Contents
@@ -31,27 +31,27 @@ and_then_more first (Some file) mid last = sym (append_assoc first (file ∷ mid
 
 -- ---- all were read
 
-pub after_told :
+pub after_observable :
     (all whole : WantedFiles) (place : Wanted) (last : Contents → Option Wanted) (put : Contents → Option (List ℕ) → Contents) → IsAfter all place last whole put →
     (given : Contents) (bytes : Option (List ℕ)) (o o' : Option Files) → o' ≡ o →
     IfSome o (λ files. contents_of all files ≡ Ok given) →
     IfSome o' (λ files. read_optional (last given) files ≡ Ok bytes) →
     IfSome o (λ files. contents_of whole files ≡ Ok (put given bytes))
-after_told all whole place last put is given bytes None o' same first second = tt
-after_told all whole place last put is given bytes (Some files) o' same first second =
+after_observable all whole place last put is given bytes None o' same first second = tt
+after_observable all whole place last put is given bytes (Some files) o' same first second =
     let Read : Option Files → Type 0 = λ o. IfSome o (λ files. read_optional (last given) files ≡ Ok bytes) in
     let read : read_optional (last given) files ≡ Ok bytes = subst Read same second in
     is.reads files
     ∙ ap (λ step. then_read step (λ given. read_optional (last given) files) put) first
     ∙ ap (λ step. then_read (Ok given) (λ given. step) put) read
 
-pub after_untold :
+pub after_opaque :
     (all whole : WantedFiles) (place : Wanted) (last : Contents → Option Wanted) (put : Contents → Option (List ℕ) → Contents) → IsAfter all place last whole put →
     (given : Contents) (bytes : Option (List ℕ)) (o o' : Option Files) → o' ≡ o →
     IfNone o (AreContents all given) → IfNone o' (IsWithinLimit (last given) bytes) → IfNone o (AreContents whole (put given bytes))
-after_untold all whole place last put is given bytes None o' same first short =
+after_opaque all whole place last put is given bytes None o' same first short =
     is.are given bytes first (subst (λ o. IfNone o (IsWithinLimit (last given) bytes)) same short)
-after_untold all whole place last put is given bytes (Some files) o' same first short = tt
+after_opaque all whole place last put is given bytes (Some files) o' same first short = tt
 
 -- ---- one of the first was not
 
@@ -68,19 +68,19 @@ first_stop all whole place last put is ReadFault files R stops = (
 )
 first_stop all whole place last put is NoMemory files R stops = tt
 
-pub first_stop_told :
+pub first_stop_observable :
     (all whole : WantedFiles) (place : Wanted) (last : Contents → Option Wanted) (put : Contents → Option (List ℕ) → Contents) → IsAfter all place last whole put →
     (stop : Stop) (R : Type 0) (o : Option Files) →
     IfSome o (λ files. IsReadStop stop (contents_of all files) (IsFirstThere (in_order all) files × R)) →
     IfSome o (λ files. IsReadStop stop (contents_of whole files) (IsFirstThere (in_order whole) files × R))
-first_stop_told all whole place last put is stop R o = map_some o _ _ (λ files stops. first_stop all whole place last put is stop files R stops)
+first_stop_observable all whole place last put is stop R o = map_some o _ _ (λ files stops. first_stop all whole place last put is stop files R stops)
 
-pub first_stop_untold :
+pub first_stop_opaque :
     (all whole : WantedFiles) (place : Wanted) (last : Contents → Option Wanted) (put : Contents → Option (List ℕ) → Contents) → IsAfter all place last whole put →
     (stop : Stop) (R : Type 0) (o : Option Files) →
-    IfNone o (IsUntoldStop stop (in_order all) R) → IfNone o (IsUntoldStop stop (in_order whole) R)
-first_stop_untold all whole place last put is stop R o =
-    map_none o (λ stops. subst (λ all. IsUntoldStop stop all R) (sym is.order) (untold_more stop (in_order all) (place ∷ []) R stops))
+    IfNone o (IsOpaqueStop stop (in_order all) R) → IfNone o (IsOpaqueStop stop (in_order whole) R)
+first_stop_opaque all whole place last put is stop R o =
+    map_none o (λ stops. subst (λ all. IsOpaqueStop stop all R) (sym is.order) (opaque_more stop (in_order all) (place ∷ []) R stops))
 
 -- ---- the last was not
 
@@ -115,7 +115,7 @@ named_there (Some file) place files named there = subst (λ name. IsSome (files 
 
 named_stop :
     (stop : Stop) (file : Option Wanted) (place : Wanted) (R : Type 0) → IfSome file (λ file. file.name ≡ place.name) →
-    IsUntoldStop stop (and_then file []) R → IsUntoldStop stop (place ∷ []) R
+    IsOpaqueStop stop (and_then file []) R → IsOpaqueStop stop (place ∷ []) R
 named_stop (Refused name at cause) None place R named stops = absurd stops.1
 named_stop (Refused name at cause) (Some file) place R named stops =
     let reply = refusal name.now at cause.now in
@@ -141,23 +141,23 @@ last_stop all whole place last put is given ReadFault files R Q rose read stops 
 )
 last_stop all whole place last put is given NoMemory files R Q rose read stops = tt
 
-pub last_stop_told :
+pub last_stop_observable :
     (all whole : WantedFiles) (place : Wanted) (last : Contents → Option Wanted) (put : Contents → Option (List ℕ) → Contents) → IsAfter all place last whole put →
     (given : Contents) (stop : Stop) (R Q : Type 0) (o o' : Option Files) → (R → Q) → o' ≡ o →
     IfSome o (λ files. contents_of all files ≡ Ok given) →
     IfSome o' (λ files. IsReadStop stop (read_optional (last given) files) (IsFirstThere (and_then (last given) []) files × R)) →
     IfSome o (λ files. IsReadStop stop (contents_of whole files) (IsFirstThere (in_order whole) files × Q))
-last_stop_told all whole place last put is given stop R Q None o' rose same read stops = tt
-last_stop_told all whole place last put is given stop R Q (Some files) o' rose same read stops =
+last_stop_observable all whole place last put is given stop R Q None o' rose same read stops = tt
+last_stop_observable all whole place last put is given stop R Q (Some files) o' rose same read stops =
     let Stops : Option Files → Type 0 = λ o. IfSome o (λ files. IsReadStop stop (read_optional (last given) files) (IsFirstThere (and_then (last given) []) files × R)) in
     last_stop all whole place last put is given stop files R Q rose read (subst Stops same stops)
 
-pub last_stop_untold :
+pub last_stop_opaque :
     (all whole : WantedFiles) (place : Wanted) (last : Contents → Option Wanted) (put : Contents → Option (List ℕ) → Contents) → IsAfter all place last whole put →
     (given : Contents) (stop : Stop) (R Q : Type 0) (o o' : Option Files) → (R → Q) → o' ≡ o →
-    IfNone o' (IsUntoldStop stop (and_then (last given) []) R) → IfNone o (IsUntoldStop stop (in_order whole) Q)
-last_stop_untold all whole place last put is given stop R Q None o' rose same stops =
-    let Stops : Option Files → Type 0 = λ o. IfNone o (IsUntoldStop stop (and_then (last given) []) R) in
-    subst (λ all. IsUntoldStop stop all Q) (sym is.order)
-    (untold_later stop (in_order all) (place ∷ []) R Q rose (named_stop stop (last given) place R (is.named given) (subst Stops same stops)))
-last_stop_untold all whole place last put is given stop R Q (Some files) o' rose same stops = tt
+    IfNone o' (IsOpaqueStop stop (and_then (last given) []) R) → IfNone o (IsOpaqueStop stop (in_order whole) Q)
+last_stop_opaque all whole place last put is given stop R Q None o' rose same stops =
+    let Stops : Option Files → Type 0 = λ o. IfNone o (IsOpaqueStop stop (and_then (last given) []) R) in
+    subst (λ all. IsOpaqueStop stop all Q) (sym is.order)
+    (opaque_later stop (in_order all) (place ∷ []) R Q rose (named_stop stop (last given) place R (is.named given) (subst Stops same stops)))
+last_stop_opaque all whole place last put is given stop R Q (Some files) o' rose same stops = tt

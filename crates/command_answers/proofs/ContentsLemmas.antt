@@ -10,19 +10,19 @@ use Rattle.command_answers.specs.ListLemmas.{left_is}
 
 -- Some files were read, and some are left.
 pub record SoFar (files : Option Files) (all left : List Wanted) (got : List (List ℕ)) : Type 0 where
-  pub told : IfSome files (λ files. read_after got left files ≡ read_after [] all files)
+  pub observable : IfSome files (λ files. read_after got left files ≡ read_after [] all files)
   pub there : IfSome files (λ files. IsFirstThere left files → IsFirstThere all files)
   pub given : IfNone files ((rest : List (List ℕ)) → AreWithinLimits left rest → AreWithinLimits all (got ++ rest))
   pub unread : (reply : Reply) → IsUnread left reply → IsUnread all reply
 
-told_next :
+observable_next :
     (files : Option Files) (all rest : List Wanted) (file : Wanted) (got : List (List ℕ)) (bytes : List ℕ) →
     IfSome files (λ files. read_after got (file ∷ rest) files ≡ read_after [] all files) →
     IfSome files (λ files. content_of file (files file.name) ≡ Ok bytes) →
     IfSome files (λ files. read_after (got ++ bytes ∷ []) rest files ≡ read_after [] all files)
-told_next None all rest file got bytes told read = tt
-told_next (Some files) all rest file got bytes told read =
-    ap (λ step. step >>= λ bytes. read_after (got ++ bytes ∷ []) rest files) (sym read) ∙ told
+observable_next None all rest file got bytes observable read = tt
+observable_next (Some files) all rest file got bytes observable read =
+    ap (λ step. step >>= λ bytes. read_after (got ++ bytes ∷ []) rest files) (sym read) ∙ observable
 
 -- A file that was read is there.
 read_there : (file : Wanted) (content : Option (List ℕ)) (bytes : List ℕ) → content_of file content ≡ Ok bytes → IsSome content
@@ -54,7 +54,7 @@ pub next :
     IfNone files (length bytes ≤ file.limit) →
     SoFar files all rest (got ++ bytes ∷ [])
 next files all rest file got bytes so_far read short = record {
-  told = told_next files all rest file got bytes so_far.told read;
+  observable = observable_next files all rest file got bytes so_far.observable read;
   there = there_next files all rest file bytes so_far.there read;
   given = given_next files all rest file got bytes so_far.given short;
   unread = λ reply unread. so_far.unread reply (inr (inr unread));

@@ -2,8 +2,8 @@
 use Rattle.std.proofs.Common.{◌≡◌, ℕ, List, [], ◌∷◌, map, Option, None, Some, Ok, Err, IfSome, refl}
 use Rattle.std.specs.Prelude.{option_map}
 use Rattle.base.specs.Steps.{◌>>=◌}
-use Rattle.command_answers.specs.declared.files.PlayedFile.{PlayedFile}
-use Rattle.command_answers.specs.declared.files.PlayedFile.TheVariants.{Script, Replay, Save, Compared}
+use Rattle.command_answers.specs.declared.files.InputFile.{InputFile}
+use Rattle.command_answers.specs.declared.files.InputFile.TheVariants.{Script, Replay, Save, Compared}
 use Rattle.command_answers.specs.Step.{Step}
 use Rattle.command_answers.specs.WantedFiles.{Wanted, rule_file, replay_file, save_file, rules_and_map, with_first, second_file, second_limit}
 use Rattle.command_answers.specs.Given.{played_file, played_files, paired_files, compared_files}
@@ -21,7 +21,7 @@ put_first given bytes = record given { first = bytes }
 abbrev pub put_replay : Contents → Option (List ℕ) → Contents
 put_replay given bytes = record given { replay = bytes }
 
-abbrev pub put_played : PlayedFile → Contents → Option (List ℕ) → Contents
+abbrev pub put_played : InputFile → Contents → Option (List ℕ) → Contents
 put_played (Script name) = put_script
 put_played (Replay name) = put_replay
 put_played (Save name) = put_first
@@ -68,11 +68,11 @@ first_after first names map_file = record {
 }
 
 -- The file that is wanted after rules and a map.
-abbrev pub wanted_last : PlayedFile → Contents → Option Wanted
+abbrev pub wanted_last : InputFile → Contents → Option Wanted
 wanted_last played given = Some (played_file played)
 
 pub played_after :
-    (played : PlayedFile) (names : List (List ℕ)) (map_file : Option (List ℕ)) →
+    (played : InputFile) (names : List (List ℕ)) (map_file : Option (List ℕ)) →
     IsAfter (rules_and_map names map_file) (played_file played) (wanted_last played) (played_files played names map_file) (put_played played)
 played_after (Script name) names map_file = record {
   order = and_then_more (map rule_file names) (option_map rule_file map_file) [] (played_file (Script name) ∷ []);

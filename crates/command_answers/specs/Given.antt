@@ -2,9 +2,9 @@
 use Rattle.std.specs.Prelude.{ℕ, List, Option, None, Some, map, option_map}
 use Rattle.std.specs.Global.{Vec}
 use Rattle.command_answers.specs.declared.files.GivenFiles.{GivenFiles}
-use Rattle.command_answers.specs.declared.files.PlayedFile.{PlayedFile}
-use Rattle.command_answers.specs.declared.files.PlayedFile.TheVariants.{Script, Replay, Save}
-use Rattle.command_answers.specs.declared.files.PlayedFile.TheVariants.{Compared}
+use Rattle.command_answers.specs.declared.files.InputFile.{InputFile}
+use Rattle.command_answers.specs.declared.files.InputFile.TheVariants.{Script, Replay, Save}
+use Rattle.command_answers.specs.declared.files.InputFile.TheVariants.{Compared}
 use Rattle.command_answers.specs.declared.paired.ComparedFiles.{ComparedFiles}
 use Rattle.command_answers.specs.declared.paired.PairedFiles.{PairedFiles}
 use Rattle.command_answers.specs.WantedFiles.{Wanted, WantedFiles, script_file, replay_file}
@@ -35,14 +35,14 @@ abbrev pub first_contents : GivenFiles × Vec ℕ → Contents
 first_contents given = record (given_contents given.0) { first = Some given.1.items }
 
 -- The file that is read after rules and a map.
-abbrev pub played_file : PlayedFile → Wanted
+abbrev pub played_file : InputFile → Wanted
 played_file (Script name) = script_file name.now
 played_file (Replay name) = replay_file name.now
 played_file (Save name) = save_file name.now
 played_file (Compared name) = replay_file name.now
 
 -- Rule files, a map, if one is named, and after them this file.
-abbrev pub played_files : PlayedFile → List (List ℕ) → Option (List ℕ) → WantedFiles
+abbrev pub played_files : InputFile → List (List ℕ) → Option (List ℕ) → WantedFiles
 played_files (Script name) names map_file = with_script name.now (rules_and_map names map_file)
 played_files (Replay name) names map_file = with_replay name.now (rules_and_map names map_file)
 played_files (Save name) names map_file = with_save name.now (rules_and_map names map_file)
@@ -50,7 +50,7 @@ played_files (Compared name) names map_file =
     with_first (replay_file name.now) (rules_and_map names map_file)
 
 -- Their contents.
-abbrev pub played_contents : PlayedFile → GivenFiles × Vec ℕ → Contents
+abbrev pub played_contents : InputFile → GivenFiles × Vec ℕ → Contents
 played_contents (Script name) given = script_contents given
 played_contents (Replay name) given = replay_contents given
 played_contents (Save name) given = first_contents given

@@ -39,17 +39,17 @@ ReturnsStep result view step = ReturnsOrStops result view step ⊥
 
 -- Over a disk that tells nothing its count of faults rose, and a file is missing, too long, or
 -- could not be read.
-abbrev pub IsUntoldStop : Stop → List Wanted → (rose : Type 0) → Type 0
-IsUntoldStop (Refused name line cause) files rose =
+abbrev pub IsOpaqueStop : Stop → List Wanted → (rose : Type 0) → Type 0
+IsOpaqueStop (Refused name line cause) files rose =
     rose × IsUnread files (refusal name.now line cause.now)
-IsUntoldStop ReadFault files rose = rose
-IsUntoldStop NoMemory files rose = Unit {0}
+IsOpaqueStop ReadFault files rose = rose
+IsOpaqueStop NoMemory files rose = Unit {0}
 
 -- The same, or a value of which `Holds` is true.
-abbrev pub ReturnsUntold :
+abbrev pub ReturnsOpaque :
     {S : Type 0} → Result S Stop → (Holds : S → Type 0) → List Wanted → (rose : Type 0) → Type 0
-ReturnsUntold (Ok value) Holds files rose = Holds value
-ReturnsUntold (Err stop) Holds files rose = IsUntoldStop stop files rose
+ReturnsOpaque (Ok value) Holds files rose = Holds value
+ReturnsOpaque (Err stop) Holds files rose = IsOpaqueStop stop files rose
 
 -- What is printed and answered for a stop.
 abbrev pub PrintsStop : Stop → ℕ → (old new : SinkState) → Type 0

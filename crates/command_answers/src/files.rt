@@ -8,7 +8,7 @@ ghost use Rattle.command_answers.specs.Contents.{AreContents};
 ghost use Rattle.command_answers.specs.Reply.{refusal};
 ghost use Rattle.command_answers.specs.Given.{given_contents, played_contents};
 ghost use Rattle.command_answers.specs.Given.{played_file, played_files};
-ghost use Rattle.command_answers.specs.Stop.{IsRefusal, ReturnsOrStops, ReturnsUntold};
+ghost use Rattle.command_answers.specs.Stop.{IsRefusal, ReturnsOrStops, ReturnsOpaque};
 ghost use Rattle.command_answers.specs.WantedFiles.{and_then, in_order};
 ghost use Rattle.command_answers.specs.WantedFiles.{rule_file, rules_and_map};
 
@@ -38,12 +38,12 @@ pub fn read_one<'a, D: Disk>(
     name: &'a str,
     limit: u32,
 ) -> Result<Vec<u8>, Stop<'a>>
-    ensures told { IfSome (D.state disk.old).files
+    ensures observable { IfSome (D.state disk.old).files
         (λ files. ReturnsOrStops result (λ bytes. bytes.items)
         (content_of (record { name = name.now; limit = limit }) (files name.now))
         (IsSome (files name.now) × Increased (D.state disk.old).faults (D.state disk.new).faults)) }
-    ensures untold { IfNone (D.state disk.old).files
-        (ReturnsUntold result (λ bytes. length bytes.items ≤ limit)
+    ensures opaque { IfNone (D.state disk.old).files
+        (ReturnsOpaque result (λ bytes. length bytes.items ≤ limit)
         (record { name = name.now; limit = limit } ∷ [])
         (Increased (D.state disk.old).faults (D.state disk.new).faults)) }
     ensures short { IfOk result (λ bytes. length bytes.items ≤ limit) }
@@ -65,13 +65,13 @@ pub fn read_rules<'a, D: Disk>(
     disk: &mut D,
     names: &[&'a str],
 ) -> Result<Vec<Vec<u8>>, Stop<'a>>
-    ensures told { IfSome (D.state disk.old).files
+    ensures observable { IfSome (D.state disk.old).files
         (λ files. ReturnsOrStops result (λ contents. map (λ bytes. bytes.items) contents.items)
         (read_after [] (map rule_file (map (λ name. name.now) names.now)) files)
         (IsFirstThere (map rule_file (map (λ name. name.now) names.now)) files
         × Increased (D.state disk.old).faults (D.state disk.new).faults)) }
-    ensures untold { IfNone (D.state disk.old).files
-        (ReturnsUntold result
+    ensures opaque { IfNone (D.state disk.old).files
+        (ReturnsOpaque result
         (λ contents. AreWithinLimits (map rule_file (map (λ name. name.now) names.now))
         (map (λ bytes. bytes.items) contents.items))
         (map rule_file (map (λ name. name.now) names.now))
@@ -118,13 +118,13 @@ pub(crate) fn read_wanted<'a, D: Disk>(
     name: &'a str,
     limit: u32,
 ) -> Result<Option<Vec<u8>>, Stop<'a>>
-    ensures told { IfSome (D.state disk.old).files
+    ensures observable { IfSome (D.state disk.old).files
         (λ files. ReturnsOrStops result (option_map (λ bytes. bytes.items))
         (read_optional (Some (record { name = name.now; limit = limit })) files)
         (IsFirstThere (record { name = name.now; limit = limit } ∷ []) files
         × Increased (D.state disk.old).faults (D.state disk.new).faults)) }
-    ensures untold { IfNone (D.state disk.old).files
-        (ReturnsUntold result
+    ensures opaque { IfNone (D.state disk.old).files
+        (ReturnsOpaque result
         (λ given. IsWithinLimit (Some (record { name = name.now; limit = limit }))
         (option_map (λ bytes. bytes.items) given))
         (record { name = name.now; limit = limit } ∷ [])
@@ -144,14 +144,14 @@ fn read_named<'a, D: Disk>(
     disk: &mut D,
     name: Option<&'a str>,
 ) -> Result<Option<Vec<u8>>, Stop<'a>>
-    ensures told { IfSome (D.state disk.old).files
+    ensures observable { IfSome (D.state disk.old).files
         (λ files. ReturnsOrStops result (option_map (λ bytes. bytes.items))
         (read_optional (option_map rule_file (option_map (λ name. name.now) name.entry)) files)
         (IsFirstThere
         (and_then (option_map rule_file (option_map (λ name. name.now) name.entry)) []) files
         × Increased (D.state disk.old).faults (D.state disk.new).faults)) }
-    ensures untold { IfNone (D.state disk.old).files
-        (ReturnsUntold result
+    ensures opaque { IfNone (D.state disk.old).files
+        (ReturnsOpaque result
         (λ given. IsWithinLimit (option_map rule_file (option_map (λ name. name.now) name.entry))
         (option_map (λ bytes. bytes.items) given))
         (and_then (option_map rule_file (option_map (λ name. name.now) name.entry)) [])
@@ -172,15 +172,15 @@ pub fn read_files<'a, D: Disk>(
     names: &[&'a str],
     map_file: Option<&'a str>,
 ) -> Result<GivenFiles, Stop<'a>>
-    ensures told { IfSome (D.state disk.old).files
+    ensures observable { IfSome (D.state disk.old).files
         (λ files. ReturnsOrStops result given_contents
         (contents_of (rules_and_map (map (λ name. name.now) names.now)
         (option_map (λ name. name.now) map_file.entry)) files)
         (IsFirstThere (in_order (rules_and_map (map (λ name. name.now) names.now)
         (option_map (λ name. name.now) map_file.entry))) files
         × Increased (D.state disk.old).faults (D.state disk.new).faults)) }
-    ensures untold { IfNone (D.state disk.old).files
-        (ReturnsUntold result
+    ensures opaque { IfNone (D.state disk.old).files
+        (ReturnsOpaque result
         (λ given. AreContents (rules_and_map (map (λ name. name.now) names.now)
         (option_map (λ name. name.now) map_file.entry)) (given_contents given))
         (in_order (rules_and_map (map (λ name. name.now) names.now)
@@ -208,7 +208,7 @@ pub const MAX_REPLAY_BYTES: u32 = 268_435_456;
 
 /// The name of a file that is read after rules and a map.
 #[derive(Clone, Copy, Drop)]
-pub enum PlayedFile<'a> {
+pub enum InputFile<'a> {
     /// That of a drill or a script.
     Script(&'a str),
     /// That of a replay.
@@ -223,15 +223,15 @@ pub enum PlayedFile<'a> {
 pub(crate) fn read_played<'a, D: Disk>(
     alloc: Global,
     disk: &mut D,
-    played: PlayedFile<'a>,
+    played: InputFile<'a>,
 ) -> Result<Vec<u8>, Stop<'a>>
-    ensures told { IfSome (D.state disk.old).files
+    ensures observable { IfSome (D.state disk.old).files
         (λ files. ReturnsOrStops result (λ bytes. Some bytes.items)
         (read_optional (Some (played_file played.entry)) files)
         (IsFirstThere (played_file played.entry ∷ []) files
         × Increased (D.state disk.old).faults (D.state disk.new).faults)) }
-    ensures untold { IfNone (D.state disk.old).files
-        (ReturnsUntold result
+    ensures opaque { IfNone (D.state disk.old).files
+        (ReturnsOpaque result
         (λ bytes. IsWithinLimit (Some (played_file played.entry)) (Some bytes.items))
         (played_file played.entry ∷ []) (Increased (D.state disk.old).faults (D.state disk.new).faults)) }
     ensures short { IfOk result (λ bytes. length bytes.items ≤ (played_file played.entry).limit) }
@@ -239,10 +239,10 @@ pub(crate) fn read_played<'a, D: Disk>(
     ensures later { (D.state disk.old).faults ≤ (D.state disk.new).faults }
 {
     match played {
-        PlayedFile::Script(name) => read_one(alloc, disk, name, MAX_DRILL_BYTES),
-        PlayedFile::Replay(name) => read_one(alloc, disk, name, MAX_REPLAY_BYTES),
-        PlayedFile::Save(name) => read_one(alloc, disk, name, MAX_SAVE_BYTES),
-        PlayedFile::Compared(name) => read_one(alloc, disk, name, MAX_REPLAY_BYTES),
+        InputFile::Script(name) => read_one(alloc, disk, name, MAX_DRILL_BYTES),
+        InputFile::Replay(name) => read_one(alloc, disk, name, MAX_REPLAY_BYTES),
+        InputFile::Save(name) => read_one(alloc, disk, name, MAX_SAVE_BYTES),
+        InputFile::Compared(name) => read_one(alloc, disk, name, MAX_REPLAY_BYTES),
     }
 }
 
@@ -252,17 +252,17 @@ pub fn read_played_files<'a, D: Disk>(
     disk: &mut D,
     names: &[&'a str],
     map_file: Option<&'a str>,
-    played: PlayedFile<'a>,
+    played: InputFile<'a>,
 ) -> Result<(GivenFiles, Vec<u8>), Stop<'a>>
-    ensures told { IfSome (D.state disk.old).files
+    ensures observable { IfSome (D.state disk.old).files
         (λ files. ReturnsOrStops result (played_contents played.entry)
         (contents_of (played_files played.entry (map (λ name. name.now) names.now)
         (option_map (λ name. name.now) map_file.entry)) files)
         (IsFirstThere (in_order (played_files played.entry (map (λ name. name.now) names.now)
         (option_map (λ name. name.now) map_file.entry))) files
         × Increased (D.state disk.old).faults (D.state disk.new).faults)) }
-    ensures untold { IfNone (D.state disk.old).files
-        (ReturnsUntold result
+    ensures opaque { IfNone (D.state disk.old).files
+        (ReturnsOpaque result
         (λ given. AreContents (played_files played.entry (map (λ name. name.now) names.now)
         (option_map (λ name. name.now) map_file.entry)) (played_contents played.entry given))
         (in_order (played_files played.entry (map (λ name. name.now) names.now)

@@ -6,7 +6,7 @@ ghost use Rattle.command_answers.specs.Contents.{contents_of, read_optional};
 ghost use Rattle.command_answers.specs.Contents.{AreContents, IsFirstThere, IsWithinLimit};
 ghost use Rattle.command_answers.specs.Given.{compared_contents, compared_files};
 ghost use Rattle.command_answers.specs.Given.{paired_contents, paired_files};
-ghost use Rattle.command_answers.specs.Stop.{ReturnsOrStops, ReturnsUntold};
+ghost use Rattle.command_answers.specs.Stop.{ReturnsOrStops, ReturnsOpaque};
 ghost use Rattle.command_answers.specs.WantedFiles.{and_then, begins_save, in_order};
 ghost use Rattle.command_answers.specs.WantedFiles.{is_too_long, pair_limit, second_file};
 ghost use Rattle.command_answers.specs.WantedFiles.{second_limit};
@@ -14,7 +14,7 @@ ghost use Rattle.command_answers.specs.declared.files.TheConstants.{MAX_SAVE_BYT
 ghost use Rattle.command_answers.specs.declared.files.TheConstants.{MAX_REPLAY_BYTES};
 
 use crate::files::{
-    GivenFiles, MAX_REPLAY_BYTES, MAX_SAVE_BYTES, PlayedFile, read_played, read_played_files,
+    GivenFiles, MAX_REPLAY_BYTES, MAX_SAVE_BYTES, InputFile, read_played, read_played_files,
     read_wanted,
 };
 use crate::stop::Stop;
@@ -41,15 +41,15 @@ pub fn read_paired_files<'a, D: Disk>(
     save: &'a str,
     replay: &'a str,
 ) -> Result<PairedFiles, Stop<'a>>
-    ensures told { IfSome (D.state disk.old).files
+    ensures observable { IfSome (D.state disk.old).files
         (λ files. ReturnsOrStops result paired_contents
         (contents_of (paired_files save.now replay.now (map (λ name. name.now) names.now)
         (option_map (λ name. name.now) map_file.entry)) files)
         (IsFirstThere (in_order (paired_files save.now replay.now (map (λ name. name.now) names.now)
         (option_map (λ name. name.now) map_file.entry))) files
         × Increased (D.state disk.old).faults (D.state disk.new).faults)) }
-    ensures untold { IfNone (D.state disk.old).files
-        (ReturnsUntold result
+    ensures opaque { IfNone (D.state disk.old).files
+        (ReturnsOpaque result
         (λ given. AreContents (paired_files save.now replay.now (map (λ name. name.now) names.now)
         (option_map (λ name. name.now) map_file.entry)) (paired_contents given))
         (in_order (paired_files save.now replay.now (map (λ name. name.now) names.now)
@@ -61,12 +61,12 @@ pub fn read_paired_files<'a, D: Disk>(
     ensures files { (D.state disk.new).files ≡ (D.state disk.old).files }
     ensures later { (D.state disk.old).faults ≤ (D.state disk.new).faults }
 {
-    let first = PlayedFile::Save(save);
+    let first = InputFile::Save(save);
     let (files, save) = match read_played_files(alloc, disk, names, map_file, first) {
         Ok(given) => given,
         Err(stop) => return Err(stop),
     };
-    match read_played(alloc, disk, PlayedFile::Replay(replay)) {
+    match read_played(alloc, disk, InputFile::Replay(replay)) {
         Ok(replay) => Ok(PairedFiles {
             files,
             save,
@@ -146,13 +146,13 @@ fn read_second<'a, D: Disk>(
     name: &'a str,
     first: &[u8],
 ) -> Result<Option<Vec<u8>>, Stop<'a>>
-    ensures told { IfSome (D.state disk.old).files
+    ensures observable { IfSome (D.state disk.old).files
         (λ files. ReturnsOrStops result (option_map (λ bytes. bytes.items))
         (read_optional (second_file name.now (Some first.now)) files)
         (IsFirstThere (and_then (second_file name.now (Some first.now)) []) files
         × Increased (D.state disk.old).faults (D.state disk.new).faults)) }
-    ensures untold { IfNone (D.state disk.old).files
-        (ReturnsUntold result
+    ensures opaque { IfNone (D.state disk.old).files
+        (ReturnsOpaque result
         (λ given. IsWithinLimit (second_file name.now (Some first.now))
         (option_map (λ bytes. bytes.items) given))
         (and_then (second_file name.now (Some first.now)) [])
@@ -177,15 +177,15 @@ pub fn read_compared_files<'a, D: Disk>(
     first: &'a str,
     second: &'a str,
 ) -> Result<ComparedFiles, Stop<'a>>
-    ensures told { IfSome (D.state disk.old).files
+    ensures observable { IfSome (D.state disk.old).files
         (λ files. ReturnsOrStops result compared_contents
         (contents_of (compared_files first.now second.now (map (λ name. name.now) names.now)
         (option_map (λ name. name.now) map_file.entry)) files)
         (IsFirstThere (in_order (compared_files first.now second.now
         (map (λ name. name.now) names.now) (option_map (λ name. name.now) map_file.entry))) files
         × Increased (D.state disk.old).faults (D.state disk.new).faults)) }
-    ensures untold { IfNone (D.state disk.old).files
-        (ReturnsUntold result
+    ensures opaque { IfNone (D.state disk.old).files
+        (ReturnsOpaque result
         (λ given. AreContents (compared_files first.now second.now
         (map (λ name. name.now) names.now) (option_map (λ name. name.now) map_file.entry))
         (compared_contents given))
@@ -199,7 +199,7 @@ pub fn read_compared_files<'a, D: Disk>(
     ensures files { (D.state disk.new).files ≡ (D.state disk.old).files }
     ensures later { (D.state disk.old).faults ≤ (D.state disk.new).faults }
 {
-    let played = PlayedFile::Compared(first);
+    let played = InputFile::Compared(first);
     let (files, first) = match read_played_files(alloc, disk, names, map_file, played) {
         Ok(given) => given,
         Err(stop) => return Err(stop),

@@ -157,12 +157,12 @@ fn check_command<'a>(alloc: Global) -> Result<Command<'a>, NoMemory>
 fn route_command<'a>(alloc: Global) -> Result<Command<'a>, NoMemory>
     ensures { IfOk result (Follows route_app) }
 {
-    ends_command(alloc)?.arg(file_names(alloc))
+    route_with_cells(alloc)?.arg(file_names(alloc))
 }
 
 /// `route` with all its options.
 #[tactic(auto, unfolding(crate::specs::Commands::ends_app))]
-fn ends_command<'a>(alloc: Global) -> Result<Command<'a>, NoMemory>
+fn route_with_cells<'a>(alloc: Global) -> Result<Command<'a>, NoMemory>
     ensures { IfOk result (Follows ends_app) }
 {
     routed_command(alloc)?
@@ -221,14 +221,14 @@ fn bound_command<'a>(alloc: Global) -> Result<Command<'a>, NoMemory>
 fn clocked_command<'a>(alloc: Global) -> Result<Command<'a>, NoMemory>
     ensures { IfOk result (Follows clocked_app) }
 {
-    timed_command(alloc)?
+    serve_with_numbers(alloc)?
         .arg(number_option(alloc, "patience", 1, MAX_SECONDS))?
         .arg(number_option(alloc, "lobby", 1, MAX_SECONDS))
 }
 
 /// `serve` with the numbers of the match.
 #[tactic(auto, unfolding(crate::specs::Commands::timed_app))]
-fn timed_command<'a>(alloc: Global) -> Result<Command<'a>, NoMemory>
+fn serve_with_numbers<'a>(alloc: Global) -> Result<Command<'a>, NoMemory>
     ensures { IfOk result (Follows timed_app) }
 {
     hosted_command(alloc)?

@@ -5,7 +5,7 @@ ghost use Rattle.command_words.specs.Reading.{request_of};
 ghost use Rattle.command_words.specs.RequestPlain.{plain_of, FitsHost, IsWithinBounds};
 
 use crate::host::HostOptions;
-use crate::reading::read_words;
+use crate::reading::read_arguments;
 use crate::request::Request;
 use crate::words_fault::WordsFault;
 use base::NoMemory;
@@ -19,7 +19,7 @@ pub fn host_options(alloc: Global, words: &[String]) -> Result<HostOptions, NoMe
         (λ options. options ≡ options_in (request_of (map string_bytes words.now))) }
     ensures fits { IfOk result FitsHost }
 {
-    match read_words(alloc, words) {
+    match read_arguments(alloc, words) {
         Ok(request) => Ok(options_of(&request)),
         Err(WordsFault::Refused) => Ok(HostOptions::none()),
         Err(WordsFault::NoMemory) => Err(AllocError),

@@ -1,6 +1,6 @@
 //! The words of the command line, read by `clap`.
 //!
-//! `read_words` returns the request that they name. A list of words is accepted exactly where
+//! `read_arguments` returns the request that they name. A list of words is accepted exactly where
 //! `clap`'s own definition of such a command line accepts it, the number of files that it names is
 //! allowed, the cells of a route are cells, a player is one, and ports are ports; the definition stands
 //! in `specs/Commands.antt`, one entry a command. [`host_options`] has what the words say of the log,
@@ -40,7 +40,7 @@ pub use laws::{
 };
 pub use match_query::MatchQuery;
 pub use port_range::{MAX_PORT, PortRange};
-pub use reading::read_words;
+pub use reading::read_arguments;
 pub use request::Request;
 pub use route_query::RouteQuery;
 pub use serve_query::{DEFAULT_LAG, DEFAULT_SEED, ServeQuery};

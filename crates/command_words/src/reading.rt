@@ -38,7 +38,7 @@ use world_units::CPos;
 /// The words are `Refused` exactly where they name none; `NoMemory` is the other refusal. The
 /// request borrows its names from the words.
 #[tactic(auto, unfolding(crate::specs::Reading::request_of))]
-pub fn read_words<'a>(alloc: Global, words: &'a [String]) -> Result<Request<'a>, WordsFault>
+pub fn read_arguments<'a>(alloc: Global, words: &'a [String]) -> Result<Request<'a>, WordsFault>
     ensures request { IfOk result
         (λ request. request_of (map string_bytes words.now) ≡ Some (plain_of request)) }
     ensures bounds { IfOk result IsWithinBounds }

@@ -50,8 +50,8 @@ pub record ReadsFile
     (old new : DiskState) (name : List ℕ) (limit : ℕ) (result : Result (Vec ℕ) DiskError)
     : Type 0 where
   pub same : new.files ≡ old.files
-  pub told : IfSome old.files (λ files. IsAnswer result (files name) limit)
-  pub untold : IfNone old.files (OnRefused result (Increased old.faults new.faults))
+  pub observable : IfSome old.files (λ files. IsAnswer result (files name) limit)
+  pub opaque : IfNone old.files (OnRefused result (Increased old.faults new.faults))
   pub short : IfOk result (λ bytes. length bytes.items ≤ limit)
   pub later : old.faults ≤ new.faults
   pub failed : OnFailed result (Increased old.faults new.faults)

@@ -18,9 +18,9 @@ use Rattle.command_answers.specs.OptionLemmas.{map_some, map_none}
 use Rattle.command_answers.specs.Printing.{PrintsReply, MayPrintReply}
 use Rattle.command_answers.specs.Reply.{Reply, refusal, read_fault}
 use Rattle.command_answers.specs.Step.{Step}
-use Rattle.command_answers.specs.Stop.{IsReadStop, IsStepStop, IsUntoldStop, PrintsStop}
+use Rattle.command_answers.specs.Stop.{IsReadStop, IsStepStop, IsOpaqueStop, PrintsStop}
 use Rattle.command_answers.specs.WantedFiles.{WantedFiles, in_order}
-use Rattle.link_commands.specs.Links.{WithLinks, with_links, RunsLinked, Begins, EndsBefore, IsApart, IsToldStart, IsUntoldStart, MadePrints, causes_by}
+use Rattle.link_commands.specs.Links.{WithLinks, with_links, RunsLinked, Begins, EndsBefore, IsApart, IsObservableStart, IsOpaqueStart, MadePrints, causes_by}
 
 -- ---- printed replies
 
@@ -68,29 +68,29 @@ pub linked_given :
     Begins (start contents) Goes status old new ⊎ EndsBefore status old new →
     IsCaused Done (IsOk (start contents)) status causes →
     RunsLinked wants start Goes Done status causes old new
-linked_given wants all start Goes Done contents status causes old new wants_all same later later' told untold begins caused = record {
-  told = map_some old.disk.files _ _ (λ files read. told_start files (over files read) begins) told;
-  untold = map_none old.disk.files (λ given. untold_start (subst (λ wanted. AreContents wanted contents) (sym wants_all) given) begins) untold;
+linked_given wants all start Goes Done contents status causes old new wants_all same later later' observable opaque begins caused = record {
+  observable = map_some old.disk.files _ _ (λ files read. observable_start files (over files read) begins) observable;
+  opaque = map_none old.disk.files (λ given. opaque_start (subst (λ wanted. AreContents wanted contents) (sym wants_all) given) begins) opaque;
   accepted = caused.has.accepted;
   read = caused.has.read;
   write = caused.has.write;
   complete = λ quiet. map_some old.disk.files _ _
-      (λ files read fine. caused.done quiet (subst IsOk (over files read) fine)) told;
+      (λ files read fine. caused.done quiet (subst IsOk (over files read) fine)) observable;
   files = same;
   later = (later, later');
 } where
   over : (files : Files) → contents_of all files ≡ Ok contents → (contents_of wants files >>= start) ≡ start contents
   over files read = ap (λ wanted. contents_of wanted files >>= start) wants_all ∙ ap (λ step. step >>= start) read
 
-  told_start : (files : Files) → (contents_of wants files >>= start) ≡ start contents →
-      Begins (start contents) Goes status old new ⊎ EndsBefore status old new → IsToldStart wants start Goes files status old new
-  told_start files is (inl begins) = inl (subst (λ step. Begins step Goes status old new) (sym is) begins)
-  told_start files is (inr before) = inr (inl before)
+  observable_start : (files : Files) → (contents_of wants files >>= start) ≡ start contents →
+      Begins (start contents) Goes status old new ⊎ EndsBefore status old new → IsObservableStart wants start Goes files status old new
+  observable_start files is (inl begins) = inl (subst (λ step. Begins step Goes status old new) (sym is) begins)
+  observable_start files is (inr before) = inr (inl before)
 
-  untold_start : AreContents wants contents → Begins (start contents) Goes status old new ⊎ EndsBefore status old new →
-      IsUntoldStart wants start Goes status old new
-  untold_start given (inl begins) = inl (contents, (given, begins))
-  untold_start given (inr before) = inr (inl before)
+  opaque_start : AreContents wants contents → Begins (start contents) Goes status old new ⊎ EndsBefore status old new →
+      IsOpaqueStart wants start Goes status old new
+  opaque_start given (inl begins) = inl (contents, (given, begins))
+  opaque_start given (inr before) = inr (inl before)
 
 -- A stop at what the command makes of the contents.
 pub stop_begins :
@@ -123,8 +123,8 @@ stop_caused NoMemory step Done status old new net_failed stops prints =
 -- ---- a file was not read
 
 rose_of : {R : Type 0} (o : Option Files) (There : Files → Type 0) → IfSome o (λ files. There files × R) → IfNone o R → R
-rose_of None There told untold = untold
-rose_of (Some files) There told untold = told.1
+rose_of None There observable opaque = opaque
+rose_of (Some files) There observable opaque = observable.1
 
 pub linked_stopped :
     {T : Type 0} (wants all : WantedFiles) (start : Contents → Step T) (Goes : T → Type 0) (Done : ℕ → Type 0) (stop : Stop)
@@ -132,17 +132,17 @@ pub linked_stopped :
     wants ≡ all → new.disk.files ≡ old.disk.files → old.disk.faults ≤ new.disk.faults → old.sink.faults ≤ new.sink.faults →
     IfSome old.disk.files (λ files. IsReadStop stop (contents_of all files)
     (IsFirstThere (in_order all) files × Increased old.disk.faults new.disk.faults)) →
-    IfNone old.disk.files (IsUntoldStop stop (in_order all) (Increased old.disk.faults new.disk.faults)) →
+    IfNone old.disk.files (IsOpaqueStop stop (in_order all) (Increased old.disk.faults new.disk.faults)) →
     PrintsStop stop status old.sink new.sink → IsApart old new →
     RunsLinked wants start Goes Done status (causes_by net_failed old new) old new
-linked_stopped wants all start Goes Done (Refused name place cause) status net_failed old new wants_all same later later' told untold prints apart = record {
-  told = map_some old.disk.files _ _ (λ files read. inl (refused files (over files read))) told;
-  untold = map_none old.disk.files
-      (λ unread. inr (inr (unread.0, apart, inl (reply, (subst (λ wanted. IsUnread (in_order wanted) reply) (sym wants_all) unread.1, prints))))) untold;
+linked_stopped wants all start Goes Done (Refused name place cause) status net_failed old new wants_all same later later' observable opaque prints apart = record {
+  observable = map_some old.disk.files _ _ (λ files read. inl (refused files (over files read))) observable;
+  opaque = map_none old.disk.files
+      (λ unread. inr (inr (unread.0, apart, inl (reply, (subst (λ wanted. IsUnread (in_order wanted) reply) (sym wants_all) unread.1, prints))))) opaque;
   accepted = causes.accepted;
   read = causes.read;
   write = causes.write;
-  complete = λ quiet. map_some old.disk.files _ _ (λ files read fine. absurd (not_ok _ reply (over files read) fine)) told;
+  complete = λ quiet. map_some old.disk.files _ _ (λ files read fine. absurd (not_ok _ reply (over files read) fine)) observable;
   files = same;
   later = (later, later');
 } where
@@ -158,30 +158,30 @@ linked_stopped wants all start Goes Done (Refused name place cause) status net_f
   causes : HasCauses status (Increased old.disk.faults new.disk.faults ⊎ net_failed)
       (Increased old.sink.faults new.sink.faults ⊎ (causes_by net_failed old new).write)
   causes = printed_causes reply status old.sink new.sink _ _ (λ e. settled_causes status _ _ _ file_settled e) prints
-linked_stopped wants all start Goes Done ReadFault status net_failed old new wants_all same later later' told untold prints apart = record {
-  told = map_some old.disk.files _ _
-      (λ files read. inr (inr (subst (λ wanted. IsFirstThere (in_order wanted) files) (sym wants_all) read.0, read.1, prints, apart))) told;
-  untold = map_none old.disk.files (λ rose. inr (inr (rose, apart, inr prints))) untold;
+linked_stopped wants all start Goes Done ReadFault status net_failed old new wants_all same later later' observable opaque prints apart = record {
+  observable = map_some old.disk.files _ _
+      (λ files read. inr (inr (subst (λ wanted. IsFirstThere (in_order wanted) files) (sym wants_all) read.0, read.1, prints, apart))) observable;
+  opaque = map_none old.disk.files (λ rose. inr (inr (rose, apart, inr prints))) opaque;
   accepted = causes.accepted;
   read = causes.read;
   write = causes.write;
-  complete = λ quiet. map_some old.disk.files _ _ (λ files read fine. absurd (quiet.read rose)) told;
+  complete = λ quiet. map_some old.disk.files _ _ (λ files read fine. absurd (quiet.read rose)) observable;
   files = same;
   later = (later, later');
 } where
   rose : Increased old.disk.faults new.disk.faults
-  rose = rose_of old.disk.files (IsFirstThere (in_order all)) told untold
+  rose = rose_of old.disk.files (IsFirstThere (in_order all)) observable opaque
 
   causes : HasCauses status (Increased old.disk.faults new.disk.faults ⊎ net_failed)
       (Increased old.sink.faults new.sink.faults ⊎ (causes_by net_failed old new).write)
   causes = printed_causes read_fault status old.sink new.sink _ _ (λ e. at_read status _ _ (inl rose) e) (inl prints)
-linked_stopped wants all start Goes Done NoMemory status net_failed old new wants_all same later later' told untold prints apart = record {
-  told = map_some old.disk.files _ _ (λ files read. inr (inl before)) told;
-  untold = map_none old.disk.files (λ unread. inr (inl before)) untold;
+linked_stopped wants all start Goes Done NoMemory status net_failed old new wants_all same later later' observable opaque prints apart = record {
+  observable = map_some old.disk.files _ _ (λ files read. inr (inl before)) observable;
+  opaque = map_none old.disk.files (λ unread. inr (inl before)) opaque;
   accepted = causes.accepted;
   read = causes.read;
   write = causes.write;
-  complete = λ quiet. map_some old.disk.files _ _ (λ files read fine. inr prints.0) told;
+  complete = λ quiet. map_some old.disk.files _ _ (λ files read fine. inr prints.0) observable;
   files = same;
   later = (later, later');
 } where

@@ -58,10 +58,10 @@ Begins (Err reply) Goes status old new =
 
 -- Over a disk that tells its files they decide, by what the command makes of their contents. Else a
 -- read failed, which it can where the first file is there.
-abbrev pub IsToldStart :
+abbrev pub IsObservableStart :
     {T : Type 0} → WantedFiles → (Contents → Step T) → (T → Type 0) → Files → ℕ →
     (old new : WithLinks) → Type 0
-IsToldStart wants start Goes files status old new =
+IsObservableStart wants start Goes files status old new =
     Begins (contents_of wants files >>= start) Goes status old new
     ⊎ (EndsBefore status old new
     ⊎ (IsFirstThere (in_order wants) files
@@ -71,10 +71,10 @@ IsToldStart wants start Goes files status old new =
 
 -- Over a disk that tells nothing the contents that it gave decide. Else its count of faults rose,
 -- and a file is missing, too long, or could not be read.
-abbrev pub IsUntoldStart :
+abbrev pub IsOpaqueStart :
     {T : Type 0} → WantedFiles → (Contents → Step T) → (T → Type 0) → ℕ →
     (old new : WithLinks) → Type 0
-IsUntoldStart wants start Goes status old new =
+IsOpaqueStart wants start Goes status old new =
     ((contents : Contents)
     × (AreContents wants contents × Begins (start contents) Goes status old new))
     ⊎ (EndsBefore status old new
@@ -90,9 +90,9 @@ pub record RunsLinked {T : Type 0}
     (wants : WantedFiles) (start : Contents → Step T) (Goes : T → Type 0) (Done : ℕ → Type 0)
     (status : ℕ) (causes : Causes) (old new : WithLinks) : Type 0 where
   -- Every status, as the words, the files and the links say.
-  pub told :
-      IfSome old.disk.files (λ files. IsToldStart wants start Goes files status old new)
-  pub untold : IfNone old.disk.files (IsUntoldStart wants start Goes status old new)
+  pub observable :
+      IfSome old.disk.files (λ files. IsObservableStart wants start Goes files status old new)
+  pub opaque : IfNone old.disk.files (IsOpaqueStart wants start Goes status old new)
   -- Never status 2.
   pub accepted : status ≢ REFUSED_WORDS
   -- Status 4 and 5: only where a count of faults rose.

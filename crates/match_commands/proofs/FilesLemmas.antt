@@ -12,7 +12,7 @@ use Rattle.command_answers.specs.WantedFiles.{WantedFiles, no_files, in_order}
 use Rattle.command_answers.specs.Contents.{Contents, contents_of, IsFirstThere, AreContents}
 use Rattle.command_answers.specs.Causes.{causes_of}
 use Rattle.command_answers.specs.Environment.{environment}
-use Rattle.command_answers.specs.Stop.{IsReadStop, IsUntoldStop, ReturnsStep, PrintsStop, PrintsText}
+use Rattle.command_answers.specs.Stop.{IsReadStop, IsOpaqueStop, ReturnsStep, PrintsStop, PrintsText}
 use Rattle.match_commands.specs.Request.{wanted, written_by, answer_of, given_reply, text_reply}
 use Rattle.match_commands.specs.Run.{RunsRequest}
 use Rattle.match_commands.proofs.RequestLemmas.{Printed, request_given, request_stopped, text_printed}
@@ -29,10 +29,10 @@ pub all_given :
     IfNone d.files (AreContents all contents) →
     Printed (written_by request) (given_reply request contents) status d d' s s' →
     RunsRequest request status (causes_of (written_by request) (environment d s) (environment d' s')) (environment d s) (environment d' s')
-all_given request all contents status d d' s s' wants later later' told untold printed =
+all_given request all contents status d d' s s' wants later later' observable opaque printed =
     request_given request contents status d d' s s' later later'
-    (subst (λ wanted. IfSome d.files (λ files. contents_of wanted files ≡ Ok contents)) (sym wants) told)
-    (subst (λ wanted. IfNone d.files (AreContents wanted contents)) (sym wants) untold)
+    (subst (λ wanted. IfSome d.files (λ files. contents_of wanted files ≡ Ok contents)) (sym wants) observable)
+    (subst (λ wanted. IfNone d.files (AreContents wanted contents)) (sym wants) opaque)
     printed
 
 -- The same for a command that prints a text.
@@ -45,8 +45,8 @@ pub files_given :
     ReturnsStep text (λ text. text.items) step → answer_of request contents ≡ text_reply step →
     PrintsText text status s s' →
     RunsRequest request status (causes_of (written_by request) (environment d s) (environment d' s')) (environment d s) (environment d' s')
-files_given request all contents text step status d d' s s' wants same later later' told untold returns answers prints =
-    all_given request all contents status d d' s s' wants later later' told untold
+files_given request all contents text step status d d' s s' wants same later later' observable opaque returns answers prints =
+    all_given request all contents status d d' s s' wants later later' observable opaque
     (subst (λ answer. Printed (written_by request) (replied answer) status d d' s s') (sym answers)
     (text_printed (written_by request) text step status d d' s s' same returns prints))
 
@@ -59,14 +59,14 @@ pub nothing_read :
     RunsRequest request status (causes_of (written_by request) (environment d s) (environment d s')) (environment d s) (environment d s')
 nothing_read request text step status d s s' wants later' returns answers prints =
     files_given request no_files no_contents text step status d d s s' wants refl (omega arith) later'
-    (told d.files) (untold d.files) returns answers prints where
-      told : (o : Option Files) → IfSome o (λ files. contents_of no_files files ≡ Ok no_contents)
-      told None = tt
-      told (Some files) = refl
+    (observable d.files) (opaque d.files) returns answers prints where
+      observable : (o : Option Files) → IfSome o (λ files. contents_of no_files files ≡ Ok no_contents)
+      observable None = tt
+      observable (Some files) = refl
 
-      untold : (o : Option Files) → IfNone o (AreContents no_files no_contents)
-      untold None = record { rules = tt; map_file = tt; first = tt; script = tt; replay = tt }
-      untold (Some files) = tt
+      opaque : (o : Option Files) → IfNone o (AreContents no_files no_contents)
+      opaque None = record { rules = tt; map_file = tt; first = tt; script = tt; replay = tt }
+      opaque (Some files) = tt
 
 -- One of them was not.
 pub files_stopped :
@@ -75,11 +75,11 @@ pub files_stopped :
     d'.files ≡ d.files → d.faults ≤ d'.faults → s.faults ≤ s'.faults →
     IfSome d.files (λ files. IsReadStop stop (contents_of all files)
     (IsFirstThere (in_order all) files × Increased d.faults d'.faults)) →
-    IfNone d.files (IsUntoldStop stop (in_order all) (Increased d.faults d'.faults)) →
+    IfNone d.files (IsOpaqueStop stop (in_order all) (Increased d.faults d'.faults)) →
     PrintsStop stop status s s' →
     RunsRequest request status (causes_of (written_by request) (environment d s) (environment d' s')) (environment d s) (environment d' s')
-files_stopped request all stop status d d' s s' wants same later later' told untold prints =
+files_stopped request all stop status d d' s s' wants same later later' observable opaque prints =
     request_stopped request stop status d d' s s' same later later'
-    (subst (λ wanted. IfSome d.files (λ files. IsReadStop stop (contents_of wanted files) (IsFirstThere (in_order wanted) files × Increased d.faults d'.faults))) (sym wants) told)
-    (subst (λ wanted. IfNone d.files (IsUntoldStop stop (in_order wanted) (Increased d.faults d'.faults))) (sym wants) untold)
+    (subst (λ wanted. IfSome d.files (λ files. IsReadStop stop (contents_of wanted files) (IsFirstThere (in_order wanted) files × Increased d.faults d'.faults))) (sym wants) observable)
+    (subst (λ wanted. IfNone d.files (IsOpaqueStop stop (in_order wanted) (Increased d.faults d'.faults))) (sym wants) opaque)
     prints

@@ -46,10 +46,10 @@ stopped_short NoMemory status s s' memory done = absurd (omega (arith, memory.0,
 
 -- The files were read, and of the reply to their contents this holds.
 pub kept_over :
-    (Keeps : Contents → Option FileWrite → Type 0) (request : RequestPlain) (all : WantedFiles) (contents : Contents) (told : Option Files) →
-    wanted request ≡ all → IfSome told (λ files. contents_of all files ≡ Ok contents) →
-    Keeps contents (given_reply request contents).write → IsOfWritten Keeps request told
-kept_over Keeps request all contents told wants read keeps = map_some told _ _ each read
+    (Keeps : Contents → Option FileWrite → Type 0) (request : RequestPlain) (all : WantedFiles) (contents : Contents) (observable : Option Files) →
+    wanted request ≡ all → IfSome observable (λ files. contents_of all files ≡ Ok contents) →
+    Keeps contents (given_reply request contents).write → IsOfWritten Keeps request observable
+kept_over Keeps request all contents observable wants read keeps = map_some observable _ _ each read
   where
     each : (files : Files) → contents_of all files ≡ Ok contents → (other : Contents) → contents_of (wanted request) files ≡ Ok other →
         Keeps other (given_reply request other).write
@@ -93,17 +93,17 @@ record_kept query name contents (Err stop) returns replays = absurd replays
 
 -- The words name a request, whose file keeps its match.
 pub named_keeps :
-    (own : RequestPlain → Option RequestPlain) (named : Option RequestPlain) (request : RequestPlain) (status : ℕ) (told : Option Files) →
-    named ≡ Some request → KeepsIfDone (own request) status told → KeepsIfDone (option_and_then own named) status told
-named_keeps own named request status told is keeps =
-    subst (λ (named : Option RequestPlain). KeepsIfDone (option_and_then own named) status told) (sym is) keeps
+    (own : RequestPlain → Option RequestPlain) (named : Option RequestPlain) (request : RequestPlain) (status : ℕ) (observable : Option Files) →
+    named ≡ Some request → KeepsIfDone (own request) status observable → KeepsIfDone (option_and_then own named) status observable
+named_keeps own named request status observable is keeps =
+    subst (λ (named : Option RequestPlain). KeepsIfDone (option_and_then own named) status observable) (sym is) keeps
 
 pub refused_keeps :
-    (own : RequestPlain → Option RequestPlain) (named : Option RequestPlain) (status : ℕ) (told : Option Files) →
-    named ≡ None → KeepsIfDone (option_and_then own named) status told
-refused_keeps own named status told is =
-    subst (λ (named : Option RequestPlain). KeepsIfDone (option_and_then own named) status told) (sym is) (λ done. tt)
+    (own : RequestPlain → Option RequestPlain) (named : Option RequestPlain) (status : ℕ) (observable : Option Files) →
+    named ≡ None → KeepsIfDone (option_and_then own named) status observable
+refused_keeps own named status observable is =
+    subst (λ (named : Option RequestPlain). KeepsIfDone (option_and_then own named) status observable) (sym is) (λ done. tt)
 
 -- No command is done where memory ran out.
-pub memory_keeps : (request : Option RequestPlain) (told : Option Files) → KeepsIfDone request OUT_OF_MEMORY told
-memory_keeps request told = λ done. absurd (omega (arith, done))
+pub memory_keeps : (request : Option RequestPlain) (observable : Option Files) → KeepsIfDone request OUT_OF_MEMORY observable
+memory_keeps request observable = λ done. absurd (omega (arith, done))

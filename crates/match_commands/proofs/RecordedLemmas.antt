@@ -11,7 +11,7 @@ use Rattle.command_answers.specs.declared.stop.Stop.{Stop}
 use Rattle.command_answers.specs.Contents.{Contents, contents_of, AreContents, IsFirstThere}
 use Rattle.command_answers.specs.FileWrite.{OnlyChanges}
 use Rattle.command_answers.specs.Step.{Step}
-use Rattle.command_answers.specs.Stop.{IsReadStop, IsUntoldStop, PrintsStop, ReturnsStep}
+use Rattle.command_answers.specs.Stop.{IsReadStop, IsOpaqueStop, PrintsStop, ReturnsStep}
 use Rattle.command_answers.specs.WantedFiles.{WantedFiles, in_order, rules_and_map}
 use Rattle.link_commands.specs.Links.{WithLinks, with_links, Begins, EndsBefore, IsApart}
 use Rattle.link_commands.specs.LinkLemmas.{IsCaused, linked_given, linked_stopped, stop_begins, stop_caused}
@@ -69,10 +69,10 @@ pub recorded_given :
     IfSome old.disk.files (λ files. contents_of all files ≡ Ok contents) → IfNone old.disk.files (AreContents all contents) →
     ReturnsStep made (λ made. made) (serve_step query contents) → RecordsFrom query name made status (since read old) new →
     RunsRecorded query name status old new
-recorded_given law query name all contents made status old new read wants same later since_read later' told untold returns records = record {
+recorded_given law query name all contents made status old new read wants same later since_read later' observable opaque returns records = record {
   read = read;
   runs = linked_given (rules_and_map query.rules query.map_file) all (serve_step query) (RecordsOver query name status (since read old) new) IsServeDone
-      contents status (recording_causes name (NetFailed old.net new.net) old new) old (since read new) wants same later later' told untold
+      contents status (recording_causes name (NetFailed old.net new.net) old new) old (since read new) wants same later later' observable opaque
       (begins_of query name made (serve_step query contents) status old new read returns records)
       (caused_of query name made (serve_step query contents) status old new read later returns records);
   files = changes_of query name made status old new read same records;
@@ -85,9 +85,9 @@ pub recorded_stopped :
     (query : ServePlain) (name : List ℕ) (all : WantedFiles) (stop : Stop) (status : ℕ) (d d' : DiskState) (s s' : SinkState) (net : NetState) (console : SourceState) →
     rules_and_map query.rules query.map_file ≡ all → d'.files ≡ d.files → d.faults ≤ d'.faults → s.faults ≤ s'.faults →
     IfSome d.files (λ files. IsReadStop stop (contents_of all files) (IsFirstThere (in_order all) files × Increased d.faults d'.faults)) →
-    IfNone d.files (IsUntoldStop stop (in_order all) (Increased d.faults d'.faults)) →
+    IfNone d.files (IsOpaqueStop stop (in_order all) (Increased d.faults d'.faults)) →
     PrintsStop stop status s s' → RunsRecorded query name status (with_links d s net console) (with_links d' s' net console)
-recorded_stopped query name all stop status d d' s s' net console wants same later later' told untold prints =
+recorded_stopped query name all stop status d d' s s' net console wants same later later' observable opaque prints =
     let old = with_links d s net console in
     let new = with_links d' s' net console in
     record {
@@ -95,7 +95,7 @@ recorded_stopped query name all stop status d d' s s' net console wants same lat
       runs = widen_runs name (rules_and_map query.rules query.map_file) (serve_step query) (RecordsOver query name status (since d' old) new) IsServeDone
           status (NetFailed net net) old new
           (linked_stopped (rules_and_map query.rules query.map_file) all (serve_step query) (RecordsOver query name status (since d' old) new) IsServeDone
-          stop status (NetFailed net net) old new wants same later later' told untold prints (refl, refl));
+          stop status (NetFailed net net) old new wants same later later' observable opaque prints (refl, refl));
       files = inl same;
       ended = inl same;
       later = (later, later');

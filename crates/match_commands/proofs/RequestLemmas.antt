@@ -21,7 +21,7 @@ use Rattle.command_answers.specs.WantedFiles.{WantedFiles, no_files, in_order, r
 use Rattle.command_answers.specs.Contents.{Contents, contents_of, read_after, IsFirstThere, AreWithinLimits, AreContents}
 use Rattle.match_commands.specs.Request.{wanted, written_by, answer_of, text_reply, given_reply, reply_to}
 use Rattle.match_commands.specs.Run.{RunsRequest}
-use Rattle.command_answers.specs.Stop.{IsReadStop, IsStepStop, IsUntoldStop, ReturnsStep, PrintsStop, PrintsText}
+use Rattle.command_answers.specs.Stop.{IsReadStop, IsStepStop, IsOpaqueStop, ReturnsStep, PrintsStop, PrintsText}
 use Rattle.command_answers.specs.OptionLemmas.{map_some, map_none}
 use Rattle.command_answers.specs.CausesLemmas.{HasCauses, IsSettled, done_settled, file_settled, at_memory, at_write, at_read, answered_causes, none_changes}
 use Rattle.command_answers.specs.OutcomeLemmas.{printed_outcome, answered_outcome, memory_outcome}
@@ -86,9 +86,9 @@ pub request_given :
     IfNone d.files (AreContents (wanted request) contents) →
     Printed (written_by request) (given_reply request contents) status d d' s s' →
     RunsRequest request status (causes_of (written_by request) (environment d s) (environment d' s')) (environment d s) (environment d' s')
-request_given request contents status d d' s s' later later' told untold printed = record {
-  told = map_some d.files _ _ (λ files read. inl (answer files read)) told;
-  untold = map_none d.files (λ given. inl (contents, (given, printed.answered))) untold;
+request_given request contents status d d' s s' later later' observable opaque printed = record {
+  observable = map_some d.files _ _ (λ files read. inl (answer files read)) observable;
+  opaque = map_none d.files (λ given. inl (contents, (given, printed.answered))) opaque;
   accepted = printed.causes.accepted;
   read = λ e. inl (printed.causes.read e);
   write = printed.causes.write;
@@ -103,8 +103,8 @@ request_given request contents status d d' s s' later later' told untold printed
 
 -- The count of faults rose, whether the disk tells its files or not.
 rose_of : {R : Type 0} (o : Option Files) (There : Files → Type 0) → IfSome o (λ files. There files × R) → IfNone o R → R
-rose_of None There told untold = untold
-rose_of (Some files) There told untold = told.1
+rose_of None There observable opaque = opaque
+rose_of (Some files) There observable opaque = observable.1
 
 -- Some file was not read, and the stop was printed.
 pub request_stopped :
@@ -112,12 +112,12 @@ pub request_stopped :
     d'.files ≡ d.files → d.faults ≤ d'.faults → s.faults ≤ s'.faults →
     IfSome d.files (λ files. IsReadStop stop (contents_of (wanted request) files)
     (IsFirstThere (in_order (wanted request)) files × Increased d.faults d'.faults)) →
-    IfNone d.files (IsUntoldStop stop (in_order (wanted request)) (Increased d.faults d'.faults)) →
+    IfNone d.files (IsOpaqueStop stop (in_order (wanted request)) (Increased d.faults d'.faults)) →
     PrintsStop stop status s s' →
     RunsRequest request status (causes_of (written_by request) (environment d s) (environment d' s')) (environment d s) (environment d' s')
-request_stopped request (Refused name place cause) status d d' s s' same later later' told untold prints = record {
-  told = map_some d.files _ _ (λ files read. inl (answer files read)) told;
-  untold = map_none d.files (λ unread. inr (inl (unread.0, inl (reply, (unread.1, printed.answered))))) untold;
+request_stopped request (Refused name place cause) status d d' s s' same later later' observable opaque prints = record {
+  observable = map_some d.files _ _ (λ files read. inl (answer files read)) observable;
+  opaque = map_none d.files (λ unread. inr (inl (unread.0, inl (reply, (unread.1, printed.answered))))) opaque;
   accepted = printed.causes.accepted;
   read = λ e. inl (printed.causes.read e);
   write = printed.causes.write;
@@ -135,9 +135,9 @@ request_stopped request (Refused name place cause) status d d' s s' same later l
   answer files read =
       subst (λ step. IsAnswered (replied (step >>= answer_of request)) status (causes_of (written_by request) (environment d s) (environment d' s')) (environment d s) (environment d' s'))
       (sym read) printed.answered
-request_stopped request ReadFault status d d' s s' same later later' told untold prints = record {
-  told = map_some d.files _ _ (λ files read. inr (read.0, read.1, outcome)) told;
-  untold = map_none d.files (λ rose. inr (inl (rose, inr outcome))) untold;
+request_stopped request ReadFault status d d' s s' same later later' observable opaque prints = record {
+  observable = map_some d.files _ _ (λ files read. inr (read.0, read.1, outcome)) observable;
+  opaque = map_none d.files (λ rose. inr (inl (rose, inr outcome))) opaque;
   accepted = (causes prints).accepted;
   read = λ e. inl ((causes prints).read e);
   write = (causes prints).write;
@@ -148,14 +148,14 @@ request_stopped request ReadFault status d d' s s' same later later' told untold
   outcome = printed_outcome read_fault status (written_by request) d d' s s' refl same prints
 
   rose : Increased d.faults d'.faults
-  rose = rose_of d.files (IsFirstThere (in_order (wanted request))) told untold
+  rose = rose_of d.files (IsFirstThere (in_order (wanted request))) observable opaque
 
   causes : PrintsReply read_fault status s s' → HasCauses status (Increased d.faults d'.faults) (Increased s.faults s'.faults ⊎ (IsSome (written_by request) × Increased d.faults d'.faults))
   causes (inl wrote) = at_read status _ _ rose wrote.0
   causes (inr cut) = at_write status _ _ (inl cut.1) cut.0
-request_stopped request NoMemory status d d' s s' same later later' told untold prints = record {
-  told = map_some d.files _ _ (λ files read. inl (memory_printed (written_by request) (reply_to request files) status d d' s s' same prints).answered) told;
-  untold = map_none d.files (λ unread. inr (inr (prints.0, (same, prints.1)))) untold;
+request_stopped request NoMemory status d d' s s' same later later' observable opaque prints = record {
+  observable = map_some d.files _ _ (λ files read. inl (memory_printed (written_by request) (reply_to request files) status d d' s s' same prints).answered) observable;
+  opaque = map_none d.files (λ unread. inr (inr (prints.0, (same, prints.1)))) opaque;
   accepted = causes.accepted;
   read = λ e. inl (causes.read e);
   write = causes.write;
@@ -177,18 +177,18 @@ rule_contents rules = record { rules = rules; map_file = None; first = None; scr
 rules_in_order : (names : List (List ℕ)) → in_order (rules_alone names) ≡ map rule_file names
 rules_in_order names = append-nil (map rule_file names)
 
-pub rules_told :
+pub rules_observable :
     (names contents : List (List ℕ)) (o : Option Files) →
     IfSome o (λ files. read_after [] (map rule_file names) files ≡ Ok contents) →
     IfSome o (λ files. contents_of (rules_alone names) files ≡ Ok (rule_contents contents))
-rules_told names contents o =
+rules_observable names contents o =
     map_some o _ _ (λ files read. ap (λ step. step >>= λ rules. Ok (rule_contents rules)) read)
 
-pub rules_untold :
+pub rules_opaque :
     (names contents : List (List ℕ)) (o : Option Files) →
     IfNone o (AreWithinLimits (map rule_file names) contents) →
     IfNone o (AreContents (rules_alone names) (rule_contents contents))
-rules_untold names contents o =
+rules_opaque names contents o =
     map_none o (λ given. record { rules = given; map_file = tt; first = tt; script = tt; replay = tt })
 
 rules_stop :
@@ -199,16 +199,16 @@ rules_stop names (Refused name place cause) files R stops = ap (λ step. step >>
 rules_stop names ReadFault files R stops = (subst (λ all. IsFirstThere all files) (sym (rules_in_order names)) stops.0, stops.1)
 rules_stop names NoMemory files R stops = tt
 
-pub rules_stop_told :
+pub rules_stop_observable :
     (names : List (List ℕ)) (stop : Stop) (R : Type 0) (o : Option Files) →
     IfSome o (λ files. IsReadStop stop (read_after [] (map rule_file names) files) (IsFirstThere (map rule_file names) files × R)) →
     IfSome o (λ files. IsReadStop stop (contents_of (rules_alone names) files) (IsFirstThere (in_order (rules_alone names)) files × R))
-rules_stop_told names stop R o = map_some o _ _ (λ files stops. rules_stop names stop files R stops)
+rules_stop_observable names stop R o = map_some o _ _ (λ files stops. rules_stop names stop files R stops)
 
-pub rules_stop_untold :
+pub rules_stop_opaque :
     (names : List (List ℕ)) (stop : Stop) (R : Type 0) (o : Option Files) →
-    IfNone o (IsUntoldStop stop (map rule_file names) R) → IfNone o (IsUntoldStop stop (in_order (rules_alone names)) R)
-rules_stop_untold names stop R o = map_none o (λ stops. subst (λ all. IsUntoldStop stop all R) (sym (rules_in_order names)) stops)
+    IfNone o (IsOpaqueStop stop (map rule_file names) R) → IfNone o (IsOpaqueStop stop (in_order (rules_alone names)) R)
+rules_stop_opaque names stop R o = map_none o (λ stops. subst (λ all. IsOpaqueStop stop all R) (sym (rules_in_order names)) stops)
 
 -- ---- the commands
 
@@ -222,12 +222,12 @@ pub rules_given :
     ReturnsStep text (λ text. text.items) step → answer_of request (rule_contents contents) ≡ text_reply step →
     PrintsText text status s s' →
     RunsRequest request status (causes_of (written_by request) (environment d s) (environment d' s')) (environment d s) (environment d' s')
-rules_given request names contents text step status d d' s s' wants same later later' told untold returns answers prints =
+rules_given request names contents text step status d d' s s' wants same later later' observable opaque returns answers prints =
     request_given request (rule_contents contents) status d d' s s' later later'
     (subst (λ wanted. IfSome d.files (λ files. contents_of wanted files ≡ Ok (rule_contents contents))) (sym wants)
-    (rules_told names contents d.files told))
+    (rules_observable names contents d.files observable))
     (subst (λ wanted. IfNone d.files (AreContents wanted (rule_contents contents))) (sym wants)
-    (rules_untold names contents d.files untold))
+    (rules_opaque names contents d.files opaque))
     (subst (λ answer. Printed (written_by request) (replied answer) status d d' s s') (sym answers)
     (text_printed (written_by request) text step status d d' s s' same returns prints))
 
@@ -238,13 +238,13 @@ pub rules_stopped :
     d'.files ≡ d.files → d.faults ≤ d'.faults → s.faults ≤ s'.faults →
     IfSome d.files (λ files. IsReadStop stop (read_after [] (map rule_file names) files)
     (IsFirstThere (map rule_file names) files × Increased d.faults d'.faults)) →
-    IfNone d.files (IsUntoldStop stop (map rule_file names) (Increased d.faults d'.faults)) →
+    IfNone d.files (IsOpaqueStop stop (map rule_file names) (Increased d.faults d'.faults)) →
     PrintsStop stop status s s' →
     RunsRequest request status (causes_of (written_by request) (environment d s) (environment d' s')) (environment d s) (environment d' s')
-rules_stopped request names stop status d d' s s' wants same later later' told untold prints =
+rules_stopped request names stop status d d' s s' wants same later later' observable opaque prints =
     request_stopped request stop status d d' s s' same later later'
     (subst (λ wanted. IfSome d.files (λ files. IsReadStop stop (contents_of wanted files) (IsFirstThere (in_order wanted) files × Increased d.faults d'.faults)))
-    (sym wants) (rules_stop_told names stop (Increased d.faults d'.faults) d.files told))
-    (subst (λ wanted. IfNone d.files (IsUntoldStop stop (in_order wanted) (Increased d.faults d'.faults)))
-    (sym wants) (rules_stop_untold names stop (Increased d.faults d'.faults) d.files untold))
+    (sym wants) (rules_stop_observable names stop (Increased d.faults d'.faults) d.files observable))
+    (subst (λ wanted. IfNone d.files (IsOpaqueStop stop (in_order wanted) (Increased d.faults d'.faults)))
+    (sym wants) (rules_stop_opaque names stop (Increased d.faults d'.faults) d.files opaque))
     prints

@@ -41,7 +41,7 @@ use Rattle.command_answers.specs.Outcome.{IsPrinted, IsAnswered}
 use Rattle.command_answers.specs.Causes.{Causes, causes_of, IsQuiet}
 use Rattle.command_answers.specs.Environment.{Environment}
 use Rattle.match_commands.specs.Request.{IsFaultless, written_by, wanted, answer_of, given_reply, text_reply}
-use Rattle.match_commands.specs.Run.{Runs, RunsRequest, IsDone, IsSound, IsToldAnswer, IsUntoldAnswer}
+use Rattle.match_commands.specs.Run.{ProgramRun, RunsRequest, IsDone, IsSound, IsObservableAnswer, IsOpaqueAnswer}
 use Rattle.command_answers.specs.OptionLemmas.{map_some}
 
 -- A command that prints a text and has it is done.
@@ -156,7 +156,7 @@ read_done request (Err reply) ok = absurd cc
 -- Where nothing failed and the files are without a fault, the command is done, or memory ran out.
 complete_of :
     (request : RequestPlain) (files : Files) (status : ℕ) (causes : Causes) (old new : Environment) →
-    IsQuiet causes → IsToldAnswer request files status causes old new → IsFaultless request files →
+    IsQuiet causes → IsObservableAnswer request files status causes old new → IsFaultless request files →
     IsDone request status ⊎ (status ≡ OUT_OF_MEMORY)
 complete_of request files status causes old new quiet (inl (inl (inl complete))) faultless =
     inl (subst (IsDone request) (sym complete.0) (read_done request (contents_of (wanted request) files) faultless))
@@ -180,11 +180,11 @@ answered_sound number status causes old new answered =
     done_sound (made_text sample_setup (made_drill_of number)) status causes old new
     (subst (λ step. IsAnswered (replied (text_reply step)) status causes old new) (make_is number) answered)
 
-told_sound :
+observable_sound :
     (number : ℕ) (files : Files) (status : ℕ) (causes : Causes) (old new : Environment) →
-    IsToldAnswer (Make number) files status causes old new → status ≢ REFUSED_FILE
-told_sound number files status causes old new (inl answered) = answered_sound number status causes old new answered
-told_sound number files status causes old new (inr fault) = absurd fault.0
+    IsObservableAnswer (Make number) files status causes old new → status ≢ REFUSED_FILE
+observable_sound number files status causes old new (inl answered) = answered_sound number status causes old new answered
+observable_sound number files status causes old new (inr fault) = absurd fault.0
 
 read_sound :
     (status : ℕ) (causes : Causes) (old new : Environment) → IsPrinted read_fault status causes old new → status ≢ REFUSED_FILE
@@ -192,29 +192,29 @@ read_sound status causes old new (inl complete) refused = absurd (omega (arith, 
 read_sound status causes old new (inr (inl cut)) refused = absurd (omega (arith, cut.0, refused))
 read_sound status causes old new (inr (inr cut)) refused = absurd (omega (arith, cut.0, refused))
 
-untold_sound :
+opaque_sound :
     (number status : ℕ) (causes : Causes) (old new : Environment) →
-    IsUntoldAnswer (Make number) status causes old new → status ≢ REFUSED_FILE
-untold_sound number status causes old new (inl given) = answered_sound number status causes old new given.1.1
-untold_sound number status causes old new (inr (inl (rose, inl unread))) = absurd unread.1.0
-untold_sound number status causes old new (inr (inl (rose, inr fault))) = read_sound status causes old new fault
-untold_sound number status causes old new (inr (inr memory)) = λ refused. absurd (omega (arith, memory.0, refused))
+    IsOpaqueAnswer (Make number) status causes old new → status ≢ REFUSED_FILE
+opaque_sound number status causes old new (inl given) = answered_sound number status causes old new given.1.1
+opaque_sound number status causes old new (inr (inl (rose, inl unread))) = absurd unread.1.0
+opaque_sound number status causes old new (inr (inl (rose, inr fault))) = read_sound status causes old new fault
+opaque_sound number status causes old new (inr (inr memory)) = λ refused. absurd (omega (arith, memory.0, refused))
 
 -- A disk tells its files, or it tells nothing.
 by_disk :
     (files : Option Files) (P : Files → Type 0) (Q R : Type 0) →
     ((files : Files) → P files → R) → (Q → R) → IfSome files P → IfNone files Q → R
-by_disk None P Q R one other told untold = other untold
-by_disk (Some files) P Q R one other told untold = one files told
+by_disk None P Q R one other observable opaque = other opaque
+by_disk (Some files) P Q R one other observable opaque = one files observable
 
 request_sound :
     (request : RequestPlain) (status : ℕ) (causes : Causes) (old new : Environment) →
     RunsRequest request status causes old new → IsSound request status
 request_sound (Make number) status causes old new runs =
-    by_disk old.disk.files (λ files. IsToldAnswer (Make number) files status causes old new)
-    (IsUntoldAnswer (Make number) status causes old new) (status ≢ REFUSED_FILE)
-    (λ files answer. told_sound number files status causes old new answer)
-    (λ answer. untold_sound number status causes old new answer) runs.told runs.untold
+    by_disk old.disk.files (λ files. IsObservableAnswer (Make number) files status causes old new)
+    (IsOpaqueAnswer (Make number) status causes old new) (status ≢ REFUSED_FILE)
+    (λ files answer. observable_sound number files status causes old new answer)
+    (λ answer. opaque_sound number status causes old new answer) runs.observable runs.opaque
 request_sound (Drill query record_file) status causes old new runs = tt
 request_sound (Yaml names) status causes old new runs = tt
 request_sound (Check map_file names) status causes old new runs = tt
@@ -235,14 +235,14 @@ request_sound (Datagrams script) status causes old new runs = tt
 -- The words name a request, which was run.
 pub request_runs :
     (request : RequestPlain) (status : ℕ) (causes : Causes) (old new : Environment) →
-    RunsRequest request status causes old new → Runs (Some request) status causes old new
+    RunsRequest request status causes old new → ProgramRun (Some request) status causes old new
 request_runs request status causes old new runs = record {
   refused = tt;
   only_refused = λ e. absurd (runs.accepted e);
-  told = runs.told;
-  untold = runs.untold;
+  observable = runs.observable;
+  opaque = runs.opaque;
   complete = λ quiet. map_some old.disk.files _ _
-      (λ files answer. complete_of request files status causes old new quiet answer) runs.told;
+      (λ files answer. complete_of request files status causes old new quiet answer) runs.observable;
   sound = request_sound request status causes old new runs;
   read = runs.read;
   write = runs.write;
@@ -257,7 +257,7 @@ run_causes request = causes_of (option_and_then written_by request)
 -- The words name a request, which was run or refused by the call whose own requests are these.
 pub named_runs :
     (own : RequestPlain → Option RequestPlain) (named : Option RequestPlain) (request : RequestPlain) (status : ℕ) (old new : Environment) →
-    named ≡ Some request → Runs (own request) status (run_causes (own request) old new) old new →
-    Runs (option_and_then own named) status (run_causes (option_and_then own named) old new) old new
+    named ≡ Some request → ProgramRun (own request) status (run_causes (own request) old new) old new →
+    ProgramRun (option_and_then own named) status (run_causes (option_and_then own named) old new) old new
 named_runs own named request status old new is runs =
-    subst (λ named. Runs (option_and_then own named) status (run_causes (option_and_then own named) old new) old new) (sym is) runs
+    subst (λ named. ProgramRun (option_and_then own named) status (run_causes (option_and_then own named) old new) old new) (sym is) runs

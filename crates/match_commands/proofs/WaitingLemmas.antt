@@ -19,7 +19,7 @@ use Rattle.command_answers.specs.CausesLemmas.{HasCauses, at_memory}
 use Rattle.command_answers.specs.Environment.{environment}
 use Rattle.command_answers.specs.Step.{Step}
 use Rattle.command_answers.specs.Contents.{Contents, contents_of, AreContents, IsFirstThere}
-use Rattle.command_answers.specs.Stop.{IsReadStop, IsUntoldStop, PrintsStop, ReturnsStep}
+use Rattle.command_answers.specs.Stop.{IsReadStop, IsOpaqueStop, PrintsStop, ReturnsStep}
 use Rattle.command_answers.specs.WantedFiles.{WantedFiles, in_order, rules_and_map, with_script}
 use Rattle.link_commands.specs.Links.{WithLinks, with_links, Begins, EndsBefore, causes_by}
 use Rattle.link_commands.specs.LinkLemmas.{IsCaused, linked_given, linked_stopped, stop_begins, stop_caused}
@@ -28,7 +28,7 @@ use Rattle.link_commands.specs.PlayLemmas.{plays_caused}
 use Rattle.match_commands.specs.Plays.{PlayMeans, bot_means, bot_step, play_step, terms_of, PlaysFrom, PlaysOver}
 use Rattle.serve_command.specs.Serves.{NetFailed, IsServeDone}
 use Rattle.serve_command.specs.ServeLemmas.{serves_caused}
-use Rattle.match_commands.specs.Run.{Runs}
+use Rattle.match_commands.specs.Run.{ProgramRun}
 use Rattle.match_commands.specs.Serves.{served_match, invite_of, serve_step, RunsServe, RunsServing, ServesAs, ServesFrom, ServesOver}
 use Rattle.match_commands.specs.TopCalls.{waiting}
 use Rattle.match_commands.specs.Waiting.{RunsWaiting}
@@ -102,12 +102,12 @@ pub serving_given :
     IfSome old.disk.files (λ files. contents_of all files ≡ Ok contents) → IfNone old.disk.files (AreContents all contents) →
     ReturnsStep made (λ made. made) (serve_step query contents) → ServesAs record_file query made status (since read old) new →
     RunsServing record_file query status old new
-serving_given law (Some name) query all contents made status old new read wants same later since_read later' told untold returns serves =
-    recorded_given law query name all contents made status old new read wants same later since_read later' told untold returns serves
-serving_given law None query all contents made status old new read wants same later since_read later' told untold returns serves =
+serving_given law (Some name) query all contents made status old new read wants same later since_read later' observable opaque returns serves =
+    recorded_given law query name all contents made status old new read wants same later since_read later' observable opaque returns serves
+serving_given law None query all contents made status old new read wants same later since_read later' observable opaque returns serves =
     let over = serves_since query made status old new read serves.0 in
     linked_given (rules_and_map query.rules query.map_file) all (serve_step query) (ServesOver query status old new) IsServeDone contents status _ old new
-    wants (ap (λ (disk : DiskState). disk.files) serves.1 ∙ same) (omega (arith, later, since_read)) later' told untold
+    wants (ap (λ (disk : DiskState). disk.files) serves.1 ∙ same) (omega (arith, later, since_read)) later' observable opaque
     (serve_begins query made (serve_step query contents) status old new returns over)
     (serve_caused query made (serve_step query contents) status old new returns over)
 
@@ -117,15 +117,15 @@ pub serving_stopped :
     (net : NetState) (console : SourceState) →
     rules_and_map query.rules query.map_file ≡ all → d'.files ≡ d.files → d.faults ≤ d'.faults → s.faults ≤ s'.faults →
     IfSome d.files (λ files. IsReadStop stop (contents_of all files) (IsFirstThere (in_order all) files × Increased d.faults d'.faults)) →
-    IfNone d.files (IsUntoldStop stop (in_order all) (Increased d.faults d'.faults)) →
+    IfNone d.files (IsOpaqueStop stop (in_order all) (Increased d.faults d'.faults)) →
     PrintsStop stop status s s' → RunsServing record_file query status (with_links d s net console) (with_links d' s' net console)
-serving_stopped (Some name) query all stop status d d' s s' net console wants same later later' told untold prints =
-    recorded_stopped query name all stop status d d' s s' net console wants same later later' told untold prints
-serving_stopped None query all stop status d d' s s' net console wants same later later' told untold prints =
+serving_stopped (Some name) query all stop status d d' s s' net console wants same later later' observable opaque prints =
+    recorded_stopped query name all stop status d d' s s' net console wants same later later' observable opaque prints
+serving_stopped None query all stop status d d' s s' net console wants same later later' observable opaque prints =
     let old = with_links d s net console in
     let new = with_links d' s' net console in
     linked_stopped (rules_and_map query.rules query.map_file) all (serve_step query) (ServesOver query status old new) IsServeDone
-    stop status (NetFailed net net) old new wants same later later' told untold prints (refl, refl)
+    stop status (NetFailed net net) old new wants same later later' observable opaque prints (refl, refl)
 
 -- ---- the request that the words name
 
@@ -138,22 +138,22 @@ named_waits named request status old new is runs =
 
 -- ---- memory ran out before anything was done
 
-unread_told : (o : Option Files) (stop : Files → Type 0) → ((files : Files) → stop files) → IfSome o stop
-unread_told None stop all = tt
-unread_told (Some files) stop all = all files
+unread_observable : (o : Option Files) (stop : Files → Type 0) → ((files : Files) → stop files) → IfSome o stop
+unread_observable None stop all = tt
+unread_observable (Some files) stop all = all files
 
-unread_untold : (o : Option Files) (stop : Type 0) → stop → IfNone o stop
-unread_untold None stop is = is
-unread_untold (Some files) stop is = tt
+unread_opaque : (o : Option Files) (stop : Type 0) → stop → IfNone o stop
+unread_opaque None stop is = is
+unread_opaque (Some files) stop is = tt
 
-none_runs : (d : DiskState) (s : SinkState) (causes : Causes) → Runs None OUT_OF_MEMORY causes (environment d s) (environment d s)
+none_runs : (d : DiskState) (s : SinkState) (causes : Causes) → ProgramRun None OUT_OF_MEMORY causes (environment d s) (environment d s)
 none_runs d s causes =
     let has : HasCauses OUT_OF_MEMORY (causes.read ⊎ causes.net) (causes.sink ⊎ causes.write) = at_memory OUT_OF_MEMORY _ _ refl in
     record {
       refused = inr (refl, (refl, refl));
       only_refused = λ e. refl;
-      told = tt;
-      untold = tt;
+      observable = tt;
+      opaque = tt;
       complete = λ quiet. tt;
       sound = tt;
       read = has.read;
@@ -170,7 +170,7 @@ serve_waits : (query : ServePlain) (d : DiskState) (s : SinkState) (net : NetSta
     RunsServe query OUT_OF_MEMORY (with_links d s net console) (with_links d s net console)
 serve_waits query d s net console =
     serving_stopped query.record_file query (rules_and_map query.rules query.map_file) NoMemory OUT_OF_MEMORY d d s s net console
-    refl refl (omega arith) (omega arith) (unread_told d.files _ (λ files. tt)) (unread_untold d.files _ tt) (refl, refl)
+    refl refl (omega arith) (omega arith) (unread_observable d.files _ (λ files. tt)) (unread_opaque d.files _ tt) (refl, refl)
 
 request_waits : (request : RequestPlain) (d : DiskState) (s : SinkState) (net : NetState) (console : SourceState) →
     RunsWaiting (waiting request) OUT_OF_MEMORY (with_links d s net console) (with_links d s net console)
@@ -191,19 +191,19 @@ request_waits (Serve query) d s net console = serve_waits query d s net console
 request_waits (Local query bots) d s net console = (
   request_runs (Local query bots) OUT_OF_MEMORY _ (environment d s) (environment d s)
       (request_stopped (Local query bots) NoMemory OUT_OF_MEMORY d d s s refl (omega arith) (omega arith)
-      (unread_told d.files _ (λ files. tt)) (unread_untold d.files _ tt) (refl, refl)),
+      (unread_observable d.files _ (λ files. tt)) (unread_opaque d.files _ tt) (refl, refl)),
   (refl, refl),
 )
 request_waits (PlayBot query) d s net console =
     let all = rules_and_map query.rules query.map_file in
     let old = with_links d s net console in
     linked_stopped all all (bot_step query) (PlaysOver OUT_OF_MEMORY old old) IsPlayDone NoMemory OUT_OF_MEMORY (LinkFailed net net) old old
-    refl refl (omega arith) (omega arith) (unread_told d.files _ (λ files. tt)) (unread_untold d.files _ tt) (refl, refl) (refl, refl)
+    refl refl (omega arith) (omega arith) (unread_observable d.files _ (λ files. tt)) (unread_opaque d.files _ tt) (refl, refl) (refl, refl)
 request_waits (Play query at is_quiet) d s net console =
     let all = with_script query.file (rules_and_map query.rules query.map_file) in
     let old = with_links d s net console in
     linked_stopped all all (play_step query) (PlaysOver OUT_OF_MEMORY old old) IsPlayDone NoMemory OUT_OF_MEMORY (LinkFailed net net) old old
-    refl refl (omega arith) (omega arith) (unread_told d.files _ (λ files. tt)) (unread_untold d.files _ tt) (refl, refl) (refl, refl)
+    refl refl (omega arith) (omega arith) (unread_observable d.files _ (λ files. tt)) (unread_opaque d.files _ tt) (refl, refl) (refl, refl)
 
 pub memory_waits :
     (named : Option RequestPlain) (d : DiskState) (s : SinkState) (net : NetState) (console : SourceState) →

@@ -37,20 +37,20 @@ KeepsWorld query frames contents write =
 -- So it is of the file in the reply to a request, over a disk that tells its files.
 abbrev pub IsOfWritten :
     (Contents → Option FileWrite → Type 0) → RequestPlain → Option Files → Type 0
-IsOfWritten Keeps request told =
-    IfSome told
+IsOfWritten Keeps request observable =
+    IfSome observable
     (λ files. (contents : Contents) → contents_of (wanted request) files ≡ Ok contents →
     Keeps contents (given_reply request contents).write)
 
 abbrev pub KeepsMatch : RequestPlain → Option Files → Type 0
-KeepsMatch (Drill query (Some name)) told =
-    IsOfWritten (KeepsDrill query) (Drill query (Some name)) told
-KeepsMatch (Migrate query to) told = IsOfWritten (KeepsReplay query) (Migrate query to) told
-KeepsMatch (Save query frames to) told =
-    IsOfWritten (KeepsWorld query frames) (Save query frames to) told
-KeepsMatch request told = Unit {0}
+KeepsMatch (Drill query (Some name)) observable =
+    IsOfWritten (KeepsDrill query) (Drill query (Some name)) observable
+KeepsMatch (Migrate query to) observable = IsOfWritten (KeepsReplay query) (Migrate query to) observable
+KeepsMatch (Save query frames to) observable =
+    IsOfWritten (KeepsWorld query frames) (Save query frames to) observable
+KeepsMatch request observable = Unit {0}
 
 -- So it is where the command of a request, if there is one, is done with this status.
 abbrev pub KeepsIfDone : Option RequestPlain → (status : ℕ) → Option Files → Type 0
-KeepsIfDone request status told =
-    status ≡ DONE → IfSome request (λ request. KeepsMatch request told)
+KeepsIfDone request status observable =
+    status ≡ DONE → IfSome request (λ request. KeepsMatch request observable)

@@ -24,8 +24,8 @@ RefusesWords status causes old new =
 
 -- Over a disk that tells its files, the words and the files decide. Else a read failed, which it
 -- can where the first file is there.
-abbrev pub IsToldAnswer : RequestPlain → Files → ℕ → Causes → (old new : Environment) → Type 0
-IsToldAnswer request files status causes old new =
+abbrev pub IsObservableAnswer : RequestPlain → Files → ℕ → Causes → (old new : Environment) → Type 0
+IsObservableAnswer request files status causes old new =
     IsAnswered (reply_to request files) status causes old new
     ⊎ (IsFirstThere (in_order (wanted request)) files
     × causes.read
@@ -34,8 +34,8 @@ IsToldAnswer request files status causes old new =
 -- Over a disk that tells nothing, the contents that it gave decide. Else its count of faults rose,
 -- and a file is missing, too long, or could not be read; or memory ran out before anything was
 -- printed.
-abbrev pub IsUntoldAnswer : RequestPlain → ℕ → Causes → (old new : Environment) → Type 0
-IsUntoldAnswer request status causes old new =
+abbrev pub IsOpaqueAnswer : RequestPlain → ℕ → Causes → (old new : Environment) → Type 0
+IsOpaqueAnswer request status causes old new =
     ((contents : Contents)
     × (AreContents (wanted request) contents
     × IsAnswered (given_reply request contents) status causes old new))
@@ -63,9 +63,9 @@ IsSound request status = Unit {0}
 -- A run of a request.
 pub record RunsRequest
     (request : RequestPlain) (status : ℕ) (causes : Causes) (old new : Environment) : Type 0 where
-  pub told :
-      IfSome old.disk.files (λ files. IsToldAnswer request files status causes old new)
-  pub untold : IfNone old.disk.files (IsUntoldAnswer request status causes old new)
+  pub observable :
+      IfSome old.disk.files (λ files. IsObservableAnswer request files status causes old new)
+  pub opaque : IfNone old.disk.files (IsOpaqueAnswer request status causes old new)
   pub accepted : status ≢ REFUSED_WORDS
   pub read : status ≡ FAULT_READ → causes.read ⊎ causes.net
   pub write : status ≡ FAULT_WRITE → causes.sink ⊎ causes.write
@@ -73,19 +73,19 @@ pub record RunsRequest
   pub later : IsLater old new
 
 -- A run of the program, for the request that its words name, if they name one.
-pub record Runs
+pub record ProgramRun
     (request : Option RequestPlain) (status : ℕ) (causes : Causes) (old new : Environment)
     : Type 0 where
   -- Status 2: exactly where the words name no request.
   pub refused : IfNone request (RefusesWords status causes old new)
   pub only_refused : status ≡ REFUSED_WORDS → request ≡ None
-  -- Every status, over a told disk: as the words and the files say.
-  pub told :
+  -- Every status, over a observable disk: as the words and the files say.
+  pub observable :
       IfSome request (λ request.
-      IfSome old.disk.files (λ files. IsToldAnswer request files status causes old new))
-  pub untold :
+      IfSome old.disk.files (λ files. IsObservableAnswer request files status causes old new))
+  pub opaque :
       IfSome request (λ request.
-      IfNone old.disk.files (IsUntoldAnswer request status causes old new))
+      IfNone old.disk.files (IsOpaqueAnswer request status causes old new))
   -- Status 0, 7 of a command that has it, or 6: where the files are there and without a fault,
   -- nothing is refused, and nothing failed in the run.
   pub complete :

@@ -6,12 +6,12 @@ use Rattle.link_commands.specs.Links.{WithLinks, IsApart, environment_of}
 use Rattle.match_commands.specs.Plays.{RunsBot, RunsPlay}
 use Rattle.match_commands.specs.Serves.{RunsServe}
 use Rattle.match_commands.specs.Request.{written_by}
-use Rattle.match_commands.specs.Run.{Runs}
+use Rattle.match_commands.specs.Run.{ProgramRun}
 
 -- A run that uses neither net nor console: the words and the files decide.
 abbrev pub RunsAlone : Option RequestPlain → ℕ → (old new : WithLinks) → Type 0
 RunsAlone request status old new =
-    Runs request status
+    ProgramRun request status
     (causes_of (option_and_then written_by request) (environment_of old) (environment_of new))
     (environment_of old) (environment_of new)
     × IsApart old new

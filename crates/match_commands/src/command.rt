@@ -7,7 +7,7 @@ ghost use Rattle.command_answers.specs.Causes.{causes_of};
 ghost use Rattle.command_answers.specs.Environment.{environment};
 ghost use Rattle.match_commands.specs.KeptMatches.{KeepsIfDone};
 ghost use Rattle.match_commands.specs.Request.{written_by};
-ghost use Rattle.match_commands.specs.Run.{Runs, RunsRequest};
+ghost use Rattle.match_commands.specs.Run.{ProgramRun, RunsRequest};
 ghost use Rattle.match_commands.specs.TopCalls.{returning, returning_request};
 
 use crate::comparing::run_compare;
@@ -20,11 +20,11 @@ use crate::reporting::print_report;
 use crate::saving::{run_continue, run_save};
 use crate::viewing::{run_view, run_worlds_query};
 use command_answers::{
-    OUT_OF_MEMORY, PlayedFile, print_stop, print_text, read_files, read_played_files, read_rules,
+    OUT_OF_MEMORY, InputFile, print_stop, print_text, read_files, read_played_files, read_rules,
     refuse_words,
 };
 use command_words::{
-    FileNames, MAX_FILES, MatchQuery, Request, RouteQuery, WordsFault, read_words,
+    FileNames, MAX_FILES, MatchQuery, Request, RouteQuery, WordsFault, read_arguments,
 };
 use game_io::{Disk, Sink};
 use rule_commands::{check_text, route_text, yaml_text};
@@ -56,11 +56,11 @@ pub fn run<D: Disk, K: Sink>(alloc: Global, words: &[String], disk: &mut D, out:
     ensures runs { let old = environment (D.state disk.old) (K.state out.old) in
         let new = environment (D.state disk.new) (K.state out.new) in
         let request = returning_request (request_of (map string_bytes words.now)) in
-        Runs request result (causes_of (option_and_then written_by request) old new) old new }
+        ProgramRun request result (causes_of (option_and_then written_by request) old new) old new }
     ensures keeps { KeepsIfDone (returning_request (request_of (map string_bytes words.now))) result
         (D.state disk.old).files }
 {
-    match read_words(alloc, words) {
+    match read_arguments(alloc, words) {
         Ok(request) => run_request(alloc, &request, disk, out),
         Err(WordsFault::Refused) => refuse_words(out),
         Err(WordsFault::NoMemory) => OUT_OF_MEMORY,
@@ -78,7 +78,7 @@ fn run_request<D: Disk, K: Sink>(
     ensures runs { let old = environment (D.state disk.old) (K.state out.old) in
         let new = environment (D.state disk.new) (K.state out.new) in
         let named = returning (plain_of request.now) in
-        Runs named result (causes_of (option_and_then written_by named) old new) old new }
+        ProgramRun named result (causes_of (option_and_then written_by named) old new) old new }
     ensures keeps { KeepsIfDone (returning (plain_of request.now)) result (D.state disk.old).files }
 {
     match request {
@@ -141,7 +141,7 @@ fn run_script<D: Disk, K: Sink>(
         disk,
         names,
         query.map_file,
-        PlayedFile::Script(query.file),
+        InputFile::Script(query.file),
     ) {
         Ok(given) => print_report(alloc, prepare_drill(alloc, query, &given), out),
         Err(stop) => print_stop(alloc, stop, out),
@@ -171,7 +171,7 @@ fn run_recorded_script<D: Disk, K: Sink>(
         disk,
         names,
         query.map_file,
-        PlayedFile::Script(query.file),
+        InputFile::Script(query.file),
     ) {
         Ok(given) => {
             let made = prepare_recorded(alloc, query, &given);

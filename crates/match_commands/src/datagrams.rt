@@ -5,7 +5,7 @@ ghost use Rattle.command_answers.specs.Causes.{causes_of};
 ghost use Rattle.command_answers.specs.Environment.{environment};
 ghost use Rattle.match_commands.specs.Run.{RunsRequest};
 
-use command_answers::{PlayedFile, print_answer, print_stop, read_played_files};
+use command_answers::{InputFile, print_answer, print_stop, read_played_files};
 use datagrams_command::datagrams_answer;
 use game_io::{Disk, Sink};
 use std::alloc::Global;
@@ -22,7 +22,7 @@ pub(crate) fn run_datagrams<D: Disk, K: Sink>(
         let new = environment (D.state disk.new) (K.state out.new) in
         RunsRequest (Datagrams script.now) result (causes_of None old new) old new }
 {
-    match read_played_files(alloc, disk, &[], None, PlayedFile::Script(script)) {
+    match read_played_files(alloc, disk, &[], None, InputFile::Script(script)) {
         Ok(given) => {
             let (_files, bytes) = &given;
             print_answer(alloc, disk, datagrams_answer(alloc, script, bytes), out)

@@ -8,7 +8,7 @@ ghost use Rattle.link_commands.specs.Links.{with_links};
 ghost use Rattle.match_commands.specs.Plays.{PlaysFrom, RunsBot, RunsPlay};
 ghost use Rattle.match_commands.specs.Plays.{bot_means, play_means, play_step};
 
-use command_answers::{GivenFiles, PlayedFile, Stop, print_stop, read_files, read_played_files};
+use command_answers::{GivenFiles, InputFile, Stop, print_stop, read_files, read_played_files};
 use command_words::{BotQuery, MAX_FILES, MatchQuery};
 use drill_words::MAX_DRILL_BYTES;
 use game_bots::GameBots;
@@ -41,7 +41,7 @@ pub(crate) fn run_play<D: Disk, K: Sink, N: Net>(
         disk,
         names,
         query.map_file,
-        PlayedFile::Script(query.file),
+        InputFile::Script(query.file),
     ) {
         Ok(given) => play_made(alloc, at, prepare_play(alloc, query, &given), out, net),
         Err(stop) => print_stop(alloc, stop, out),

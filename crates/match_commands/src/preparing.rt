@@ -13,7 +13,7 @@ use std::alloc::Global;
 use tick_core::GameMaker;
 
 /// The drill of these bytes, which are those of the file of this name.
-fn read_script<'a>(alloc: Global, name: &'a str, bytes: &[u8]) -> Result<Drill, Stop<'a>>
+fn parse_drill<'a>(alloc: Global, name: &'a str, bytes: &[u8]) -> Result<Drill, Stop<'a>>
     requires { length bytes.now ≤ MAX_DRILL_BYTES }
     ensures { ReturnsStep result plain_of (script_step name.now bytes.now) }
 {
@@ -36,7 +36,7 @@ pub(crate) fn prepare_drill<'a>(
 {
     let (files, script) = given;
     let maker = read_maker(alloc, query.rules.as_slice(), query.map_file, files)?;
-    let drill = read_script(alloc, query.file, script)?;
+    let drill = parse_drill(alloc, query.file, script)?;
     Ok((maker, drill))
 }
 
@@ -54,6 +54,6 @@ pub(crate) fn prepare_recorded<'a>(
     let (files, script) = given;
     let names = query.rules.as_slice();
     let (maker, number) = read_numbered_maker(alloc, names, query.map_file, files)?;
-    let drill = read_script(alloc, query.file, script)?;
+    let drill = parse_drill(alloc, query.file, script)?;
     Ok((maker, drill, number))
 }

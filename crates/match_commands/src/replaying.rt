@@ -11,7 +11,7 @@ ghost use Rattle.match_commands.specs.Replayed.{migrated_step, replayed_step};
 ghost use Rattle.match_commands.specs.Run.{RunsRequest};
 
 use command_answers::{
-    Answer, GivenFiles, PlayedFile, Stop, print_answer, print_stop, read_played_files,
+    Answer, GivenFiles, InputFile, Stop, print_answer, print_stop, read_played_files,
 };
 use command_words::{MAX_FILES, MatchQuery};
 use game_io::{Disk, Sink};
@@ -81,7 +81,7 @@ pub(crate) fn run_replay<D: Disk, K: Sink>(
         disk,
         names,
         query.map_file,
-        PlayedFile::Replay(query.file),
+        InputFile::Replay(query.file),
     ) {
         Ok(given) => print_answer(alloc, disk, answer_replay(alloc, query, &given), out),
         Err(stop) => print_stop(alloc, stop, out),
@@ -111,7 +111,7 @@ pub(crate) fn run_migrate<D: Disk, K: Sink>(
         disk,
         names,
         query.map_file,
-        PlayedFile::Replay(query.file),
+        InputFile::Replay(query.file),
     ) {
         Ok(given) => print_answer(alloc, disk, answer_migrate(alloc, query, to, &given), out),
         Err(stop) => print_stop(alloc, stop, out),

@@ -11,7 +11,7 @@ ghost use Rattle.match_commands.specs.Run.{RunsRequest};
 ghost use Rattle.match_commands.specs.Saves.{continued_step, saved_step};
 
 use command_answers::{
-    Answer, GivenFiles, PairedFiles, PlayedFile, Stop, print_answer, print_stop, read_paired_files,
+    Answer, GivenFiles, PairedFiles, InputFile, Stop, print_answer, print_stop, read_paired_files,
     read_played_files,
 };
 use command_words::{MAX_FILES, MatchQuery};
@@ -92,7 +92,7 @@ pub(crate) fn run_save<D: Disk, K: Sink>(
         disk,
         names,
         query.map_file,
-        PlayedFile::Replay(query.file),
+        InputFile::Replay(query.file),
     ) {
         Ok(given) => {
             let answer = answer_save(alloc, query, frames, to, &given);

@@ -11,7 +11,7 @@ ghost use Rattle.match_commands.specs.Views.{viewed_step};
 ghost use Rattle.match_commands.specs.Worlds.{PrintsWorlds};
 
 use command_answers::{
-    Answer, GivenFiles, PlayedFile, Stop, print_answer, print_stop, read_played_files,
+    Answer, GivenFiles, InputFile, Stop, print_answer, print_stop, read_played_files,
 };
 use command_words::{MAX_FILES, MatchQuery, WorldRange};
 use game_io::{Disk, Sink};
@@ -63,7 +63,7 @@ pub(crate) fn run_view<D: Disk, K: Sink>(
         disk,
         names,
         query.map_file,
-        PlayedFile::Replay(query.file),
+        InputFile::Replay(query.file),
     ) {
         Ok(given) => print_answer(alloc, disk, answer_view(alloc, query, client, &given), out),
         Err(stop) => print_stop(alloc, stop, out),
@@ -121,7 +121,7 @@ pub(crate) fn run_worlds_query<D: Disk, K: Sink>(
         disk,
         names,
         query.map_file,
-        PlayedFile::Replay(query.file),
+        InputFile::Replay(query.file),
     ) {
         Ok(given) => {
             let made = read_numbered_maker(alloc, names, query.map_file, &given.0);

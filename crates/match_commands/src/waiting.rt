@@ -17,10 +17,10 @@ ghost use Rattle.match_commands.specs.Waiting.{RunsWaiting};
 use crate::hosting::run_serve;
 use crate::linking::{run_bot, run_play};
 use command_answers::{
-    GivenFiles, OUT_OF_MEMORY, PlayedFile, Stop, print_stop, print_text, read_played_files,
+    GivenFiles, OUT_OF_MEMORY, InputFile, Stop, print_stop, print_text, read_played_files,
     refuse_words,
 };
-use command_words::{MAX_BOTS, MAX_FILES, MatchQuery, Request, WordsFault, read_words};
+use command_words::{MAX_BOTS, MAX_FILES, MatchQuery, Request, WordsFault, read_arguments};
 use drill_words::MAX_DRILL_BYTES;
 use game_io::{Disk, Gate, Net, Sink, Source};
 use local_command::local_text;
@@ -102,7 +102,7 @@ pub fn run_waiting<
         (with_links (D.state disk.old) (K.state out.old) (N.state net.old) (C.state console.old))
         (with_links (D.state disk.new) (K.state out.new) (N.state net.new) (C.state console.new)) }
 {
-    match read_words(alloc, words) {
+    match read_arguments(alloc, words) {
         Ok(request) => run_request(rt, alloc, &request, disk, out, net, console, gate),
         Err(WordsFault::Refused) => refuse_words(out),
         Err(WordsFault::NoMemory) => OUT_OF_MEMORY,
@@ -180,7 +180,7 @@ fn run_local_match<D: Disk, K: Sink, G: Gate + Sync, R: Threads + Wait + Sync>(
         disk,
         names,
         query.map_file,
-        PlayedFile::Script(query.file),
+        InputFile::Script(query.file),
     ) {
         Ok(given) => {
             let text = match_text(rt, alloc, query, bots, &given, gate);

@@ -149,8 +149,8 @@ pub widen_runs :
     RunsLinked wants start Goes Done status (causes_by failed old new) old new →
     RunsLinked wants start Goes Done status (recording_causes name failed old new) old new
 widen_runs name wants start Goes Done status failed old new runs = record {
-  told = runs.told;
-  untold = runs.untold;
+  observable = runs.observable;
+  opaque = runs.opaque;
   accepted = runs.accepted;
   read = runs.read;
   write = λ e. widen name failed old new (runs.write e);

@@ -6,7 +6,7 @@ use crate::lines::{
 use base::NoMemory;
 use command_words::{
     BotQuery, FileNames, HostOptions, MAX_FILES, MatchQuery, Request, RouteQuery, ServeQuery,
-    WordsFault, WorldRange, host_options, read_words,
+    WordsFault, WorldRange, host_options, read_arguments,
 };
 use std::alloc::{AllocError, Global};
 use std::fmt::Write;
@@ -238,7 +238,7 @@ fn put_request(text: &mut String, request: &Request<'_>) -> Result<(), NoMemory>
 /// The request that a list of words names, of which the first is the program's name.
 fn request_text(alloc: Global, words: &[String]) -> Result<String, NoMemory> {
     let mut text = String::new(alloc);
-    match read_words(alloc, words) {
+    match read_arguments(alloc, words) {
         Ok(request) => put_request(&mut text, &request)?,
         Err(WordsFault::Refused) => text.push_str(REFUSED)?,
         Err(WordsFault::NoMemory) => return Err(AllocError),

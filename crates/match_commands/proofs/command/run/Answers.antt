@@ -17,4 +17,4 @@ returns-in-Err-NoMemory-clause-keeps g c = memory_keeps _ _
 -- They name none.
 pub returns-in-Err-Refused-clause-keeps : goal.returns-in-Err-Refused-clause-keeps
 returns-in-Err-Refused-clause-keeps g c =
-    refused_keeps returning _ _ _ (c.read_words.ensures.refused (search rules))
+    refused_keeps returning _ _ _ (c.read_arguments.ensures.refused (search rules))

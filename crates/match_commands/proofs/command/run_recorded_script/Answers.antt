@@ -21,7 +21,7 @@ returns-in-Ok-clause-runs g c =
     let s' = g.K.Sink.state c.record_drill.new.out in
     all_given (Drill query (Some c.args.name.now)) (with_script query.file (rules_and_map (map (λ name. name.now) c.as_slice-names.result.now) query.map_file)) contents c.record_drill.result d d' s s'
     (ap (λ names. with_script query.file (rules_and_map names query.map_file)) (sym c.as_slice-names.ensures))
-    (omega (arith, c.in-Ok.ensures.later, c.record_drill.ensures.disk)) c.record_drill.ensures.later c.in-Ok.ensures.told c.in-Ok.ensures.untold
+    (omega (arith, c.in-Ok.ensures.later, c.record_drill.ensures.disk)) c.record_drill.ensures.later c.in-Ok.ensures.observable c.in-Ok.ensures.opaque
     (record_printed c.args.name.now c.prepare_recorded-made.result (numbered_step query contents) c.record_drill.result d d1 d' s s' c.in-Ok.ensures.files c.in-Ok.ensures.later
     c.prepare_recorded-made.ensures c.record_drill.ensures.records)
 
@@ -32,7 +32,7 @@ returns-in-Err-clause-runs g c =
     files_stopped (Drill query (Some c.args.name.now)) (with_script query.file (rules_and_map (map (λ name. name.now) c.as_slice-names.result.now) query.map_file)) c.in-Err.stop c.print_stop.result
     (g.D.Disk.state c.args.disk.now) (g.D.Disk.state c.read_played_files.new.disk) (g.K.Sink.state c.args.out.now) (g.K.Sink.state c.print_stop.new.out)
     (ap (λ names. with_script query.file (rules_and_map names query.map_file)) (sym c.as_slice-names.ensures))
-    c.in-Err.ensures.files c.in-Err.ensures.later c.print_stop.ensures.later c.in-Err.ensures.told c.in-Err.ensures.untold
+    c.in-Err.ensures.files c.in-Err.ensures.later c.print_stop.ensures.later c.in-Err.ensures.observable c.in-Err.ensures.opaque
     c.print_stop.ensures.prints
 
 -- The record keeps its match.
@@ -41,7 +41,7 @@ returns-in-Ok-clause-keeps g c = λ done.
     let query = plain_match c.args.query.now in
     let contents = script_contents c.in-Ok.given in
     kept_over (KeepsDrill query) (Drill query (Some c.args.name.now)) (with_script query.file (rules_and_map (map (λ name. name.now) c.as_slice-names.result.now) query.map_file)) contents
-    (g.D.Disk.state c.args.disk.now).files (ap (λ names. with_script query.file (rules_and_map names query.map_file)) (sym c.as_slice-names.ensures)) c.in-Ok.ensures.told
+    (g.D.Disk.state c.args.disk.now).files (ap (λ names. with_script query.file (rules_and_map names query.map_file)) (sym c.as_slice-names.ensures)) c.in-Ok.ensures.observable
     (record_kept query c.args.name.now contents c.prepare_recorded-made.result c.prepare_recorded-made.ensures (c.record_drill.ensures.replays done))
 
 pub returns-in-Err-clause-keeps : goal.returns-in-Err-clause-keeps

@@ -12,7 +12,7 @@ returns-in-Ok g c =
     files_given (Route query) (rules_and_map (map (λ name. name.now) c.as_slice.result.now) (Some query.map_file)) (given_contents c.in-Ok.given) c.route_text.result _ c.print_text.result
     (g.D.Disk.state c.args.disk.now) (g.D.Disk.state c.read_files.new.disk) (g.K.Sink.state c.args.out.now) (g.K.Sink.state c.print_text.new.out)
     (ap (λ names. rules_and_map names (Some query.map_file)) (sym c.as_slice.ensures))
-    c.in-Ok.ensures.files c.in-Ok.ensures.later c.print_text.ensures.later c.in-Ok.ensures.told c.in-Ok.ensures.untold
+    c.in-Ok.ensures.files c.in-Ok.ensures.later c.print_text.ensures.later c.in-Ok.ensures.observable c.in-Ok.ensures.opaque
     c.route_text.ensures refl c.print_text.ensures.prints
 
 -- One of them was not.
@@ -22,5 +22,5 @@ returns-in-Err g c =
     files_stopped (Route query) (rules_and_map (map (λ name. name.now) c.as_slice.result.now) (Some query.map_file)) c.in-Err.stop c.print_stop.result
     (g.D.Disk.state c.args.disk.now) (g.D.Disk.state c.read_files.new.disk) (g.K.Sink.state c.args.out.now) (g.K.Sink.state c.print_stop.new.out)
     (ap (λ names. rules_and_map names (Some query.map_file)) (sym c.as_slice.ensures))
-    c.in-Err.ensures.files c.in-Err.ensures.later c.print_stop.ensures.later c.in-Err.ensures.told c.in-Err.ensures.untold
+    c.in-Err.ensures.files c.in-Err.ensures.later c.print_stop.ensures.later c.in-Err.ensures.observable c.in-Err.ensures.opaque
     c.print_stop.ensures.prints

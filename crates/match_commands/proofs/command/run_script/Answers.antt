@@ -18,7 +18,7 @@ returns-in-Ok g c =
     let s' = g.K.Sink.state c.print_report.new.out in
     all_given (Drill query None) (with_script query.file (rules_and_map (map (λ name. name.now) c.as_slice-names.result.now) query.map_file)) contents c.print_report.result d d' s s'
     (ap (λ names. with_script query.file (rules_and_map names query.map_file)) (sym c.as_slice-names.ensures))
-    c.in-Ok.ensures.later c.print_report.ensures.later c.in-Ok.ensures.told c.in-Ok.ensures.untold
+    c.in-Ok.ensures.later c.print_report.ensures.later c.in-Ok.ensures.observable c.in-Ok.ensures.opaque
     (report_printed None c.prepare_drill.result (prepared_step query contents) c.print_report.result d d' s s' c.in-Ok.ensures.files
     c.prepare_drill.ensures c.print_report.ensures.prints)
 
@@ -29,5 +29,5 @@ returns-in-Err g c =
     files_stopped (Drill query None) (with_script query.file (rules_and_map (map (λ name. name.now) c.as_slice-names.result.now) query.map_file)) c.in-Err.stop c.print_stop.result
     (g.D.Disk.state c.args.disk.now) (g.D.Disk.state c.read_played_files.new.disk) (g.K.Sink.state c.args.out.now) (g.K.Sink.state c.print_stop.new.out)
     (ap (λ names. with_script query.file (rules_and_map names query.map_file)) (sym c.as_slice-names.ensures))
-    c.in-Err.ensures.files c.in-Err.ensures.later c.print_stop.ensures.later c.in-Err.ensures.told c.in-Err.ensures.untold
+    c.in-Err.ensures.files c.in-Err.ensures.later c.print_stop.ensures.later c.in-Err.ensures.observable c.in-Err.ensures.opaque
     c.print_stop.ensures.prints

@@ -18,7 +18,7 @@ returns-in-Ok g c =
     subst (λ names. RunsRequest (Yaml names) c.print_text.result (causes_of None (environment d s) (environment d' s')) (environment d s) (environment d' s'))
     c.as_slice-names.ensures
     (rules_given (Yaml names) names contents c.yaml_text.result _ c.print_text.result d d' s s' refl
-    c.in-Ok.ensures.files c.in-Ok.ensures.later c.print_text.ensures.later c.in-Ok.ensures.told c.in-Ok.ensures.untold
+    c.in-Ok.ensures.files c.in-Ok.ensures.later c.print_text.ensures.later c.in-Ok.ensures.observable c.in-Ok.ensures.opaque
     (rw c.deref.ensures.value at c.yaml_text.ensures) refl c.print_text.ensures.prints)
 
 -- One of them was not.
@@ -32,5 +32,5 @@ returns-in-Err g c =
     subst (λ names. RunsRequest (Yaml names) c.print_stop.result (causes_of None (environment d s) (environment d' s')) (environment d s) (environment d' s'))
     c.as_slice-names.ensures
     (rules_stopped (Yaml names) names c.in-Err.stop c.print_stop.result d d' s s' refl
-    c.in-Err.ensures.files c.in-Err.ensures.later c.print_stop.ensures.later c.in-Err.ensures.told c.in-Err.ensures.untold
+    c.in-Err.ensures.files c.in-Err.ensures.later c.print_stop.ensures.later c.in-Err.ensures.observable c.in-Err.ensures.opaque
     c.print_stop.ensures.prints)

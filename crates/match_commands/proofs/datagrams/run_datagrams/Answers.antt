@@ -21,7 +21,7 @@ returns-in-Ok g c =
     let s = g.K.Sink.state c.args.out.now in
     let s' = g.K.Sink.state c.print_answer.new.out in
     all_given (Datagrams script) (with_script script no_files) contents c.print_answer.result d d' s s' refl
-    (omega (arith, c.in-Ok.ensures.later, c.print_answer.ensures.disk)) c.print_answer.ensures.later c.in-Ok.ensures.told c.in-Ok.ensures.untold
+    (omega (arith, c.in-Ok.ensures.later, c.print_answer.ensures.disk)) c.print_answer.ensures.later c.in-Ok.ensures.observable c.in-Ok.ensures.opaque
     (answer_printed None c.datagrams_answer.result (datagrams_step script c.in-Ok.given.1.items) c.print_answer.result d d1 d' s s' c.in-Ok.ensures.files c.in-Ok.ensures.later
     (datagrams_fit script c.in-Ok.given.1.items)
     (subst (λ bytes. ReturnsStep c.datagrams_answer.result reply_of (datagrams_step script bytes)) c.deref.ensures.value c.datagrams_answer.ensures)
@@ -33,5 +33,5 @@ returns-in-Err g c =
     let script = c.args.script.now in
     files_stopped (Datagrams script) (with_script script no_files) c.in-Err.stop c.print_stop.result
     (g.D.Disk.state c.args.disk.now) (g.D.Disk.state c.read_played_files.new.disk) (g.K.Sink.state c.args.out.now) (g.K.Sink.state c.print_stop.new.out)
-    refl c.in-Err.ensures.files c.in-Err.ensures.later c.print_stop.ensures.later c.in-Err.ensures.told c.in-Err.ensures.untold
+    refl c.in-Err.ensures.files c.in-Err.ensures.later c.print_stop.ensures.later c.in-Err.ensures.observable c.in-Err.ensures.opaque
     c.print_stop.ensures.prints

@@ -18,7 +18,7 @@ returns-in-Ok g c =
     serving_given c.a_record_gives_the_match.ensures query.record_file query (rules_and_map (map (λ name. name.now) c.as_slice-names.result.now) query.map_file) (given_contents c.in-Ok.given)
     c.read_numbered_maker-made.result c.serve_or_record.result old new (g.D.Disk.state c.read_files.new.disk)
     (ap (λ names. rules_and_map names query.map_file) (sym c.as_slice-names.ensures))
-    c.in-Ok.ensures.files c.in-Ok.ensures.later c.serve_or_record.ensures.disk c.serve_or_record.ensures.later c.in-Ok.ensures.told c.in-Ok.ensures.untold
+    c.in-Ok.ensures.files c.in-Ok.ensures.later c.serve_or_record.ensures.disk c.serve_or_record.ensures.later c.in-Ok.ensures.observable c.in-Ok.ensures.opaque
     returns c.serve_or_record.ensures.serves
 
 -- One of them was not.
@@ -29,5 +29,5 @@ returns-in-Err g c =
     (g.D.Disk.state c.args.disk.now) (g.D.Disk.state c.read_files.new.disk) (g.K.Sink.state c.args.out.now) (g.K.Sink.state c.print_stop.new.out)
     (g.N.Net.state c.args.net.now) (g.C.Source.state c.args.console.now)
     (ap (λ names. rules_and_map names query.map_file) (sym c.as_slice-names.ensures))
-    c.in-Err.ensures.files c.in-Err.ensures.later c.print_stop.ensures.later c.in-Err.ensures.told c.in-Err.ensures.untold
+    c.in-Err.ensures.files c.in-Err.ensures.later c.print_stop.ensures.later c.in-Err.ensures.observable c.in-Err.ensures.opaque
     c.print_stop.ensures.prints

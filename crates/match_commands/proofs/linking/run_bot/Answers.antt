@@ -22,7 +22,7 @@ returns-in-Ok g c console =
     linked_given (rules_and_map query.rules query.map_file) (rules_and_map (map (λ name. name.now) c.as_slice-names.result.now) query.map_file)
     (bot_step query) (PlaysOver c.play_bot.result old new) IsPlayDone contents c.play_bot.result _ old new
     (ap (λ names. rules_and_map names query.map_file) (sym c.as_slice-names.ensures))
-    c.in-Ok.ensures.files c.in-Ok.ensures.later c.play_bot.ensures.later c.in-Ok.ensures.told c.in-Ok.ensures.untold
+    c.in-Ok.ensures.files c.in-Ok.ensures.later c.play_bot.ensures.later c.in-Ok.ensures.observable c.in-Ok.ensures.opaque
     (play_begins (bot_means query.frames) c.read_numbered_maker-made.result (bot_step query contents) c.play_bot.result old new refl returns c.play_bot.ensures.plays)
     (play_caused (bot_means query.frames) c.read_numbered_maker-made.result (bot_step query contents) c.play_bot.result old new returns c.play_bot.ensures.plays)
 
@@ -35,5 +35,5 @@ returns-in-Err g c console =
     linked_stopped (rules_and_map query.rules query.map_file) (rules_and_map (map (λ name. name.now) c.as_slice-names.result.now) query.map_file)
     (bot_step query) (PlaysOver c.print_stop.result old new) IsPlayDone c.in-Err.stop c.print_stop.result (LinkFailed old.net new.net) old new
     (ap (λ names. rules_and_map names query.map_file) (sym c.as_slice-names.ensures))
-    c.in-Err.ensures.files c.in-Err.ensures.later c.print_stop.ensures.later c.in-Err.ensures.told c.in-Err.ensures.untold
+    c.in-Err.ensures.files c.in-Err.ensures.later c.print_stop.ensures.later c.in-Err.ensures.observable c.in-Err.ensures.opaque
     c.print_stop.ensures.prints (refl, refl)

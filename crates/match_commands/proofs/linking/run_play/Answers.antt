@@ -20,7 +20,7 @@ returns-in-Ok g c console =
     (with_script query.file (rules_and_map (map (λ name. name.now) c.as_slice-names.result.now) query.map_file))
     (play_step query) (PlaysOver c.play_made.result old new) IsPlayDone contents c.play_made.result _ old new
     (ap (λ names. with_script query.file (rules_and_map names query.map_file)) (sym c.as_slice-names.ensures))
-    c.in-Ok.ensures.files c.in-Ok.ensures.later c.play_made.ensures.later c.in-Ok.ensures.told c.in-Ok.ensures.untold
+    c.in-Ok.ensures.files c.in-Ok.ensures.later c.play_made.ensures.later c.in-Ok.ensures.observable c.in-Ok.ensures.opaque
     (play_begins play_means c.prepare_play.result (play_step query contents) c.play_made.result old new refl c.prepare_play.ensures c.play_made.ensures.plays)
     (play_caused play_means c.prepare_play.result (play_step query contents) c.play_made.result old new c.prepare_play.ensures c.play_made.ensures.plays)
 
@@ -34,5 +34,5 @@ returns-in-Err g c console =
     (with_script query.file (rules_and_map (map (λ name. name.now) c.as_slice-names.result.now) query.map_file))
     (play_step query) (PlaysOver c.print_stop.result old new) IsPlayDone c.in-Err.stop c.print_stop.result (LinkFailed old.net new.net) old new
     (ap (λ names. with_script query.file (rules_and_map names query.map_file)) (sym c.as_slice-names.ensures))
-    c.in-Err.ensures.files c.in-Err.ensures.later c.print_stop.ensures.later c.in-Err.ensures.told c.in-Err.ensures.untold
+    c.in-Err.ensures.files c.in-Err.ensures.later c.print_stop.ensures.later c.in-Err.ensures.observable c.in-Err.ensures.opaque
     c.print_stop.ensures.prints (refl, refl)

@@ -21,7 +21,7 @@ returns-in-Ok-clause-runs g c =
     let s' = g.K.Sink.state c.print_answer.new.out in
     all_given (Save query c.args.frames c.args.to.now) (with_replay query.file (rules_and_map (map (λ name. name.now) c.as_slice-names.result.now) query.map_file)) contents c.print_answer.result d d' s s'
     (ap (λ names. with_replay query.file (rules_and_map names query.map_file)) (sym c.as_slice-names.ensures))
-    (omega (arith, c.in-Ok.ensures.later, c.print_answer.ensures.disk)) c.print_answer.ensures.later c.in-Ok.ensures.told c.in-Ok.ensures.untold
+    (omega (arith, c.in-Ok.ensures.later, c.print_answer.ensures.disk)) c.print_answer.ensures.later c.in-Ok.ensures.observable c.in-Ok.ensures.opaque
     (answer_printed (Some c.args.to.now) c.answer_save-answer.result (saved_step query c.args.frames c.args.to.now contents) c.print_answer.result d d1 d' s s' c.in-Ok.ensures.files c.in-Ok.ensures.later
     (saved_fits query c.args.frames c.args.to.now contents) c.answer_save-answer.ensures.reply c.print_answer.ensures.answers)
 
@@ -32,7 +32,7 @@ returns-in-Err-clause-runs g c =
     files_stopped (Save query c.args.frames c.args.to.now) (with_replay query.file (rules_and_map (map (λ name. name.now) c.as_slice-names.result.now) query.map_file)) c.in-Err.stop c.print_stop.result
     (g.D.Disk.state c.args.disk.now) (g.D.Disk.state c.read_played_files.new.disk) (g.K.Sink.state c.args.out.now) (g.K.Sink.state c.print_stop.new.out)
     (ap (λ names. with_replay query.file (rules_and_map names query.map_file)) (sym c.as_slice-names.ensures))
-    c.in-Err.ensures.files c.in-Err.ensures.later c.print_stop.ensures.later c.in-Err.ensures.told c.in-Err.ensures.untold
+    c.in-Err.ensures.files c.in-Err.ensures.later c.print_stop.ensures.later c.in-Err.ensures.observable c.in-Err.ensures.opaque
     c.print_stop.ensures.prints
 
 -- The file that was written keeps its match.
@@ -41,7 +41,7 @@ returns-in-Ok-clause-keeps g c = λ done.
     let query = plain_match c.args.query.now in
     let contents = replay_contents c.in-Ok.given in
     kept_over (KeepsWorld query c.args.frames) (Save query c.args.frames c.args.to.now) (with_replay query.file (rules_and_map (map (λ name. name.now) c.as_slice-names.result.now) query.map_file)) contents
-    (g.D.Disk.state c.args.disk.now).files (ap (λ names. with_replay query.file (rules_and_map names query.map_file)) (sym c.as_slice-names.ensures)) c.in-Ok.ensures.told
+    (g.D.Disk.state c.args.disk.now).files (ap (λ names. with_replay query.file (rules_and_map names query.map_file)) (sym c.as_slice-names.ensures)) c.in-Ok.ensures.observable
     (answer_kept (KeepsWorld query c.args.frames contents) c.answer_save-answer.result (saved_step query c.args.frames c.args.to.now contents) c.print_answer.result
     (g.D.Disk.state c.read_played_files.new.disk) (g.D.Disk.state c.print_answer.new.disk) (g.K.Sink.state c.args.out.now) (g.K.Sink.state c.print_answer.new.out)
     c.answer_save-answer.ensures.reply c.answer_save-answer.ensures.keeps c.print_answer.ensures.answers done)

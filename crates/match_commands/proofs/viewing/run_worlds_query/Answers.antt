@@ -20,7 +20,7 @@ returns-in-Ok g c =
     let returns = rw c.as_slice-names.ensures at c.read_numbered_maker-made.ensures in
     all_given (Worlds query range) (with_replay query.file (rules_and_map (map (λ name. name.now) c.as_slice-names.result.now) query.map_file)) contents c.print_range.result d d' s s'
     (ap (λ names. with_replay query.file (rules_and_map names query.map_file)) (sym c.as_slice-names.ensures))
-    c.in-Ok.ensures.later c.print_range.ensures.later c.in-Ok.ensures.told c.in-Ok.ensures.untold
+    c.in-Ok.ensures.later c.print_range.ensures.later c.in-Ok.ensures.observable c.in-Ok.ensures.opaque
     (worlds_printed query range c.in-Ok.given.1.items c.read_numbered_maker-made.result (numbered_setup_step query.rules query.map_file contents) c.print_range.result d d' s s'
     c.in-Ok.ensures.files returns c.print_range.ensures.prints)
 
@@ -32,5 +32,5 @@ returns-in-Err g c =
     files_stopped (Worlds query range) (with_replay query.file (rules_and_map (map (λ name. name.now) c.as_slice-names.result.now) query.map_file)) c.in-Err.stop c.print_stop.result
     (g.D.Disk.state c.args.disk.now) (g.D.Disk.state c.read_played_files.new.disk) (g.K.Sink.state c.args.out.now) (g.K.Sink.state c.print_stop.new.out)
     (ap (λ names. with_replay query.file (rules_and_map names query.map_file)) (sym c.as_slice-names.ensures))
-    c.in-Err.ensures.files c.in-Err.ensures.later c.print_stop.ensures.later c.in-Err.ensures.told c.in-Err.ensures.untold
+    c.in-Err.ensures.files c.in-Err.ensures.later c.print_stop.ensures.later c.in-Err.ensures.observable c.in-Err.ensures.opaque
     c.print_stop.ensures.prints
