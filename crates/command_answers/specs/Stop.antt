@@ -37,7 +37,7 @@ IsStepStop stop step = IsReadStop stop step ⊥
 abbrev pub ReturnsStep : {S T : Type 0} → Result S Stop → (view : S → T) → Step T → Type 0
 ReturnsStep result view step = ReturnsOrStops result view step ⊥
 
--- Over a disk that tells nothing its count of faults rose, and a file is missing, too long, or
+-- Over an opaque disk its count of faults rose, and a file is missing, too long, or
 -- could not be read.
 abbrev pub IsOpaqueStop : Stop → List Wanted → (rose : Type 0) → Type 0
 IsOpaqueStop (Refused name line cause) files rose =

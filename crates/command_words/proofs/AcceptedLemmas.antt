@@ -1,5 +1,5 @@
--- Accepted words name a request, but for the number of positional arguments, and for cells, players and
--- ports that are none.
+-- Accepted arguments name a request, but for the number of positional arguments, and for cells,
+-- players and ports that are none.
 use Rattle.std.proofs.Common.{◌≡◌, ◌<◌, ◌≤◌, ◌⊎◌, ◌∙◌, ◌||◌, ◌&&◌, true≢false, ap, sym, subst, arith, inl, inr, ℕ, Bool, true, false, not, cond, List, [], ◌∷◌, Option, Some, None, is_some, codes, refl}
 use Rattle.std.specs.Prelude.{◌^◌, find, option_map, option_and_then, unwrap_or, pos}
 use Rattle.std.proofs.lemmas.Bool.{le-leb}

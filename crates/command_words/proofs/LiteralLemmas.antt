@@ -1,4 +1,4 @@
--- The definition of the command line at words that are literals but for the names in them.
+-- The definition of the command line at arguments that are literals but for the names in them.
 use Rattle.std.proofs.Common.{◌≡◌, ◌==◌, Bool, true, false, [], ◌∷◌, ◌++◌, Some, None, codes, refl}
 use Rattle.clap.specs.Walk.{Text}
 use Rattle.clap.proofs.OnLiterals.{clap_on_literals}

@@ -1,4 +1,4 @@
--- Words that are all names, after a command that takes names.
+-- Arguments that are all names, after a command that takes names.
 use Rattle.std.proofs.Common.{◌≡◌, ◌∙◌, ap, ap₂, sym, refl, true, false, List, [], ◌∷◌, Option, Some, None, codes, is_some}
 use Rattle.std.specs.Prelude.{option_map, if◌then◌else◌}
 use Rattle.std.specs.List.{All}

@@ -1,4 +1,4 @@
--- A walk over words that are all names.
+-- A walk over arguments that are all names.
 use Rattle.std.proofs.Common.{◌≡◌, ◌==◌, ◌∙◌, ap, ap₂, ℕ, Bool, true, false, List, [], ◌∷◌, ◌++◌, Some, None, codes, refl, append_assoc, arith}
 use Rattle.std.proofs.lemmas.List.Elements.{All-tail}
 use Rattle.std.specs.Prelude.{fold}
@@ -18,7 +18,7 @@ IsPlain word = is_plain word ≡ true
 at_first : (word : Text) (words : List Text) → All IsPlain (word ∷ words) → IsPlain word
 at_first word words plain = plain 0 word (omega arith)
 
--- A plain word is neither `--` nor an option.
+-- A plain argument is neither `--` nor an option.
 met : (c : List Rule) (waiting : Waiting) (position : ℕ) (word : Text) (h : Held) → is_plain word ≡ true
     → subcommand_or_other c None waiting position word h ≡ plain_word c waiting word h
 met c waiting position [] h plain = refl

@@ -1,4 +1,4 @@
--- The word that names a command.
+-- The argument that names a command.
 use Rattle.std.specs.Prelude.{List, ℕ, codes}
 use Rattle.command_words.specs.RequestPlain.{RequestPlain, Drill, Yaml, Check, Route, Make}
 use Rattle.command_words.specs.RequestPlain.{Local, Serve, Play, Replay, Migrate}

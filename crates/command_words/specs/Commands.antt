@@ -1,5 +1,6 @@
 -- The command line as it is given to the library `clap`: one definition a command, and the one
--- level above them. `clap`'s own definitions decide what is accepted, and what the words then name.
+-- level above them. `clap`'s own definitions decide what is accepted, and what the arguments then
+-- name.
 use Rattle.std.specs.Prelude.{ℕ, Some, pos, true, codes}
 use Rattle.clap.specs.Walk.{Rule, Text}
 use Rattle.clap.specs.Simple.{App, new_app, new_rule, on_top, with_rule, with_subcommand}
@@ -221,7 +222,8 @@ compare_app =
 unfoldable pub datagrams_app : App
 datagrams_app = with_rule (new_app (codes "datagrams")) (required_option (codes "script"))
 
--- A command that one of its subcommands must follow, without words for help or the version.
+-- A command that one of its subcommands must follow. It has no subcommand and no option for help or
+-- the version.
 unfoldable pub bare_app : App
 bare_app = on_top (λ shape. record shape {
   disable_help_flag = true;

@@ -1,4 +1,4 @@
--- What the words say of the log, the clocks and the ports of a match over links.
+-- What the arguments say of the log, the clocks and the ports of a match over links.
 use Rattle.std.specs.Prelude.{ℕ, ◌≤◌, false, Option, None, Some, IfSome}
 use Rattle.command_words.specs.declared.host.HostOptions.{HostOptions}
 use Rattle.command_words.specs.declared.host.TheConstants.{MAX_SECONDS}
@@ -16,7 +16,7 @@ options_of (Play query at is_quiet) = record no_options { is_quiet = is_quiet }
 options_of (PlayBot query) = record no_options { is_quiet = query.is_quiet }
 options_of request = no_options
 
--- The same of the request that words name, if they name one.
+-- The same of the request that arguments name, if they name one.
 abbrev pub options_in : Option RequestPlain → HostOptions
 options_in None = no_options
 options_in (Some request) = options_of request

@@ -1,4 +1,4 @@
--- The request that the words of a command line name.
+-- The request that the arguments of a command line name.
 use Rattle.std.specs.Prelude.{◌≡◌, ◌⊎◌, ℕ, ◌+◌, ◌-◌, ◌&&◌, ◌==◌, Bool, true, not, nat_le}
 use Rattle.std.specs.Prelude.{if◌then◌else◌, List, [], ◌∷◌, length, Option, None, Some, codes}
 use Rattle.std.specs.Prelude.{false, option_map, option_and_then, unwrap_or}
@@ -29,7 +29,7 @@ use Rattle.command_words.specs.RequestPlain.{MatchPlain, RoutePlain, ServePlain,
 use Rattle.command_words.specs.Commands.{lockstep_app}
 use Rattle.command_words.specs.Player.{PlayerPlain, Script, Bot}
 
--- `clap` accepts the words as a command line of `lockstep`.
+-- `clap` accepts the arguments as a command line of `lockstep`.
 unfoldable pub is_accepted : List Text → Bool
 is_accepted words = is_empty (fault_of lockstep_app words)
 
@@ -327,14 +327,14 @@ command_request command found =
     then option_map Datagrams (first_of (codes "script") found)
     else None
 
--- The request of the command that the words name, if they name one.
+-- The request of the command that the arguments name, if they name one.
 abbrev pub found_request : Option (Text × List Row) → Option RequestPlain
 found_request = option_and_then (λ command. command_request command.0 command.1)
 
--- The request that the words name; the first of them is the program's name. Words name none where
--- `clap`'s definition of the command line does not accept them, where the number of positional
--- arguments is not allowed, where a cell of `route` is none, where `play` has no player, or two, and
--- where the ports of `serve` are none, or fewer than its clients.
+-- The request that the arguments name; the first of them is the program's name. They name none
+-- where `clap`'s definition of the command line does not accept them, where the number of
+-- positional arguments is not allowed, where a cell of `route` is none, where `play` has no player,
+-- or two, and where the ports of `serve` are none, or fewer than its clients.
 unfoldable pub request_of : List Text → Option RequestPlain
 request_of words =
     if is_accepted words then found_request (subcommand_of lockstep_app words) else None
@@ -385,7 +385,7 @@ PortsRefused (Some command) =
     × IsSomeAnd (count_in MAX_CLIENTS (codes "clients") command.1)
     (λ clients. ports_in clients command.1 ≡ None)
 
--- A word that is a value as it stands: it does not begin with `-` (45), or it is `-` alone.
+-- An argument that is a value as it stands: it does not begin with `-` (45), or it is `-` alone.
 abbrev pub is_plain : Text → Bool
 is_plain [] = true
 is_plain (first ∷ []) = true

@@ -102,7 +102,8 @@ fn first_commands<'a>(alloc: Global) -> Result<Command<'a>, NoMemory>
         .subcommand(yaml_command(alloc)?)
 }
 
-/// A command that one of its subcommands must follow, without words for help or the version.
+/// A command that one of its subcommands must follow. It has no subcommand and no option for help
+/// or the version.
 #[tactic(auto, unfolding(crate::specs::Commands::bare_app))]
 fn bare_command<'a>(alloc: Global) -> Command<'a>
     ensures { Follows bare_app result }

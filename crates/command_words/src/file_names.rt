@@ -1,6 +1,6 @@
 use std::marker::Model;
 
-/// Names of files, as the words have them, in their order. In a `Request` they are at most
+/// Names of files, as the arguments have them, in their order. In a `Request` they are at most
 /// `MAX_FILES`, and at least one where a command wants one.
 #[derive(Debug, Drop)]
 pub struct FileNames<'a> {

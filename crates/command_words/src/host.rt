@@ -3,7 +3,7 @@ use crate::port_range::PortRange;
 /// The most seconds that a clock of a served match may have: those of a day.
 pub const MAX_SECONDS: u32 = 86_400;
 
-/// What the words say of the log, the clocks and the ports of a match over links.
+/// What the arguments say of the log, the clocks and the ports of a match over links.
 #[derive(Clone, Copy, Debug, PartialEq, Eq)]
 pub struct HostOptions {
     /// Whether nothing is logged.

@@ -1,4 +1,4 @@
-//! What the words after `serve` say of the log, the clocks and the ports.
+//! What the arguments after `serve` say of the log, the clocks and the ports.
 ghost use Rattle.std.specs.Prelude.{◌≡◌, ◌≤◌, IfSome};
 ghost use Rattle.clap.specs.Walk.{rows_of};
 ghost use Rattle.clap.specs.Matches.{found_of};

@@ -1,4 +1,4 @@
-//! What words say of the log, the clocks and the ports, before a match begins.
+//! What arguments say of the log, the clocks and the ports, before a match begins.
 ghost use Rattle.std.specs.Prelude.{◌≡◌, IfOk, map, string_bytes};
 ghost use Rattle.command_words.specs.HostOptions.{no_options, options_in, options_of};
 ghost use Rattle.command_words.specs.Reading.{request_of};
@@ -11,9 +11,9 @@ use crate::words_fault::WordsFault;
 use base::NoMemory;
 use std::alloc::{AllocError, Global};
 
-/// What the words say of the log, the clocks and the ports of a match over links; the first of them
-/// is the program's name. It is none of the options where the words are refused, or name another
-/// command than `serve` and `play`. Out of memory is the only error.
+/// What the arguments say of the log, the clocks and the ports of a match over links; the first of
+/// them is the program's name. It is none of the options where the arguments are refused, or name
+/// another command than `serve` and `play`. Out of memory is the only error.
 pub fn host_options(alloc: Global, words: &[String]) -> Result<HostOptions, NoMemory>
     ensures options { IfOk result
         (λ options. options ≡ options_in (request_of (map string_bytes words.now))) }

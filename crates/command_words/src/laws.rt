@@ -13,14 +13,14 @@ ghost use Rattle.command_words.specs.HostOptions.{no_options};
 ghost use Rattle.command_words.specs.Reading.{NamesRefused, CellRefused, PlayerRefused};
 ghost use Rattle.command_words.specs.Reading.{PortsRefused};
 
-/// A law of the definition: no words, and the program's name alone, are refused.
+/// A law of the definition: no arguments, and the program's name alone, are refused.
 #[tactic(auto, using(crate::proofs::LiteralLemmas::no_words, crate::proofs::LiteralLemmas::alone))]
 pub fn no_command()
     ensures none { request_of [] ≡ None }
     ensures alone { (program : List ℕ) → request_of (program ∷ []) ≡ None }
 {}
 
-/// A law of the definition: the command of a request is the word after the program's name.
+/// A law of the definition: the command of a request is the argument after the program's name.
 #[tactic(auto, using(crate::proofs::SecondWordLemmas::command_comes_second))]
 pub fn command_comes_second()
     ensures { (words : List (List ℕ)) (request : RequestPlain) →
@@ -35,7 +35,7 @@ pub fn script_after_equals()
         ≡ Some (Drill (match_alone script) None) }
 {}
 
-/// A law of the definition: after `drill --script=FILE` the word `--record=FILE` names the file
+/// A law of the definition: after `drill --script=FILE` the argument `--record=FILE` names the file
 /// that the replay is written to, whatever it is.
 #[tactic(auto, using(crate::proofs::LiteralLemmas::record_after_equals))]
 pub fn record_after_equals()
@@ -292,8 +292,8 @@ pub fn script_in_a_word()
         ≡ Some (Drill (match_alone script) None) }
 {}
 
-/// A law of the definition: `yaml FILES` names exactly these words in their order, if none of them
-/// begins with `-` unless it is `-` alone, and if their number is allowed; else it is refused.
+/// A law of the definition: `yaml FILES` names exactly these arguments in their order, if none of
+/// them begins with `-` unless it is `-` alone, and if their number is allowed; else it is refused.
 #[tactic(auto, using(crate::proofs::NamesLemmas::yaml_names))]
 pub fn yaml_names()
     ensures { (program : List ℕ) (names : List (List ℕ)) →
@@ -301,8 +301,8 @@ pub fn yaml_names()
         request_of (program ∷ codes "yaml" ∷ names) ≡ option_map Yaml (allowed 1 names) }
 {}
 
-/// A law of the definition: `check RULES` names exactly these words in their order, if none of them
-/// begins with `-` unless it is `-` alone, and if their number is allowed; else it is refused.
+/// A law of the definition: `check RULES` names exactly these arguments in their order, if none of
+/// them begins with `-` unless it is `-` alone, and if their number is allowed; else it is refused.
 #[tactic(auto, using(crate::proofs::NamesLemmas::check_names))]
 pub fn check_names()
     ensures { (program : List ℕ) (names : List (List ℕ)) →
@@ -310,9 +310,9 @@ pub fn check_names()
         request_of (program ∷ codes "check" ∷ names) ≡ option_map (Check None) (allowed 1 names) }
 {}
 
-/// A law of the definition: words that `clap` accepts name a request, unless a command that takes
-/// positional arguments has too many of them, or too few, or a cell of `route` is none, or `play`
-/// has no player, or two, or the ports of `serve` are none, or fewer than its clients.
+/// A law of the definition: arguments that `clap` accepts name a request, unless a command that
+/// takes positional arguments has too many of them, or too few, or a cell of `route` is none, or
+/// `play` has no player, or two, or the ports of `serve` are none, or fewer than its clients.
 #[tactic(auto, using(crate::proofs::AcceptedLemmas::accepted_request))]
 pub fn accepted_words_name_a_request()
     ensures { (words : List (List ℕ)) → is_accepted words ≡ true →

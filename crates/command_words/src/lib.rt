@@ -1,11 +1,11 @@
-//! The words of the command line, read by `clap`.
+//! The arguments of the command line, read by `clap`.
 //!
-//! `read_arguments` returns the request that they name. A list of words is accepted exactly where
-//! `clap`'s own definition of such a command line accepts it, the number of files that it names is
-//! allowed, the cells of a route are cells, a player is one, and ports are ports; the definition stands
-//! in `specs/Commands.antt`, one entry a command. [`host_options`] has what the words say of the log,
-//! the clocks and the ports, before a match begins. It is a crate of its own so that only this one is
-//! proved together with `clap`.
+//! `read_arguments` returns the request that they name. A list of arguments is accepted exactly
+//! where `clap`'s own definition of such a command line accepts it, the number of files that it
+//! names is allowed, the cells of a route are cells, a player is one, and ports are ports; the
+//! definition stands in `specs/Commands.antt`, one entry a command. [`host_options`] has what the
+//! arguments say of the log, the clocks and the ports, before a match begins. It is a crate of its
+//! own so that only this one is proved together with `clap`.
 #![tactic(auto)]
 
 mod bot_query;

@@ -33,10 +33,10 @@ use rule_values::read_cell;
 use std::alloc::Global;
 use world_units::CPos;
 
-/// The request that the words name; the first of them is the program's name.
+/// The request that the arguments name; the first of them is the program's name.
 ///
-/// The words are `Refused` exactly where they name none; `NoMemory` is the other refusal. The
-/// request borrows its names from the words.
+/// The arguments are `Refused` exactly where they name none; `NoMemory` is the other refusal. The
+/// request borrows its names from them.
 #[tactic(auto, unfolding(crate::specs::Reading::request_of))]
 pub fn read_arguments<'a>(alloc: Global, words: &'a [String]) -> Result<Request<'a>, WordsFault>
     ensures request { IfOk result
@@ -49,7 +49,7 @@ pub fn read_arguments<'a>(alloc: Global, words: &'a [String]) -> Result<Request<
     named_request(alloc, &matches)
 }
 
-/// What `clap` finds in the words, where its definition of the command line accepts them.
+/// What `clap` finds in the arguments, where its definition of the command line accepts them.
 fn matches_of<'a>(alloc: Global, words: &'a [String]) -> Result<ArgMatches<'a>, WordsFault>
     ensures accepted { OnOk result (is_accepted (map string_bytes words.now) ≡ true) }
     ensures found { IfOk result (λ matches.
@@ -64,8 +64,8 @@ fn matches_of<'a>(alloc: Global, words: &'a [String]) -> Result<ArgMatches<'a>, 
     }
 }
 
-/// The fault of `clap`'s kind of error: out of memory, or words that its definition does not
-/// accept.
+/// The fault of `clap`'s kind of error: out of memory, or arguments that its definition does
+/// not accept.
 fn fault_by(kind: ErrorKind) -> WordsFault
     ensures { result ≡ WordsFault.Refused → kind ≢ ErrorKind.OutOfMemory }
 {

@@ -5,8 +5,8 @@ use crate::route_query::RouteQuery;
 use crate::serve_query::ServeQuery;
 use crate::world_range::WorldRange;
 
-/// The request of an accepted command line. Each name is a word, or the part of one after `=`, as
-/// it was given.
+/// The request of an accepted command line. Each name is an argument, or the part of one after `=`,
+/// as it was given.
 #[derive(Debug, Drop)]
 pub enum Request<'a> {
     /// `drill --script FILE --map FILE --record FILE RULES`: run the drill that the file holds,

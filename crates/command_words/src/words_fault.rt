@@ -4,11 +4,12 @@ ghost use Rattle.command_words.specs.declared.words_fault.WordsFault.TheVariants
 use std::alloc::{AllocError, AllocFailed};
 use thiserror::Error;
 
-/// Why words name no request.
+/// Why arguments name no request.
 #[derive(Clone, Copy, Debug, PartialEq, Eq, Error)]
 pub enum WordsFault {
-    /// They are no command line of this program: an unknown command, option or word, an option that
-    /// is missing, repeated or without its value, no name where one is wanted, or too many names.
+    /// They are no command line of this program: an unknown command, option or argument, an option
+    /// that is missing, repeated or without its value, no name where one is wanted, or too many
+    /// names.
     #[error("refused words")]
     Refused,
 

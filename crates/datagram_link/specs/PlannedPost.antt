@@ -11,7 +11,7 @@ pub record PlannedPost : Type 0 where
   pub failing : List ℕ
   pub faults : ℕ
 
--- It tells what it holds.
+-- What it holds is observable.
 abbrev pub post_state : PlannedPost → PostState
 post_state post = record { held = Some post.held; faults = post.faults }
 

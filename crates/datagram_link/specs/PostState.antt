@@ -12,8 +12,8 @@ pub record Held : Type 0 where
   pub waiting : List (List ℕ)
   pub sent : List (List ℕ)
 
--- What the post holds, where it tells that, and how often it has failed, up to the greatest 64-bit
--- number.
+-- What the post holds, where that is observable, and how often it has failed, up to the greatest
+-- 64-bit number.
 pub record PostState : Type 0 where
   pub held : Option Held
   pub faults : ℕ
@@ -37,7 +37,7 @@ abbrev pub first_waiting : Held → Option (List ℕ)
 first_waiting held = option_map (take RECEIVE_ROOM) (slice_get held.waiting 0)
 
 -- The bytes are what a post gave that was so before: no more than there is room for, and where the
--- post tells what it holds the first waiting datagram, or none where none waits.
+-- post is observable the first waiting datagram, or none where none waits.
 pub record IsGot (post : PostState) (got : Option (List ℕ)) : Type 0 where
   pub fits : IfSome got (λ gram. length gram ≤ RECEIVE_ROOM)
   pub first : IfSome post.held (λ held. got ≡ first_waiting held)

@@ -14,9 +14,9 @@ use std::alloc::Global;
 use std::collections::VecDeque;
 use std::marker::Model;
 
-/// A post in memory, which tells the datagrams that wait and those that were sent, and in which
-/// chosen calls fail. The calls of `send` and `receive` are numbered together, from 0. A `send` that
-/// is out of memory fails too.
+/// A post in memory. Its datagrams, those that wait and those that were sent, are observable, and
+/// chosen calls fail. The calls of `send` and `receive` are numbered together, from 0. A `send`
+/// that is out of memory fails too.
 #[derive(Drop)]
 pub struct MemPost {
     alloc: Global,

@@ -8,7 +8,7 @@ use game_io::Failed;
 pub trait Post {
     ghost use Rattle.datagram_link.specs.PostState.{PostState, Receives, Sends};
 
-    /// The datagrams that wait and those that were sent, where the post tells them, and how often
+    /// The datagrams that wait and those that were sent, where they are observable, and how often
     /// it has failed, up to the greatest `u64`.
     ghost state: { Self → PostState };
 

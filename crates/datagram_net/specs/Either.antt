@@ -1,4 +1,4 @@
--- What one of two kinds of halves is, as contracts see it: it tells no bytes.
+-- What one of two kinds of halves is, as contracts see it: it is opaque.
 use Rattle.std.specs.Prelude.{ℕ, None}
 use Rattle.game_io.specs.SourceState.{SourceState}
 use Rattle.game_io.specs.SinkState.{SinkState}

@@ -3,7 +3,7 @@
 //! [`Udp`] is a transport whose links carry their bytes in the datagrams of `datagram_link`: a
 //! socket and an `End` on each side of a link, and a thread that makes its turns, whatever the two
 //! halves do. [`ByAddress`] is a transport over two others, of which addresses choose, so that one
-//! program serves both. The links tell no bytes; what their ends guarantee over every schedule is
+//! program serves both. The links are opaque; what their ends guarantee over every schedule is
 //! proved in `datagram_schedule`.
 #![tactic(auto)]
 

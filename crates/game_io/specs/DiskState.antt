@@ -9,7 +9,7 @@ use Rattle.game_io.specs.declared.disk_error.DiskError.{DiskError}
 use Rattle.game_io.specs.declared.disk_error.DiskError.TheVariants.{Missing, Failed, TooLong}
 use Rattle.game_io.specs.declared.disk_error.DiskError.TheVariants.{NoMemory}
 
--- The files, where the disk tells them, and how often it has failed, up to the greatest 64-bit
+-- The files, where they are observable, and how often it has failed, up to the greatest 64-bit
 -- number.
 pub record DiskState : Type 0 where
   pub files : Option Files

@@ -7,8 +7,8 @@ use Rattle.game_io.specs.SourceState.{SourceState}
 use Rattle.game_io.specs.SinkState.{SinkState}
 
 -- A link as it was taken back: the bytes that its source then had left and those that were written
--- to its sink, where they tell them, and how often both have failed, up to the greatest 64-bit
--- number.
+-- to its sink, where they are observable, and how often both have failed, up to the greatest
+-- 64-bit number.
 pub record TakenBack : Type 0 where
   pub left : Option (List ℕ)
   pub written : Option (List ℕ)
@@ -22,7 +22,7 @@ taken_back input output =
       faults = min (input.faults + output.faults) (2 ^ 64 - 1);
     }
 
--- The bytes of each link that is still to come, where the net tells them; each link that was given
+-- The bytes of each link that is still to come, where they are observable; each link that was given
 -- so far, and what it was as it was taken back, if it was; and how often the net has failed, up to
 -- the greatest 64-bit number.
 pub record NetState : Type 0 where
@@ -51,7 +51,7 @@ pub record Listens {T E : Type 0} (old new : NetState) (result : Result T E) : T
   pub later : old.faults ≤ new.faults
   pub failed : OnErr result (Increased old.faults new.faults)
 
--- A link that is given now, by what the net told of those to come: no half has failed yet, and
+-- A link that is given now, by what is observable of those to come: no half has failed yet, and
 -- nothing was written.
 pub record IsNewLink
     (coming : Option (List (List ℕ))) (input : SourceState) (output : SinkState) : Type 0 where

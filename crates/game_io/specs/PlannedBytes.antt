@@ -11,7 +11,7 @@ pub record PlannedBytes : Type 0 where
   pub bytes : List ℕ
   pub plan : Plan
 
--- A sink that holds these bytes tells them all, and so does a source.
+-- A sink, and a source, that hold these bytes: all of them are observable.
 abbrev pub sink_state : PlannedBytes → SinkState
 sink_state held = record { written = Some held.bytes; faults = faults_of held.plan }
 

@@ -27,6 +27,6 @@ pub record PlannedFiles : Type 0 where
   pub list : List NamedFile
   pub plan : Plan
 
--- A disk that holds these files tells them all.
+-- A disk that holds these files: all of them are observable.
 abbrev pub disk_state : PlannedFiles → DiskState
 disk_state held = record { files = Some (files_of held.list); faults = faults_of held.plan }

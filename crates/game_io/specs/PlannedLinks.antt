@@ -45,7 +45,7 @@ halves_of link =
       output = record { bytes = []; plan = fresh link.puts };
     }
 
--- A net of these links tells them all.
+-- A net of these links: all of them are observable.
 abbrev pub net_state : PlannedLinks → NetState
 net_state held =
     record {

@@ -3,7 +3,7 @@ use Rattle.std.specs.Prelude.{ℕ, ◌≤◌, List, Option, Result, OnOk, OnErr}
 use Rattle.base.specs.Cause.{Increased}
 use Rattle.base.specs.Written.{Wrote, WrotePrefix}
 
--- The bytes that were written, where the sink tells them, and how often it has failed, up to the
+-- The bytes that were written, where they are observable, and how often it has failed, up to the
 -- greatest 64-bit number.
 pub record SinkState : Type 0 where
   pub written : Option (List ℕ)

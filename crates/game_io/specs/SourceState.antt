@@ -4,7 +4,7 @@ use Rattle.std.specs.Prelude.{IfOk, OnErr, IfSome}
 use Rattle.std.specs.Option.{option_map}
 use Rattle.base.specs.Cause.{Increased}
 
--- The bytes that are left, where the source tells them, and how often it has failed, up to the
+-- The bytes that are left, where they are observable, and how often it has failed, up to the
 -- greatest 64-bit number.
 pub record SourceState : Type 0 where
   pub left : Option (List ℕ)

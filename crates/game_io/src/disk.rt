@@ -7,7 +7,7 @@ use std::alloc::Global;
 pub trait Disk {
     ghost use Rattle.game_io.specs.DiskState.{DiskState, ReadsFile, WritesFile};
 
-    /// The files, where the disk tells them, and how often it has failed, up to the greatest `u64`.
+    /// The files, where they are observable, and how often it has failed, up to the greatest `u64`.
     ghost state: { Self → DiskState };
 
     /// The number of faults so far. It never falls.
@@ -18,8 +18,7 @@ pub trait Disk {
     ///
     /// Refusals: `Missing` exactly where there is no such file; `Failed`, only where the count of
     /// faults rose in this call; `TooLong` exactly where the file has more than `limit` bytes;
-    /// `NoMemory`. Of a disk that doesn't tell its files `Missing` and `TooLong` come only where
-    /// the count rose.
+    /// `NoMemory`. Of an opaque disk `Missing` and `TooLong` come only where the count rose.
     fn read_file(&mut self, alloc: Global, name: &str, limit: u32) -> Result<Vec<u8>, DiskError>
         ensures { ReadsFile (state self.old) (state self.new) name.now limit result };
 

@@ -9,7 +9,7 @@ use std::io::{ErrorKind, Read};
 use std::rt::Files;
 use std::{fs, io};
 
-/// The files of the system, under their paths. It tells no contents.
+/// The files of the system, under their paths. Their contents are opaque.
 ///
 /// A name that is a regular file, or none, has its old bytes or all new ones: these are written beside
 /// it and take its place. Other names, as that of a device, are written in place.

@@ -1,12 +1,12 @@
 //! The outside as the core sees it: where bytes come from, where they go, files, and links.
 //!
-//! Each of `Source`, `Sink`, `Disk` and `Net` has a count of faults that never falls, and may tell
-//! its contents. A call fails only where the count rose in it, and what an object tells changes only
-//! as the call says. The memory forms tell all that they hold and fail at the calls that they were
-//! told to; the adapters over std's writers and files tell nothing. A real net is one over a
-//! `Transport`, which makes the links, such as TCP. A `Gate` holds the threads of a match where a test
-//! wants them held, and lends the `Watch` to which a match over links tells what happens. It stands on
-//! `base`.
+//! Each of `Source`, `Sink`, `Disk` and `Net` has a count of faults that never falls. Its contents
+//! are observable, so that contracts can speak of them, or opaque. A call fails only where the
+//! count rose in it, and what is observable changes only as the call says. The memory forms are
+//! observable and fail at the calls that they were told to; the adapters over std's writers and
+//! files are opaque. A real net is one over a `Transport`, which makes the links, such as TCP. A
+//! `Gate` holds the threads of a match where a test wants them held, and lends the `Watch` to which
+//! a match over links tells what happens. It stands on `base`.
 #![tactic(auto)]
 
 mod coming_link;

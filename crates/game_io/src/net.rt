@@ -25,9 +25,9 @@ pub trait Net {
     /// What a link sends.
     type Out: Sink + Send + Drop;
 
-    /// The bytes of the links that are still to come, where the net tells them; the links that were
-    /// given, and what each was as it was taken back; and how often the net has failed, up to the
-    /// greatest `u64`.
+    /// The bytes of the links that are still to come, where they are observable; the links that
+    /// were given, and what each was as it was taken back; and how often the net has failed, up to
+    /// the greatest `u64`.
     ghost state: { Self → NetState };
 
     /// The number of faults of the net itself so far. It never falls.
@@ -43,10 +43,10 @@ pub trait Net {
     fn listen(&mut self, at: &str) -> Result<(), Failed>
         ensures { Listens (state self.old) (state self.new) result };
 
-    /// The next link that another side opens, after fewer than [`MAX_LINKS`] so far. Neither half has
-    /// failed yet, and nothing was sent. A net that tells its links gives the first of those to
-    /// come, and after the last one a link without bytes. `Failed` only where the count of faults
-    /// rose in this call; then no link was given.
+    /// The next link that another side opens, after fewer than [`MAX_LINKS`] so far. Neither half
+    /// has failed yet, and nothing was sent. Of observable links the net gives the first of those
+    /// to come, and after the last one a link without bytes. `Failed` only where the count of
+    /// faults rose in this call; then no link was given.
     fn accept(&mut self) -> Result<(Self::In, Self::Out), Failed>
         requires { length (state self.old).given < MAX_LINKS }
         ensures { GivesLink Self.In.state Self.Out.state (state self.old) (state self.new) result };

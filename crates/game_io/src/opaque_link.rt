@@ -3,7 +3,7 @@ ghost use Rattle.game_io.specs.NetState.{TakenBack};
 
 use std::marker::Model;
 
-/// How often the halves of a link that tells no bytes had failed together as it was taken back.
+/// How often the halves of an opaque link had failed together as it was taken back.
 #[derive(Drop)]
 pub struct OpaqueLink {
     pub(crate) faults: u64,

@@ -6,7 +6,7 @@ use crate::failed::Failed;
 pub trait Sink {
     ghost use Rattle.game_io.specs.SinkState.{SinkState, WritesBytes};
 
-    /// The bytes that were written, where the sink tells them, and how often it has failed, up to
+    /// The bytes that were written, where they are observable, and how often it has failed, up to
     /// the greatest `u64`.
     ghost state: { Self → SinkState };
 

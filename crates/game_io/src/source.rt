@@ -6,7 +6,7 @@ use crate::failed::Failed;
 pub trait Source {
     ghost use Rattle.game_io.specs.SourceState.{SourceState, TakesBytes};
 
-    /// The bytes that are left, where the source tells them, and how often it has failed, up to
+    /// The bytes that are left, where they are observable, and how often it has failed, up to
     /// the greatest `u64`.
     ghost state: { Self → SourceState };
 

@@ -7,7 +7,7 @@ use std::io;
 use std::io::Write;
 
 /// A sink over any writer of std. Each `put` writes its whole piece and flushes, so nothing that
-/// was answered `Ok` waits in a buffer. It tells no bytes.
+/// was answered `Ok` waits in a buffer. Its bytes are opaque.
 #[derive(Drop)]
 pub struct StdSink<W: Write + Drop> {
     writer: W,

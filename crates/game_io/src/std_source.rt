@@ -10,7 +10,7 @@ use std::io::{ErrorKind, Read};
 /// How often a read is made at most: more often than any process is stopped.
 const MAX_READS: u64 = 1 << 40;
 
-/// A source over any reader of std, such as a socket or the console. It tells no bytes.
+/// A source over any reader of std, such as a socket or the console. Its bytes are opaque.
 #[derive(Drop)]
 pub struct StdSource<R: Read + Drop> {
     reader: R,

@@ -3,7 +3,7 @@ ghost use Rattle.std.specs.Prelude.{None};
 use crate::failed::Failed;
 use crate::sink::Sink;
 
-/// A sink that never fails: its count of faults is always 0. It keeps no bytes, and tells none.
+/// A sink that never fails: its count of faults is always 0. It keeps no bytes: it is opaque.
 #[derive(Drop)]
 pub struct SureSink;
 

@@ -6,7 +6,7 @@ use std::io;
 use std::net::SocketAddr;
 
 /// How real links are made and ended, such as TCP: the raw calls of a [`TransportNet`], which
-/// numbers the links and counts the faults. The links tell no bytes.
+/// numbers the links and counts the faults. The links are opaque.
 ///
 /// [`TransportNet`]: crate::TransportNet
 pub trait Transport {

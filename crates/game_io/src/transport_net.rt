@@ -14,7 +14,7 @@ use base::FaultCount;
 use std::io;
 use std::net::SocketAddr;
 
-/// The links of a transport. It tells no bytes.
+/// The links of a transport, which are opaque.
 #[derive(Drop)]
 pub struct TransportNet<T: Transport + Drop> {
     transport: T,

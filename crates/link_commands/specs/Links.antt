@@ -1,4 +1,4 @@
--- A run of a command over links: its files decide first, and then what the links tell.
+-- A run of a command over links: its files decide first, and then what comes over the links.
 use Rattle.std.specs.Prelude.{◌≡◌, ◌≢◌, ℕ, ◌⊎◌, Option, None, Result, Ok, Err, IsOk, IfSome, IfNone}
 use Rattle.base.specs.Cause.{Increased}
 use Rattle.base.specs.Steps.{◌>>=◌}
@@ -56,7 +56,7 @@ Begins (Ok value) Goes status old new = Goes value
 Begins (Err reply) Goes status old new =
     MayPrintReply reply status old.sink new.sink × IsApart old new
 
--- Over a disk that tells its files they decide, by what the command makes of their contents. Else a
+-- Over an observable disk its files decide, by what the command makes of their contents. Else a
 -- read failed, which it can where the first file is there.
 abbrev pub IsObservableStart :
     {T : Type 0} → WantedFiles → (Contents → Step T) → (T → Type 0) → Files → ℕ →
@@ -69,7 +69,7 @@ IsObservableStart wants start Goes files status old new =
     × PrintsReply read_fault status old.sink new.sink
     × IsApart old new))
 
--- Over a disk that tells nothing the contents that it gave decide. Else its count of faults rose,
+-- Over an opaque disk the contents that it gave decide. Else its count of faults rose,
 -- and a file is missing, too long, or could not be read.
 abbrev pub IsOpaqueStart :
     {T : Type 0} → WantedFiles → (Contents → Step T) → (T → Type 0) → ℕ →

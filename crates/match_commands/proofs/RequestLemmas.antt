@@ -101,7 +101,7 @@ request_given request contents status d d' s s' later later' observable opaque p
       subst (λ step. IsAnswered (replied (step >>= answer_of request)) status (causes_of (written_by request) (environment d s) (environment d' s')) (environment d s) (environment d' s'))
       (sym read) printed.answered
 
--- The count of faults rose, whether the disk tells its files or not.
+-- The count of faults rose, whether the disk is observable or opaque.
 rose_of : {R : Type 0} (o : Option Files) (There : Files → Type 0) → IfSome o (λ files. There files × R) → IfNone o R → R
 rose_of None There observable opaque = opaque
 rose_of (Some files) There observable opaque = observable.1

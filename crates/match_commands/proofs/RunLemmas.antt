@@ -200,7 +200,7 @@ opaque_sound number status causes old new (inr (inl (rose, inl unread))) = absur
 opaque_sound number status causes old new (inr (inl (rose, inr fault))) = read_sound status causes old new fault
 opaque_sound number status causes old new (inr (inr memory)) = λ refused. absurd (omega (arith, memory.0, refused))
 
--- A disk tells its files, or it tells nothing.
+-- A disk is observable, or it is opaque.
 by_disk :
     (files : Option Files) (P : Files → Type 0) (Q R : Type 0) →
     ((files : Files) → P files → R) → (Q → R) → IfSome files P → IfNone files Q → R

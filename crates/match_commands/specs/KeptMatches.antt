@@ -34,7 +34,7 @@ KeepsWorld query frames contents write =
     (made : Setup × ℕ) → numbered_setup_step query.rules query.map_file contents ≡ Ok made →
     Continues made.1 made.0 frames (unwrap_or contents.replay []) write
 
--- So it is of the file in the reply to a request, over a disk that tells its files.
+-- So it is of the file in the reply to a request, over an observable disk.
 abbrev pub IsOfWritten :
     (Contents → Option FileWrite → Type 0) → RequestPlain → Option Files → Type 0
 IsOfWritten Keeps request observable =

@@ -22,8 +22,8 @@ RefusesWords status causes old new =
     IsPrinted words_reply status causes old new
     ⊎ ((status ≡ OUT_OF_MEMORY) × IsUnchanged old new)
 
--- Over a disk that tells its files, the words and the files decide. Else a read failed, which it
--- can where the first file is there.
+-- Over an observable disk the arguments and the files decide. Else a read failed, which it can
+-- where the first file is there.
 abbrev pub IsObservableAnswer : RequestPlain → Files → ℕ → Causes → (old new : Environment) → Type 0
 IsObservableAnswer request files status causes old new =
     IsAnswered (reply_to request files) status causes old new
@@ -31,7 +31,7 @@ IsObservableAnswer request files status causes old new =
     × causes.read
     × IsPrinted read_fault status causes old new)
 
--- Over a disk that tells nothing, the contents that it gave decide. Else its count of faults rose,
+-- Over an opaque disk the contents that it gave decide. Else its count of faults rose,
 -- and a file is missing, too long, or could not be read; or memory ran out before anything was
 -- printed.
 abbrev pub IsOpaqueAnswer : RequestPlain → ℕ → Causes → (old new : Environment) → Type 0
@@ -72,14 +72,14 @@ pub record RunsRequest
   pub files : OnlyChanges (written_by request) old.disk.files new.disk.files
   pub later : IsLater old new
 
--- A run of the program, for the request that its words name, if they name one.
+-- A run of the program, for the request that its arguments name, if they name one.
 pub record ProgramRun
     (request : Option RequestPlain) (status : ℕ) (causes : Causes) (old new : Environment)
     : Type 0 where
-  -- Status 2: exactly where the words name no request.
+  -- Status 2: exactly where the arguments name no request.
   pub refused : IfNone request (RefusesWords status causes old new)
   pub only_refused : status ≡ REFUSED_WORDS → request ≡ None
-  -- Every status, over a observable disk: as the words and the files say.
+  -- Every status, over an observable disk: as the arguments and the files say.
   pub observable :
       IfSome request (λ request.
       IfSome old.disk.files (λ files. IsObservableAnswer request files status causes old new))
@@ -98,6 +98,6 @@ pub record ProgramRun
   -- Status 4 and 5: only where a count of faults rose.
   pub read : status ≡ FAULT_READ → causes.read ⊎ causes.net
   pub write : status ≡ FAULT_WRITE → causes.sink ⊎ causes.write
-  -- No file changed but the one that the words name to be written.
+  -- No file changed but the one that the arguments name to be written.
   pub files : OnlyChanges (option_and_then written_by request) old.disk.files new.disk.files
   pub later : IsLater old new

@@ -1,4 +1,4 @@
--- Which of the two top calls runs a command. Each refuses the other's commands as words.
+-- Which of the two top calls runs a command. Each refuses the other's commands like unknown ones.
 use Rattle.std.specs.Prelude.{◌||◌, Bool, false, List, ℕ, Option, None, Some, option_and_then, codes}
 use Rattle.std.specs.Str.{bytes_eq}
 use Rattle.command_words.specs.RequestPlain.{RequestPlain, Local, Serve, Play, PlayBot}

@@ -30,12 +30,13 @@ use game_io::{Disk, Sink};
 use rule_commands::{check_text, route_text, yaml_text};
 use std::alloc::Global;
 
-/// Runs the command that the words name, where it is one that always returns; the first word is the
-/// program's name. All other commands are those of [`run_waiting`](crate::run_waiting), and are
-/// refused here as words. It changes no file that the words don't name to be written, and returns:
+/// Runs the command that the arguments name, where it is one that always returns; the first of them
+/// is the program's name. All other commands are those of [`run_waiting`](crate::run_waiting), and
+/// are refused here like unknown ones. It changes no file that the arguments don't name to be
+/// written, and returns:
 ///
 /// - 0, the command is done, and exactly its text was written;
-/// - 2, the words are refused;
+/// - 2, the arguments are refused;
 /// - 3, a file that they name is missing, too long, or has a fault, or there is a `RouteFault`; or
 ///   the replay has fewer frames than `save` or `worlds` asks for, or than the save of `continue`,
 ///   or is one of another match than that save, or has no such client as `view` asks for; never of
@@ -67,7 +68,8 @@ pub fn run<D: Disk, K: Sink>(alloc: Global, words: &[String], disk: &mut D, out:
     }
 }
 
-/// Runs the command of a request, where it always returns, and refuses every other one as words.
+/// Runs the command of a request, where it always returns, and refuses every other one like
+/// an unknown one.
 fn run_request<D: Disk, K: Sink>(
     alloc: Global,
     request: &Request<'_>,

@@ -57,15 +57,15 @@ fn is_waiting(command: &str) -> bool
     command == "local" || (command == "serve" || command == "play")
 }
 
-/// Runs the command that the words name, where it is one that may wait for threads or links; the
-/// first word is the program's name. All other commands are those of [`run`](crate::run), and are
-/// refused here as words. It changes no file but the one that `serve --record` names. A local match
-/// uses neither the net, which has given no
-/// link yet, nor the console. A player uses the net's first link; a server uses as many as it has
-/// clients, and the console. They hand the links back. Where it returns, it returns:
+/// Runs the command that the arguments name, where it is one that may wait for threads or links;
+/// the first of them is the program's name. All other commands are those of [`run`](crate::run),
+/// and are refused here like unknown ones. It changes no file but the one that `serve --record`
+/// names. A local match uses neither the net, which has given no link yet, nor the console. A
+/// player uses the net's first link; a server uses as many as it has clients, and the console. They
+/// hand the links back. Where it returns, it returns:
 ///
 /// - 0, the command is done, and exactly its text was written;
-/// - 2, the words are refused;
+/// - 2, the arguments are refused;
 /// - 3, a file that they name is missing, too long, or has a fault; or a script's clients and the
 ///   bots beside them are more than `MAX_CLIENTS`; or the server or the bytes of the link refused a
 ///   player, whose text was written;
@@ -109,8 +109,8 @@ pub fn run_waiting<
     }
 }
 
-/// Runs the command of a request, where it is one that may wait, and refuses every other one as
-/// words.
+/// Runs the command of a request, where it is one that may wait, and refuses every other one like
+/// an unknown one.
 fn run_request<
     D: Disk,
     K: Sink,

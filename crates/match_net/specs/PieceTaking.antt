@@ -9,7 +9,7 @@ use Rattle.match_net.specs.declared.piece.Piece.{Piece}
 use Rattle.match_net.specs.declared.piece.Piece.TheVariants as piece
 
 -- What a link had left is the bytes that were taken from it and then what it has left now, where it
--- tells its bytes. A link that told them tells them afterwards, and one that did not does not.
+-- is observable. An observable link stays observable, and an opaque one opaque.
 abbrev pub Took : Option (List ℕ) → Option (List ℕ) → List ℕ → Type 0
 Took old new taken = old ≡ option_map (λ left. taken ++ left) new
 
@@ -17,7 +17,7 @@ Took old new taken = old ≡ option_map (λ left. taken ++ left) new
 abbrev pub Counts : ℕ → ℕ → List ℕ → Type 0
 Counts old new taken = new ≡ old + length taken
 
--- A link that tells its bytes has none left.
+-- A link whose bytes are observable has none left.
 abbrev pub NoneLeft : Option (List ℕ) → Type 0
 NoneLeft left = IfSome left (λ bytes. bytes ≡ [])
 

@@ -22,7 +22,7 @@ const LONGEST_PACKET: usize = 258;
 ///
 /// `Welcome` and `Refuse` exactly as a whole first packet says: a greeting of another version, one
 /// with other rules, no greeting. `Fault` exactly where that fault stands in its place. `Ended`
-/// exactly where the bytes end before it is whole; a link that tells its bytes then has none left.
+/// exactly where the bytes end before it is whole; an observable link then has none left.
 /// `Lost` only where the link's count of faults rose in this call. Out of memory is its one error;
 /// then what was taken last is lost.
 pub fn greet<I: Source>(

@@ -38,7 +38,7 @@ use std::sync::Wait;
 ///    [`crate::MAX_LINK_BYTES`] bytes hold no earlier end.
 /// 2. `LeftAt`: the client had left before, which this call did not do, and orders for that frame
 ///    or a later one came, or the farewell, or the end of the bytes.
-/// 3. `Ended`: the farewell came, or the bytes end; a link that tells its bytes then has none left.
+/// 3. `Ended`: the farewell came, or the bytes end; an observable link then has none left.
 ///
 /// `Lost` only where the link's count of faults rose in this call, or after the greeting `Lost`.
 /// `NoMemory` may take the place of any of them. It returns only if it gets the column's lock.

@@ -95,7 +95,7 @@ module _ (clients : ℕ) (table : FrameTable) (ticked joined handed gone : Pass)
       reach (inl none) = inl none
       reach (inr (c, below, has)) = inr (c, below, subst (λ (k : Column). n ≤ length_of k) (sym (column_known (view_of gone) c ∙ gone_known c below)) has)
 
--- What was taken of told bytes are their first ones.
+-- What was taken of observable bytes are their first ones.
 first_ones : (old new : Option (List ℕ)) (bytes : List ℕ) (count : ℕ) → Took old new bytes → count ≡ length bytes → IfSome old (λ told. bytes ≡ take count told)
 first_ones None new bytes count took counted = tt
 first_ones (Some told) None bytes count took counted = absurd cc

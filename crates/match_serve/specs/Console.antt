@@ -42,7 +42,7 @@ abbrev pub HaveEnded : List (List ℕ) → Type 0
 HaveEnded lines = 1 < length lines
 
 -- The bytes that were taken from the console, and their lines in two parts. It failed, or a line of
--- the second part has ended, or a console that tells its bytes has none left.
+-- the second part has ended, or a console whose bytes are observable has none left.
 pub record ConsoleRead (old new : SourceState) : Type 0 where
   pub bytes : List ℕ
   pub before : List (List ℕ)

@@ -76,9 +76,9 @@ EndTells c here bytes session rest old new kicked faults end.Lost =
 EndTells c here bytes session rest old new kicked faults end.Memory = Unit {0}
 
 -- How link c was served. Its halves were in these states when the net gave it and when the net took
--- it back. These bytes were taken from it, as many as the count says: where the net told the link's
--- bytes, that many first ones of them. Their first packets make this session, and this is left of
--- them. The session's plays and then the departure are the client's column; of its reports the
+-- it back. These bytes were taken from it, as many as the count says: where the link's bytes are
+-- observable, that many first ones of them. Their first packets make this session, and this is left
+-- of them. The session's plays and then the departure are the client's column; of its reports the
 -- board has the first for each frame. Written to it was what its greeting is answered, and all of
 -- that where the link has not failed and memory did not run out for it.
 pub record ServesLink (c : ℕ) (invite : Invite) (columns : List Column)
@@ -109,11 +109,11 @@ pub record ServesLink (c : ℕ) (invite : Invite) (columns : List Column)
       SendsAllBy (greeting_in invite.rules bytes) (invite_of invite c) columns output.written
       output_after.written
 
--- A match was served. The world is the agreed world of all frames, as many as the longest column has
--- plays, and the board's wanted hashes are those of the agreed worlds after each. `coming` is what the
--- net told of the links to come. Of the console's bytes those that were taken are known, and their
--- lines in two parts, of which the second lets no client go: where the end is that of a client whom
--- the console kicked, a line of the first part kicks it, or its link had failed.
+-- A match was served. The world is the agreed world of all frames, as many as the longest column
+-- has plays, and the board's wanted hashes are those of the agreed worlds after each. `coming` is
+-- what is observable of the links to come. Of the console's bytes those that were taken are known,
+-- and their lines in two parts, of which the second lets no client go: where the end is that of a
+-- client whom the console kicked, a line of the first part kicks it, or its link had failed.
 pub record ServesMatch {W : Type 0} (of_match : Match W) (invite : Invite)
     (coming : Option (List (List ℕ))) (console_old console_new : SourceState)
     (net_after : NetState) (world : W) (steps : ℕ) (table : FrameTable) (pass : Pass)

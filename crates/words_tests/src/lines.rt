@@ -1,6 +1,6 @@
 //! Tables of command lines.
 
-/// Command lines, the words of which `|` separates, each with the request that it names or with
+/// Command lines, the arguments of which `|` separates, each with the request that it names or with
 /// `refused`. A line that begins with `#` says what the next ones show.
 pub(crate) const LINES: &str = "\
 ## Words that name no command, or help or a version.

@@ -235,7 +235,7 @@ fn put_request(text: &mut String, request: &Request<'_>) -> Result<(), NoMemory>
     }
 }
 
-/// The request that a list of words names, of which the first is the program's name.
+/// The request that a list of arguments names, of which the first is the program's name.
 fn request_text(alloc: Global, words: &[String]) -> Result<String, NoMemory> {
     let mut text = String::new(alloc);
     match read_arguments(alloc, words) {
@@ -269,7 +269,7 @@ fn lines_name_their_requests(rt: HostRuntime) -> Result<(), Fail> {
     Ok(())
 }
 
-/// What a list of words says of the log, the clocks and the ports.
+/// What a list of arguments says of the log, the clocks and the ports.
 fn options_text(alloc: Global, words: &[String]) -> Result<String, NoMemory> {
     let mut text = String::new(alloc);
     put_host(&mut text, &host_options(alloc, words)?)?;
