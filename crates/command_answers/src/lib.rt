@@ -19,7 +19,7 @@ mod writing;
 
 pub use answer::{Answer, FileBytes};
 pub use files::{
-    GivenFiles, MAX_REPLAY_BYTES, MAX_RULE_BYTES, MAX_SAVE_BYTES, InputFile, read_files, read_one,
+    GivenFiles, InputFile, MAX_REPLAY_BYTES, MAX_RULE_BYTES, MAX_SAVE_BYTES, read_files, read_one,
     read_played_files, read_rules,
 };
 pub use paired::{

@@ -14,7 +14,7 @@ ghost use Rattle.command_answers.specs.declared.files.TheConstants.{MAX_SAVE_BYT
 ghost use Rattle.command_answers.specs.declared.files.TheConstants.{MAX_REPLAY_BYTES};
 
 use crate::files::{
-    GivenFiles, MAX_REPLAY_BYTES, MAX_SAVE_BYTES, InputFile, read_played, read_played_files,
+    GivenFiles, InputFile, MAX_REPLAY_BYTES, MAX_SAVE_BYTES, read_played, read_played_files,
     read_wanted,
 };
 use crate::stop::Stop;

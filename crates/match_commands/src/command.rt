@@ -20,7 +20,7 @@ use crate::reporting::print_report;
 use crate::saving::{run_continue, run_save};
 use crate::viewing::{run_view, run_worlds_query};
 use command_answers::{
-    OUT_OF_MEMORY, InputFile, print_stop, print_text, read_files, read_played_files, read_rules,
+    InputFile, OUT_OF_MEMORY, print_stop, print_text, read_files, read_played_files, read_rules,
     refuse_words,
 };
 use command_words::{

@@ -11,7 +11,7 @@ ghost use Rattle.match_commands.specs.Run.{RunsRequest};
 ghost use Rattle.match_commands.specs.Saves.{continued_step, saved_step};
 
 use command_answers::{
-    Answer, GivenFiles, PairedFiles, InputFile, Stop, print_answer, print_stop, read_paired_files,
+    Answer, GivenFiles, InputFile, PairedFiles, Stop, print_answer, print_stop, read_paired_files,
     read_played_files,
 };
 use command_words::{MAX_FILES, MatchQuery};

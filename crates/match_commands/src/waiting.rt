@@ -17,7 +17,7 @@ ghost use Rattle.match_commands.specs.Waiting.{RunsWaiting};
 use crate::hosting::run_serve;
 use crate::linking::{run_bot, run_play};
 use command_answers::{
-    GivenFiles, OUT_OF_MEMORY, InputFile, Stop, print_stop, print_text, read_played_files,
+    GivenFiles, InputFile, OUT_OF_MEMORY, Stop, print_stop, print_text, read_played_files,
     refuse_words,
 };
 use command_words::{MAX_BOTS, MAX_FILES, MatchQuery, Request, WordsFault, read_arguments};
