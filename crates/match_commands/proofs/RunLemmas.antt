@@ -41,7 +41,7 @@ use Rattle.command_answers.specs.Outcome.{IsPrinted, IsAnswered}
 use Rattle.command_answers.specs.Causes.{Causes, causes_of, IsQuiet}
 use Rattle.command_answers.specs.Environment.{Environment}
 use Rattle.match_commands.specs.Request.{IsFaultless, written_by, wanted, answer_of, given_reply, text_reply}
-use Rattle.match_commands.specs.Run.{ProgramRun, RunsRequest, IsDone, IsSound, IsObservableAnswer, IsOpaqueAnswer}
+use Rattle.match_commands.specs.Run.{ProgramRun, RunsRequest, IsAnswerStatus, IsSound, IsObservableAnswer, IsOpaqueAnswer}
 use Rattle.command_answers.specs.OptionLemmas.{map_some}
 
 -- A command that prints a text and has it is done.
@@ -108,7 +108,7 @@ compare_done first second rules setup others bytes = go (begins_save bytes)
         (λ s ok. compared_done (replay_differences r s))) ok
 
 given_done :
-    (request : RequestPlain) (contents : Contents) → IsOk (answer_of request contents) → IsDone request (given_reply request contents).status
+    (request : RequestPlain) (contents : Contents) → IsOk (answer_of request contents) → IsAnswerStatus request (given_reply request contents).status
 given_done (Drill query record_file) contents ok = drill_done query record_file contents ok
 given_done (Yaml names) contents ok = text_done (yaml_step names contents.rules) ok
 given_done (Check map_file names) contents ok = text_done (check_step names map_file contents) ok
@@ -149,7 +149,7 @@ given_done (Compare query second) contents ok =
 given_done (Datagrams script) contents ok = datagrams_done script (unwrap_or contents.script []) ok
 
 read_done :
-    (request : RequestPlain) (step : Step Contents) → IsOk (step >>= answer_of request) → IsDone request (replied (step >>= answer_of request)).status
+    (request : RequestPlain) (step : Step Contents) → IsOk (step >>= answer_of request) → IsAnswerStatus request (replied (step >>= answer_of request)).status
 read_done request (Ok contents) ok = given_done request contents ok
 read_done request (Err reply) ok = absurd cc
 
@@ -157,9 +157,9 @@ read_done request (Err reply) ok = absurd cc
 complete_of :
     (request : RequestPlain) (files : Files) (status : ℕ) (causes : Causes) (old new : Environment) →
     IsQuiet causes → IsObservableAnswer request files status causes old new → IsFaultless request files →
-    IsDone request status ⊎ (status ≡ OUT_OF_MEMORY)
+    IsAnswerStatus request status ⊎ (status ≡ OUT_OF_MEMORY)
 complete_of request files status causes old new quiet (inl (inl (inl complete))) faultless =
-    inl (subst (IsDone request) (sym complete.0) (read_done request (contents_of (wanted request) files) faultless))
+    inl (subst (IsAnswerStatus request) (sym complete.0) (read_done request (contents_of (wanted request) files) faultless))
 complete_of request files status causes old new quiet (inl (inl (inr (inl cut)))) faultless = absurd (quiet.sink cut.1)
 complete_of request files status causes old new quiet (inl (inl (inr (inr cut)))) faultless = absurd (quiet.write cut.1)
 complete_of request files status causes old new quiet (inl (inr memory)) faultless = inr memory.0

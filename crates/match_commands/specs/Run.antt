@@ -48,12 +48,12 @@ IsOpaqueAnswer request status causes old new =
 -- The status where nothing fails, the files are without a fault and nothing is refused. Which of
 -- two a command answers, the reply tells: on a replay 7 exactly where a mark that it compares
 -- differs, of `compare` exactly where there is a difference.
-abbrev pub IsDone : RequestPlain → ℕ → Type 0
-IsDone (Replay query) status = (status ≡ DONE) ⊎ (status ≡ MARK_DIFFERS)
-IsDone (Migrate query to) status = (status ≡ DONE) ⊎ (status ≡ MARK_DIFFERS)
-IsDone (Continue query save) status = (status ≡ DONE) ⊎ (status ≡ MARK_DIFFERS)
-IsDone (Compare query second) status = (status ≡ DONE) ⊎ (status ≡ MARK_DIFFERS)
-IsDone request status = status ≡ DONE
+abbrev pub IsAnswerStatus : RequestPlain → ℕ → Type 0
+IsAnswerStatus (Replay query) status = (status ≡ DONE) ⊎ (status ≡ MARK_DIFFERS)
+IsAnswerStatus (Migrate query to) status = (status ≡ DONE) ⊎ (status ≡ MARK_DIFFERS)
+IsAnswerStatus (Continue query save) status = (status ≡ DONE) ⊎ (status ≡ MARK_DIFFERS)
+IsAnswerStatus (Compare query second) status = (status ≡ DONE) ⊎ (status ≡ MARK_DIFFERS)
+IsAnswerStatus request status = status ≡ DONE
 
 -- `make` is not refused for a fault: it reads no files, and those that are built in have none.
 abbrev pub IsSound : RequestPlain → ℕ → Type 0
@@ -92,7 +92,7 @@ pub record ProgramRun
       IsQuiet causes →
       IfSome request (λ request.
       IfSome old.disk.files
-      (λ files. IsFaultless request files → IsDone request status ⊎ (status ≡ OUT_OF_MEMORY)))
+      (λ files. IsFaultless request files → IsAnswerStatus request status ⊎ (status ≡ OUT_OF_MEMORY)))
   -- Status 3: never of `make`.
   pub sound : IfSome request (λ request. IsSound request status)
   -- Status 4 and 5: only where a count of faults rose.

@@ -16,7 +16,7 @@ use crate::making::make_text;
 use crate::preparing::{prepare_drill, prepare_recorded};
 use crate::recording::record_drill;
 use crate::replaying::{run_migrate, run_replay};
-use crate::reporting::print_report;
+use crate::reporting::report_drill;
 use crate::saving::{run_continue, run_save};
 use crate::viewing::{run_view, run_worlds_query};
 use command_answers::{
@@ -145,7 +145,7 @@ fn run_script<D: Disk, K: Sink>(
         query.map_file,
         InputFile::Script(query.file),
     ) {
-        Ok(given) => print_report(alloc, prepare_drill(alloc, query, &given), out),
+        Ok(given) => report_drill(alloc, prepare_drill(alloc, query, &given), out),
         Err(stop) => print_stop(alloc, stop, out),
     }
 }

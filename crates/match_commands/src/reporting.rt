@@ -25,7 +25,7 @@ fn run_report<K: Sink>(alloc: Global, maker: &GameMaker, drill: &Drill, out: &mu
 }
 
 /// Runs a drill and prints its report, or why the command ended before it.
-pub(crate) fn print_report<K: Sink>(
+pub(crate) fn report_drill<K: Sink>(
     alloc: Global,
     made: Result<(GameMaker, Drill), Stop<'_>>,
     out: &mut K,

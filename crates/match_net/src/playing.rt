@@ -95,7 +95,7 @@ fn act_on<S: Sim, P: OrderSource<S>, O: Sink>(
 }
 
 /// Plays on with the next packet, and answers how the match ends with that, if it does.
-fn turn<S: Sim, P: OrderSource<S>, I: Source, O: Sink>(
+fn play_once<S: Sim, P: OrderSource<S>, I: Source, O: Sink>(
     player: &mut Player<S>,
     plays: &P,
     feeder: &mut DownFeeder,
@@ -151,7 +151,7 @@ fn play_rest<S: Sim, P: OrderSource<S>, I: Source, O: Sink>(
         (player_at player.new.peer player.new.sealed player.new.quiet) result }
 {
     'turns: loop {
-        match turn(player, plays, feeder, input, bytes, output) {
+        match play_once(player, plays, feeder, input, bytes, output) {
             Ok(None) => {}
             Ok(Some(end)) => return Ok(end),
             Err(error) => return Err(error),

@@ -25,7 +25,7 @@ use Rattle.match_net.specs.Sessions.{ReadsLink, SessionEnds}
 use Rattle.match_serve.specs.declared.link_end.LinkEnd.{LinkEnd}
 use Rattle.match_serve.specs.declared.link_end.LinkEnd.TheVariants as end
 use Rattle.match_serve.specs.Passes.{IsServePass, columns_of}
-use Rattle.match_serve.specs.Seats.{PieceState, SendsSo, IsDone, AreDone, shares_of, made_by, made_in, invite_of}
+use Rattle.match_serve.specs.Seats.{PieceState, SendsSo, IsServedLink, AreServedLinks, shares_of, made_by, made_in, invite_of}
 use Rattle.match_serve.specs.Serve.{EndTells}
 use Rattle.match_serve.specs.Closed.{Closes, LinkClosed, link_end_of, reader_end_of}
 use Rattle.match_serve.proofs.PassLemmas.{column_known, length_known}
@@ -104,7 +104,7 @@ failed_if_kicked reader.Lost sender.Sent kicked fixed faults at lost none some i
 failed_if_kicked reader.NoMemory sender.Sent kicked fixed faults at lost none some is = absurd cc
 
 -- What the passes of a link fixed.
-module _ (clients : ℕ) (table : FrameTable) (invite : Invite) (receiver : ReportReceiver) (coming : Option (List (List ℕ))) (c : ℕ) (piece : PieceState) (done : IsDone clients table invite receiver coming c piece) where
+module _ (clients : ℕ) (table : FrameTable) (invite : Invite) (receiver : ReportReceiver) (coming : Option (List (List ℕ))) (c : ℕ) (piece : PieceState) (done : IsServedLink clients table invite receiver coming c piece) where
   is_own : done.before.seat.invite.client ≡ c
   is_own = ap (λ (i : Invite). i.client) done.is_new.told
 
@@ -125,7 +125,7 @@ module _ (clients : ℕ) (table : FrameTable) (invite : Invite) (receiver : Repo
       let sent : (standing piece.seat.sending me).made ≡ 0 = so_made _ _ _ _ _ _ _ sends me ∙ done.is_new.seat.sender_fixed_none me in
       subst (λ k. made_by piece.seat k ≡ 0) is_own (omega arith)
 
-made_before : (clients : ℕ) (table : FrameTable) (invite : Invite) (receiver : ReportReceiver) (coming : Option (List (List ℕ))) (c : ℕ) (pieces : List PieceState) → AreDone clients table invite receiver coming c pieces → (d : ℕ) → d < c → made_in pieces d ≡ 0
+made_before : (clients : ℕ) (table : FrameTable) (invite : Invite) (receiver : ReportReceiver) (coming : Option (List (List ℕ))) (c : ℕ) (pieces : List PieceState) → AreServedLinks clients table invite receiver coming c pieces → (d : ℕ) → d < c → made_in pieces d ≡ 0
 made_before clients table invite receiver coming c [] are d below = refl
 made_before clients table invite receiver coming c (piece ∷ pieces) are d below =
     let here = made_no_other clients table invite receiver coming c piece are.0 d (λ same. absurd (omega arith)) in
@@ -140,9 +140,9 @@ pub record HandedSoFar (table : FrameTable) (invite : Invite) (all left : List P
   pub closed : (d : ℕ) → d < invite.clients → (standing start d).known.left ≡ true
   pub shares : (view_of pass).share + shares_of left ≡ (view_of start).share + shares_of all
   pub made : (d : ℕ) → d < invite.clients → (standing pass d).made + made_in left d ≡ (standing start d).made + made_in all d
-  pub alone : (coming : Option (List (List ℕ))) → AreDone invite.clients table invite first coming 0 all → (d : ℕ) → c ≤ d → made_in all d ≡ made_in left d
-  pub some : (coming : Option (List (List ℕ))) × AreDone invite.clients table invite first coming c left
-  pub done : (coming : Option (List (List ℕ))) → AreDone invite.clients table invite first coming 0 all → AreDone invite.clients table invite first coming c left
+  pub alone : (coming : Option (List (List ℕ))) → AreServedLinks invite.clients table invite first coming 0 all → (d : ℕ) → c ≤ d → made_in all d ≡ made_in left d
+  pub some : (coming : Option (List (List ℕ))) × AreServedLinks invite.clients table invite first coming c left
+  pub done : (coming : Option (List (List ℕ))) → AreServedLinks invite.clients table invite first coming 0 all → AreServedLinks invite.clients table invite first coming c left
   pub few : c + length left ≡ invite.clients
   pub count : length (joined receiver) ≡ c
   pub heard_same : heard receiver ≡ heard first
@@ -151,11 +151,11 @@ pub record HandedSoFar (table : FrameTable) (invite : Invite) (all left : List P
   pub coming_same : now.coming ≡ net.coming
   pub ends_long : length ends ≡ invite.clients
   pub counts_long : length counts ≡ invite.clients
-  pub links : (coming : Option (List (List ℕ))) → AreDone invite.clients table invite first coming 0 all → (d : ℕ) → d < c →
+  pub links : (coming : Option (List (List ℕ))) → AreServedLinks invite.clients table invite first coming 0 all → (d : ℕ) → d < c →
       LinkClosed d invite (columns_of start) (get_or (joined receiver) d []) coming (get_or flags d false) (made_in all d) (slice_get now.given d) (get_or ends d end.Memory) (get_or counts d 0)
 
 pub handed_none : (table : FrameTable) (invite : Invite) (all : List PieceState) (pass : Pass) (receiver : ReportReceiver) (net : NetState) (flags : List Bool) (ends : List LinkEnd) (counts : List ℕ) → IsServePass invite.clients table pass → ((d : ℕ) → d < invite.clients → (standing pass d).known.left ≡ true) →
-    (coming : Option (List (List ℕ))) × AreDone invite.clients table invite receiver coming 0 all → length all ≡ invite.clients → length net.given ≡ invite.clients → joined receiver ≡ [] → length ends ≡ invite.clients → length counts ≡ invite.clients → HandedSoFar table invite all all pass pass receiver receiver net net flags ends counts 0
+    (coming : Option (List (List ℕ))) × AreServedLinks invite.clients table invite receiver coming 0 all → length all ≡ invite.clients → length net.given ≡ invite.clients → joined receiver ≡ [] → length ends ≡ invite.clients → length counts ≡ invite.clients → HandedSoFar table invite all all pass pass receiver receiver net net flags ends counts 0
 handed_none table invite all pass receiver net flags ends counts is closed some count given unjoined long counts_long =
     record {
       from = is;
@@ -197,19 +197,19 @@ module _ (table : FrameTable) (invite : Invite) (all rest : List PieceState) (pi
   long = length_known (view_of start).marks ∙ far.from.of_table.marks ∙ far.from.count
 
   -- The column's own link has fixed what the links have.
-  fixed_here : (coming : Option (List (List ℕ))) → AreDone invite.clients table invite first coming 0 all → made_in all c ≡ made_by piece.seat c
+  fixed_here : (coming : Option (List (List ℕ))) → AreServedLinks invite.clients table invite first coming 0 all → made_in all c ≡ made_by piece.seat c
   fixed_here coming are =
       let rest_none = made_before invite.clients table invite first coming (c + 1) rest (far.done coming are).1 c (omega arith) in
       let all_left = far.alone coming are c (omega arith) in
       omega arith
 
-  fixed_later : (coming : Option (List (List ℕ))) → AreDone invite.clients table invite first coming 0 all → (d : ℕ) → c + 1 ≤ d → made_in all d ≡ made_in rest d
+  fixed_later : (coming : Option (List (List ℕ))) → AreServedLinks invite.clients table invite first coming 0 all → (d : ℕ) → c + 1 ≤ d → made_in all d ≡ made_in rest d
   fixed_later coming are d later =
       let none = made_no_other invite.clients table invite first coming c piece (far.done coming are).0 d (λ same. absurd (omega arith)) in
       let all_left = far.alone coming are d (omega arith) in
       omega arith
 
-  link_here : (coming : Option (List (List ℕ))) (fixed : ℕ) → fixed ≡ made_by piece.seat c → IsDone invite.clients table invite first coming c piece → LinkClosed c invite (columns_of start) (pushed piece.seat.reading.reports) coming kicked fixed (Some (Some (taken_back piece.input piece.output))) (link_end_of piece.seat.ends.reader piece.seat.ends.sender kicked) piece.seat.reading.taken
+  link_here : (coming : Option (List (List ℕ))) (fixed : ℕ) → fixed ≡ made_by piece.seat c → IsServedLink invite.clients table invite first coming c piece → LinkClosed c invite (columns_of start) (pushed piece.seat.reading.reports) coming kicked fixed (Some (Some (taken_back piece.input piece.output))) (link_end_of piece.seat.ends.reader piece.seat.ends.sender kicked) piece.seat.reading.taken
   link_here coming fixed fixed_is done =
       let before = done.before in
       let serves = done.serves in
@@ -258,7 +258,7 @@ module _ (table : FrameTable) (invite : Invite) (all rest : List PieceState) (pi
   before_or_at : (d : ℕ) → d < c + 1 → (d < c) ⊎ (d ≡ c)
   before_or_at d less = grind arith
 
-  links_more : (coming : Option (List (List ℕ))) → AreDone invite.clients table invite first coming 0 all → (d : ℕ) → (d < c) ⊎ (d ≡ c) → LinkClosed d invite (columns_of start) (get_or (joined after) d []) coming (get_or flags d false) (made_in all d) (slice_get next.given d) (get_or ends_after d end.Memory) (get_or counts_after d 0)
+  links_more : (coming : Option (List (List ℕ))) → AreServedLinks invite.clients table invite first coming 0 all → (d : ℕ) → (d < c) ⊎ (d ≡ c) → LinkClosed d invite (columns_of start) (get_or (joined after) d []) coming (get_or flags d false) (made_in all d) (slice_get next.given d) (get_or ends_after d end.Memory) (get_or counts_after d 0)
   links_more coming are d (inl less) =
       let listed : get_or (joined after) d [] ≡ get_or (joined receiver) d [] = ap (λ l. get_or l d []) list ∙ push_there (joined receiver) (pushed piece.seat.reading.reports) [] d (let k = far.count in omega arith) in
       let taken : slice_get next.given d ≡ slice_get now.given d = ap (λ l. slice_get l d) back.given ∙ set_there now.given c d (Some (taken_back piece.input piece.output)) less in

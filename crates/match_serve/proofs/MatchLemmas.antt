@@ -96,11 +96,11 @@ module _ (clients : ℕ) (table : FrameTable) (ticked joined handed gone : Pass)
       reach (inr (c, below, has)) = inr (c, below, subst (λ (k : Column). n ≤ length_of k) (sym (column_known (view_of gone) c ∙ gone_known c below)) has)
 
 -- What was taken of observable bytes are their first ones.
-first_ones : (old new : Option (List ℕ)) (bytes : List ℕ) (count : ℕ) → Took old new bytes → count ≡ length bytes → IfSome old (λ told. bytes ≡ take count told)
+first_ones : (old new : Option (List ℕ)) (bytes : List ℕ) (count : ℕ) → Took old new bytes → count ≡ length bytes → IfSome old (λ observed. bytes ≡ take count observed)
 first_ones None new bytes count took counted = tt
-first_ones (Some told) None bytes count took counted = absurd cc
-first_ones (Some told) (Some left) bytes count took counted =
-    let all : told ≡ bytes ++ left = cc in
+first_ones (Some observed) None bytes count took counted = absurd cc
+first_ones (Some observed) (Some left) bytes count took counted =
+    let all : observed ≡ bytes ++ left = cc in
     sym (ap₂ (λ (k : ℕ) (l : List ℕ). take k l) counted all ∙ front bytes left)
   where
     front : (xs ys : List ℕ) → take (length xs) (xs ++ ys) ≡ xs

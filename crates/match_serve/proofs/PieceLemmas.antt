@@ -4,7 +4,7 @@ use Rattle.frame_table.specs.declared.table.FrameTable.{FrameTable}
 use Rattle.report_line.specs.declared.report_receiver.ReportReceiver.{ReportReceiver}
 use Rattle.report_line.specs.Reports.{queue_heard}
 use Rattle.match_net.specs.declared.invite.Invite.{Invite}
-use Rattle.match_serve.specs.Seats.{PieceState, ServesSeat, AreServed, IsNewPiece, AreNewPieces, AreDone, seat_share, shares_of}
+use Rattle.match_serve.specs.Seats.{PieceState, ServesSeat, AreServed, IsNewPiece, AreNewPieces, AreServedLinks, seat_share, shares_of}
 
 pub pairs : (table : FrameTable) (xs ys : List PieceState) → length ys ≡ length xs → ((i : ℕ) (d : PieceState) → i < length xs → ServesSeat (get_or xs i d).seat.invite.clients table (get_or xs i d).seat (get_or ys i d).seat (get_or xs i d).input (get_or ys i d).input (get_or xs i d).output (get_or ys i d).output) → AreServed table xs ys
 pairs table [] [] long each = tt
@@ -14,7 +14,7 @@ pairs table (x ∷ xs) (y ∷ ys) long each = (each 0 x (omega arith), pairs tab
 
 -- They were all served.
 pub all_done : (clients : ℕ) (table : FrameTable) (invite : Invite) (receiver : ReportReceiver) (coming : Option (List (List ℕ))) (c : ℕ) (olds news : List PieceState) → AreNewPieces clients table invite receiver coming c olds → AreServed table olds news →
-    AreDone clients table invite receiver coming c news × (length news ≡ length olds) × (shares_of news ≡ shares_of olds)
+    AreServedLinks clients table invite receiver coming c news × (length news ≡ length olds) × (shares_of news ≡ shares_of olds)
 all_done clients table invite receiver coming c [] [] are served = (tt, refl, refl)
 all_done clients table invite receiver coming c [] (y ∷ ys) are served = absurd served
 all_done clients table invite receiver coming c (x ∷ xs) [] are served = absurd served
@@ -57,8 +57,8 @@ written_back {A = A} items new len long same = ap (λ k. take k (new ++ drop (le
     front (x ∷ xs) ys = ap (λ l. x ∷ l) (front xs ys)
 
 pub done_back : (clients : ℕ) (table : FrameTable) (invite : Invite) (receiver other : ReportReceiver) (coming : Option (List (List ℕ))) (olds slice news : List PieceState) (len : ℕ) → slice ≡ olds → length slice ≡ len → queue_heard other ≡ queue_heard receiver → AreNewPieces clients table invite receiver coming 0 olds → AreServed table slice news →
-    AreDone clients table invite other coming 0 (take len (news ++ drop (length news) olds)) × (shares_of (take len (news ++ drop (length news) olds)) ≡ shares_of olds)
+    AreServedLinks clients table invite other coming 0 (take len (news ++ drop (length news) olds)) × (shares_of (take len (news ++ drop (length news) olds)) ≡ shares_of olds)
 done_back clients table invite receiver other coming olds slice news len is long same are served =
     let done = all_done clients table invite other coming 0 olds news (pieces_for clients table invite receiver other coming 0 olds same are) (subst (λ l. AreServed table l news) is served) in
     let back = written_back olds news len (sym long ∙ ap length is) done.1 in
-    (subst (AreDone clients table invite other coming 0) (sym back) done.0, ap shares_of back ∙ done.2)
+    (subst (AreServedLinks clients table invite other coming 0) (sym back) done.0, ap shares_of back ∙ done.2)

@@ -148,19 +148,19 @@ AreServed table (old ∷ olds) (new ∷ news) =
     × AreServed table olds news
 
 -- The link of client c since it was served.
-pub record IsDone (clients : ℕ) (table : FrameTable) (invite : Invite) (receiver : ReportReceiver)
+pub record IsServedLink (clients : ℕ) (table : FrameTable) (invite : Invite) (receiver : ReportReceiver)
     (coming : Option (List (List ℕ))) (c : ℕ) (piece : PieceState) : Type 0 where
   pub before : PieceState
   pub is_new : IsNewPiece clients table invite receiver coming c before
   pub serves :
       ServesSeat clients table before.seat piece.seat before.input piece.input before.output piece.output
 
-abbrev pub AreDone :
+abbrev pub AreServedLinks :
     ℕ → FrameTable → Invite → ReportReceiver → Option (List (List ℕ)) → ℕ → List PieceState → Type 0
-AreDone clients table invite receiver coming c [] = Unit {0}
-AreDone clients table invite receiver coming c (piece ∷ pieces) =
-    IsDone clients table invite receiver coming c piece
-    × AreDone clients table invite receiver coming (c + 1) pieces
+AreServedLinks clients table invite receiver coming c [] = Unit {0}
+AreServedLinks clients table invite receiver coming c (piece ∷ pieces) =
+    IsServedLink clients table invite receiver coming c piece
+    × AreServedLinks clients table invite receiver coming (c + 1) pieces
 
 abbrev pub shares_of : List PieceState → ℕ
 shares_of [] = 0

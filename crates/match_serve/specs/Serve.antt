@@ -94,7 +94,7 @@ pub record ServesLink (c : ℕ) (invite : Invite) (columns : List Column)
   pub took : Took input.left input_after.left bytes
   pub few : length bytes ≤ MAX_LINK_BYTES
   pub counted : count ≡ length bytes
-  pub first : IfSome input.left (λ told. bytes ≡ take count told)
+  pub first : IfSome input.left (λ observed. bytes ≡ take count observed)
   pub session : Session
   pub rest : List ℕ
   pub makes : Makes c invite.rules bytes session rest

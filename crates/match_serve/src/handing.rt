@@ -5,7 +5,7 @@ ghost use Rattle.frame_table.specs.Calls.{view_of, standing};
 ghost use Rattle.report_line.specs.Reports.{heard, joined, IsSameReceiver};
 ghost use Rattle.match_serve.specs.declared.link_end.LinkEnd.TheVariants as end;
 ghost use Rattle.match_serve.specs.Passes.{IsServePass, columns_of};
-ghost use Rattle.match_serve.specs.Seats.{AreDone, shares_of, made_in};
+ghost use Rattle.match_serve.specs.Seats.{AreServedLinks, shares_of, made_in};
 ghost use Rattle.match_serve.specs.Closed.{LinkClosed};
 
 use crate::closing::{close_link, link_end};
@@ -30,7 +30,7 @@ pub(crate) fn close_links<N: Net>(
 )
     requires pass { IsServePass invite.now.clients table.now pass.old }
     requires left { (c : ℕ) → c < invite.now.clients → (standing pass.old c).known.left ≡ true }
-    requires done { (coming : Option (List (List ℕ))) × AreDone invite.now.clients table.now
+    requires done { (coming : Option (List (List ℕ))) × AreServedLinks invite.now.clients table.now
         invite.now receiver.old coming 0 pieces.items }
     requires count { length pieces.items ≡ invite.now.clients }
     requires given { length (N.state net.old).given ≡ invite.now.clients }
@@ -45,7 +45,7 @@ pub(crate) fn close_links<N: Net>(
         (standing pass.new c).known ≡ (standing pass.old c).known }
     ensures made { (c : ℕ) → c < invite.now.clients →
         (standing pass.new c).made ≡ (standing pass.old c).made + made_in pieces.items c }
-    ensures links { (coming : Option (List (List ℕ))) → AreDone invite.now.clients table.now
+    ensures links { (coming : Option (List (List ℕ))) → AreServedLinks invite.now.clients table.now
         invite.now receiver.old coming 0 pieces.items → (c : ℕ) → c < invite.now.clients →
         LinkClosed c invite.now (columns_of pass.old) (slice_index_or (joined receiver.new) c [])
         coming (slice_index_or kicked.now c false) (made_in pieces.items c)

@@ -10,7 +10,7 @@ use Rattle.crossbeam_queue.proofs.Lists.{at_set}
 use Rattle.report_line.specs.declared.heard.Heard.{Heard}
 use Rattle.report_line.specs.declared.known.Known.{Known}
 use Rattle.report_line.specs.Order.{Numbered, report_of, of_end}
-use Rattle.report_line.specs.Rule.{new_receiver, with_end, new_end, after_push, after_pop, after_join, spent, AgreesAsEnd, AgreesAsReceiver, Agrees, IsKept, HasHeardAll}
+use Rattle.report_line.specs.Rule.{new_receiver, with_end, new_end, after_push, after_pop, after_join, spent, AgreesAsEnd, AgreesAsReceiver, Agrees, IsReportQueue, HasHeardAll}
 use Rattle.report_line.proofs.OrderLemmas.{of_end_append, of_end_own, of_end_other}
 
 -- What holds of each pass.
@@ -52,7 +52,7 @@ idle : (ends : ℕ) (joined : List (List Heard)) (out all : List Numbered) (n : 
 idle ends joined out all n =
     record { as_end = λ no. absurd (true≢false (sym no)); as_receiver = λ no. absurd (true≢false (sym no)) }
 
-pub begins : IsKept [] (new_receiver ∷ [])
+pub begins : IsReportQueue [] (new_receiver ∷ [])
 begins =
     record {
       ends = 0;
@@ -77,7 +77,7 @@ begins =
 
 pub pushes :
     (n id : ℕ) (v : Known) (report : Heard) → v.pushes ≡ true →
-    Pushes IsKept n id v report (λ w. w ≡ after_push v report)
+    Pushes IsReportQueue n id v report (λ w. w ≡ after_push v report)
 pushes n id v report may items views room kept at = (
   after_push v report,
   record {
@@ -148,7 +148,7 @@ numbered_first (one ∷ rest) report items is =
 
 pub pops :
     (id : ℕ) (v : Known) → v.hears ≡ true →
-    Pops IsKept id v (λ report w. w ≡ after_pop v report)
+    Pops IsReportQueue id v (λ report w. w ≡ after_pop v report)
 pops id v may report items views kept at = (
   after_pop v report,
   record {
@@ -210,7 +210,7 @@ pops id v may report items views kept at = (
         }
 
 pub forks :
-    (id : ℕ) (v : Known) → v.hears ≡ true → Forks IsKept id v (with_end v) (new_end v)
+    (id : ℕ) (v : Known) → v.hears ≡ true → Forks IsReportQueue id v (with_end v) (new_end v)
 forks id v may items views kept at =
     record {
       ends = kept.ends + 1;
@@ -271,7 +271,7 @@ forks id v may items views kept at =
 
 pub merges :
     (id : ℕ) (v : Known) (other : ℕ) (end : Known) → v.hears ≡ true → end.pushes ≡ true →
-    end.number ≡ length v.joined → Merges IsKept id v other end (after_join v end) spent
+    end.number ≡ length v.joined → Merges IsReportQueue id v other end (after_join v end) spent
 merges id v other end may theirs next items views kept at two there =
     record {
       ends = kept.ends;
@@ -350,7 +350,7 @@ merges id v other end may theirs next items views kept at two there =
         later : (k : ℕ) → length kept.joined ≤ k → k ≢ length kept.joined → length joined ≤ k
         later k most other = let m = longer in grind arith
 
-pub learns : (id : ℕ) (v : Known) → v.hears ≡ true → Learns IsKept id v (HasHeardAll v)
+pub learns : (id : ℕ) (v : Known) → v.hears ≡ true → Learns IsReportQueue id v (HasHeardAll v)
 learns id v may items views kept at empty all =
     record {
       numbered = kept.out;

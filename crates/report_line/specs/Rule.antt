@@ -84,7 +84,7 @@ pub record Agrees (ends : ℕ) (joined : List (List Heard)) (out all : List Numb
 -- What holds of the queue at any moment: so many ends were made, and those that were joined had
 -- pushed this in all. The reports that were popped, and then those that the queue holds, can be
 -- numbered by their ends so that each end pushed those of its number.
-pub record IsKept (items : List Heard) (views : List Known) : Type 0 where
+pub record IsReportQueue (items : List Heard) (views : List Known) : Type 0 where
   pub ends : ℕ
   pub joined : List (List Heard)
   pub out : List Numbered

@@ -7,9 +7,9 @@ use crossbeam_queue::protocol::{Join, Lesson, Outcome, Protocol, Split};
 pub struct HeardInOrder;
 
 impl Protocol<Heard, Known> for HeardInOrder {
-    ghost use Rattle.report_line.specs.Rule.{IsKept, new_receiver};
+    ghost use Rattle.report_line.specs.Rule.{IsReportQueue, new_receiver};
 
-    ghost holds = { IsKept };
+    ghost holds = { IsReportQueue };
 
     ghost first = { new_receiver };
 }

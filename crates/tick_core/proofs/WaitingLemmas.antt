@@ -19,7 +19,7 @@ use Rattle.game_tick.specs.Building.{Built, after_build, built_first, came_out, 
 use Rattle.game_tick.specs.ChangesLemmas.{id_of_living}
 use Rattle.game_tick.specs.Turn.{after_first, after_way, reloaded, with_build, with_reload, with_way}
 use Rattle.tick_core.specs.Scene.{prepared, prepared_if}
-use Rattle.tick_core.specs.Waiting.{IsDone, IsWaiting}
+use Rattle.tick_core.specs.Waiting.{IsFirstBuilt, IsWaiting}
 use Rattle.tick_core.proofs.ChoiceLemmas.{by_if}
 use Rattle.tick_core.proofs.SceneLemmas.{with_list}
 
@@ -73,7 +73,7 @@ StaysBuilt actors next_id built = built.next_id ≡ next_id → built.actors ≡
 
 built_stays :
     (setup : Setup) (actors : List Actor) (next_id : ℕ) (a : Actor) → IdsRise actors → actor_of actors a.id ≡ Some a →
-    IsDone a.body.builds → StaysBuilt actors next_id (after_build setup actors next_id a)
+    IsFirstBuilt a.body.builds → StaysBuilt actors next_id (after_build setup actors next_id a)
 unfolding after_build
 built_stays setup actors next_id a rise found done = by_builds a.body.builds refl done where
   comes :
@@ -91,7 +91,7 @@ built_stays setup actors next_id a rise found done = by_builds a.body.builds ref
       comes build rest d (neighbour_of setup.map.width setup.map.height a.cell d)
 
   by_builds :
-      (builds : List Build) → a.body.builds ≡ builds → IsDone builds →
+      (builds : List Build) → a.body.builds ≡ builds → IsFirstBuilt builds →
       StaysBuilt actors next_id (built_first setup actors next_id a builds)
   by_builds [] has done = λ same. refl
   by_builds (build ∷ rest) has none =

@@ -4,13 +4,13 @@ use Rattle.game_model.specs.declared.actor.Actor.{Actor}
 use Rattle.game_model.specs.declared.builds.Build.{Build}
 
 -- Of the first build, if there is one, no turn is left.
-abbrev pub IsDone : List Build → Type 0
-IsDone [] = Unit {0}
-IsDone (build ∷ later) = build.left ≡ 0
+abbrev pub IsFirstBuilt : List Build → Type 0
+IsFirstBuilt [] = Unit {0}
+IsFirstBuilt (build ∷ later) = build.left ≡ 0
 
 -- The actor has nothing to load, to do or to go, and its first build waits for its unit to come out.
 pub record IsWaiting (a : Actor) : Type 0 where
   pub reload : a.body.reload ≡ 0
   pub acts : a.body.acts ≡ []
   pub leg : a.body.leg ≡ None
-  pub builds : IsDone a.body.builds
+  pub builds : IsFirstBuilt a.body.builds

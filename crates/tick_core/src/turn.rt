@@ -14,7 +14,7 @@ ghost use Rattle.tick_core.specs.Scene.{IsActing};
 ghost use Rattle.tick_core.specs.Telling.{HasPlaceFor, IsKeptButIf, IsSizedIf, IsToldIf, cell_of};
 ghost use Rattle.tick_core.specs.Telling.{target_of, told_of, told_ore, told_ore_if, with_some};
 ghost use Rattle.tick_core.specs.Touched.{KeptBut};
-ghost use Rattle.tick_core.specs.Waiting.{IsDone, IsWaiting};
+ghost use Rattle.tick_core.specs.Waiting.{IsFirstBuilt, IsWaiting};
 
 use crate::acting::{actor_near, living_at};
 use crate::burial::is_alive;
@@ -104,7 +104,7 @@ fn waits(body: &Body) -> bool
 
 /// Whether no turn is left of the first of these builds, if there is one.
 fn is_done(builds: &[Build]) -> bool
-    ensures { result ≡ true → IsDone builds.now }
+    ensures { result ≡ true → IsFirstBuilt builds.now }
 {
     match builds.first() {
         Some(build) => build.left == 0,

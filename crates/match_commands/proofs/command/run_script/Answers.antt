@@ -15,12 +15,12 @@ returns-in-Ok g c =
     let d = g.D.Disk.state c.args.disk.now in
     let d' = g.D.Disk.state c.read_played_files.new.disk in
     let s = g.K.Sink.state c.args.out.now in
-    let s' = g.K.Sink.state c.print_report.new.out in
-    all_given (Drill query None) (with_script query.file (rules_and_map (map (λ name. name.now) c.as_slice-names.result.now) query.map_file)) contents c.print_report.result d d' s s'
+    let s' = g.K.Sink.state c.report_drill.new.out in
+    all_given (Drill query None) (with_script query.file (rules_and_map (map (λ name. name.now) c.as_slice-names.result.now) query.map_file)) contents c.report_drill.result d d' s s'
     (ap (λ names. with_script query.file (rules_and_map names query.map_file)) (sym c.as_slice-names.ensures))
-    c.in-Ok.ensures.later c.print_report.ensures.later c.in-Ok.ensures.observable c.in-Ok.ensures.opaque
-    (report_printed None c.prepare_drill.result (prepared_step query contents) c.print_report.result d d' s s' c.in-Ok.ensures.files
-    c.prepare_drill.ensures c.print_report.ensures.prints)
+    c.in-Ok.ensures.later c.report_drill.ensures.later c.in-Ok.ensures.observable c.in-Ok.ensures.opaque
+    (report_printed None c.prepare_drill.result (prepared_step query contents) c.report_drill.result d d' s s' c.in-Ok.ensures.files
+    c.prepare_drill.ensures c.report_drill.ensures.prints)
 
 -- One of them was not.
 pub returns-in-Err : goal.returns-in-Err

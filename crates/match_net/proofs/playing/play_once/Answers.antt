@@ -1,5 +1,5 @@
 use Rattle.match_net.proofs.PlayLemmas.{turn_packet, turn_bad, turn_lost, turn_out}
-use Rattle.match_net.proofs.playing.turn.Goals as goal
+use Rattle.match_net.proofs.playing.play_once.Goals as goal
 
 pub returns-in-Ok-Packet-clause-means : goal.returns-in-Ok-Packet-clause-means
 returns-in-Ok-Packet-clause-means g c =
