@@ -1,10 +1,9 @@
 -- Marks of idle actors stay right.
-use Rattle.std.proofs.Common.{◌≡◌, ℕ, zero, suc, ◌+◌, ◌<◌, ◌≤◌, eqb, Bool, true, false, cond, List, [], ◌∷◌, ◌++◌, length, set, replicate, Option, Some, None, IfSome, slice_get, inl, inr, refl, sym, subst, ap, ◌∙◌, arith}
+use Rattle.std.proofs.Common.{◌≡◌, ℕ, zero, suc, ◌+◌, ◌≤◌, eqb, Bool, true, false, List, [], ◌∷◌, ◌++◌, length, set, replicate, Some, IfSome, slice_get, inl, inr, refl, subst, arith}
 use Rattle.std.proofs.lemmas.Bool.Decides.{eqb_tells, nat_tests}
 use Rattle.world_units.specs.declared.cell.CPos.{CPos}
 use Rattle.game_model.specs.declared.actor.Actor.{Actor}
 use Rattle.game_model.specs.declared.actor.Body.{Body}
-use Rattle.game_model.specs.World.{ids_of}
 use Rattle.game_model.specs.ActorChanges.{changed_at, with_body, moved_to}
 use Rattle.actor_table.specs.Idle.{IsIdle, AreIdle}
 use Rattle.actor_table.specs.Search.{IsAt}

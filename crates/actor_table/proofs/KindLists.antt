@@ -28,7 +28,7 @@ ids_below owner kind x e mx me lt =
     let fe = listed_owner owner kind e me in
     omega (arith, fx.0, fx.1, fe.0, fe.1)
 
-ids_not_below : (owner kind : ℕ) (x e : Listed) → is_listed owner kind x ≡ true → is_listed owner kind e ≡ true → rank_of e ≤ rank_of x → e.id ≤ x.id
+pub ids_not_below : (owner kind : ℕ) (x e : Listed) → is_listed owner kind x ≡ true → is_listed owner kind e ≡ true → rank_of e ≤ rank_of x → e.id ≤ x.id
 ids_not_below owner kind x e mx me le =
     let fx = listed_owner owner kind x mx in
     let fe = listed_owner owner kind e me in

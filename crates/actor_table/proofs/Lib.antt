@@ -7,5 +7,6 @@ pub mod TableCalls
 pub mod KindLists
 pub mod KindCalls
 pub mod NextKinds
+pub mod FilledLists
 pub mod IdleCalls
 pub mod PartCalls

@@ -1,5 +1,5 @@
 -- A part of an actor's body changed: the cells and the entries stay right.
-use Rattle.std.proofs.Common.{◌≡◌, ℕ, ◌≤◌, eqb, Bool, true, false, cond, List, [], ◌∷◌, length, set, Option, Some, None, is_some, refl, sym, subst, ap, ◌∙◌, arith}
+use Rattle.std.proofs.Common.{◌≡◌, ℕ, eqb, Bool, true, false, List, set, Option, Some, None, is_some, refl, ap, arith}
 use Rattle.std.specs.Option.{option_map}
 use Rattle.std.proofs.lemmas.Bool.Decides.{nat_tests}
 use Rattle.game_model.specs.declared.actor.Actor.{Actor}
@@ -8,8 +8,7 @@ use Rattle.game_model.specs.Grid.{Grid}
 use Rattle.game_model.specs.World.{actor_of}
 use Rattle.game_model.specs.ActorChanges.{changed_at, with_body}
 use Rattle.game_model.specs.FoundLemmas.{IdsRise, changed_as}
-use Rattle.actor_table.specs.Kinds.{ListsActors, MovesId, ids_listed, id_inserted, ids_without, owner_and_kind_of}
-use Rattle.actor_table.specs.Idle.{IsIdle}
+use Rattle.actor_table.specs.Kinds.{MovesId, owner_and_kind_of}
 use Rattle.actor_table.specs.Search.{IsAt}
 use Rattle.actor_table.specs.Table.{IsTied}
 use Rattle.actor_table.specs.declared.listed.Listed.{Listed}

@@ -1,6 +1,6 @@
 -- Lists that rise: their parts, an element more, and the search by number.
 use Rattle.std.proofs.Common.{◌≡◌, ℕ, zero, suc, ◌+◌, ◌<◌, ◌≤◌, List, [], ◌∷◌, ◌++◌, length, get_or, Some, slice_get, subst, arith}
-use Rattle.std.specs.List.{AllByRecursion, remove}
+use Rattle.std.specs.List.{All, AllPairs, AllByRecursion, remove}
 use Rattle.std.proofs.lemmas.Option.{same_Some}
 use Rattle.actor_table.specs.Rising.{RisesFrom}
 
@@ -42,3 +42,8 @@ module _ {T : Type 0} (number : T → ℕ) where
   pub all_above : (least : ℕ) (xs : List T) → RisesFrom number least xs → AllByRecursion (λ y. least ≤ number y) xs
   all_above least [] rises = tt
   all_above least (x ∷ xs) rises = (rises.0, all_above least xs (rises_weaker least (number x + 1) xs (omega (arith, rises.0)) rises.1))
+
+  -- each element is below all later ones
+  pub rises_from_pairs : (least : ℕ) (xs : List T) → All (λ x. least ≤ number x) xs → AllPairs (λ x y. number x < number y) xs → RisesFrom number least xs
+  rises_from_pairs least [] low pairs = tt
+  rises_from_pairs least (x ∷ xs) low pairs = (low 0 x (omega arith), rises_from_pairs (number x + 1) xs (λ k d within. omega (arith, pairs 0 (suc k) d (omega arith) (omega arith))) (λ i j d lt within. pairs (suc i) (suc j) d (omega arith) (omega arith)))

@@ -1,12 +1,11 @@
 -- Lists of actors: who holds a cell, and what changes of one actor make of the list.
 use Rattle.std.specs.Prelude.{◌≡◌, ℕ, suc, ◌==◌, not, false, List, [], ◌∷◌, ◌++◌}
-use Rattle.std.specs.Prelude.{filter, take, drop, Option, if◌then◌else◌}
+use Rattle.std.specs.Prelude.{filter, take, drop, Option}
 use Rattle.std.specs.Option.{option_map}
 use Rattle.std.specs.List.{find}
 use Rattle.world_units.specs.declared.cell.CPos.{CPos}
 use Rattle.world_units.specs.Cells.{same_cell}
 use Rattle.game_model.specs.declared.actor.Actor.{Actor}
-use Rattle.game_model.specs.declared.actor.Body.{Body}
 use Rattle.game_model.specs.World.{is_alive, is_occupied}
 
 -- The id of the actor that holds a cell.

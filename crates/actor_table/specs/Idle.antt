@@ -1,5 +1,5 @@
 -- Actors that have nothing to do, and marks that tell of them by their places.
-use Rattle.std.specs.Prelude.{◌≡◌, ℕ, true, Bool, List, [], ◌∷◌, None}
+use Rattle.std.specs.Prelude.{◌≡◌, true, Bool, List, [], ◌∷◌, None}
 use Rattle.game_model.specs.declared.actor.Actor.{Actor}
 
 -- A step leaves the actor as it is: it has nothing to load, to do, to go or to build.

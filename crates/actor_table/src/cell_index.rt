@@ -1,7 +1,9 @@
-ghost use Rattle.std.specs.Prelude.{◌≡◌, ◌*◌, ◌<◌, replicate, None, Some, slice_get, IfOk};
-ghost use Rattle.game_model.specs.Grid.{place_of, with_cell};
+ghost use Rattle.std.specs.Prelude.{◌≡◌, ◌≢◌, ◌*◌, ◌<◌, replicate, None, Some, slice_get, IfOk};
+ghost use Rattle.std.specs.List.{All, AllPairs};
+ghost use Rattle.game_model.specs.Grid.{place_of, with_cell, IsOn};
 
 use base::NoMemory;
+use game_model::Actor;
 use std::alloc::Global;
 use std::marker::Model;
 use world_units::CPos;
@@ -26,6 +28,8 @@ impl Model for CellIndex {
 }
 
 impl CellIndex {
+    ghost use Rattle.actor_table.specs.Table.{IsIndexed};
+
     /// Nobody anywhere. Out of memory is its only error.
     pub(crate) fn create(alloc: Global, w: u8, h: u8) -> Result<CellIndex, NoMemory>
         ensures { IfOk result (λ index. index ≡ (record { width = w; height = h; cells = replicate (w * h) None })) }
@@ -37,6 +41,27 @@ impl CellIndex {
             height: h,
             cells,
         })
+    }
+
+    /// These actors, on cells of the map of which no two are the same. Out of memory is its only
+    /// error.
+    pub(crate) fn filled(
+        alloc: Global,
+        w: u8,
+        h: u8,
+        actors: &[Actor],
+    ) -> Result<CellIndex, NoMemory>
+        requires on_map { All (λ (a : Actor). IsOn w h a.cell) actors.now }
+        requires apart { AllPairs (λ (a b : Actor). a.cell ≢ b.cell) actors.now }
+        ensures width { IfOk result (λ index. index.width ≡ w) }
+        ensures height { IfOk result (λ index. index.height ≡ h) }
+        ensures actors { IfOk result (λ index. IsIndexed index actors.now) }
+    {
+        let mut index = CellIndex::create(alloc, w, h)?;
+        for actor in actors {
+            index.set(actor.cell, Some(actor.id));
+        }
+        Ok(index)
     }
 
     /// The number of columns.

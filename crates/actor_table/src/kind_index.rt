@@ -1,10 +1,10 @@
 ghost use Rattle.std.specs.Prelude.{◌≡◌, ◌+◌, ◌<◌, ◌≤◌, ◌==◌, [], length, not, true, filter};
 ghost use Rattle.std.specs.Prelude.{slice_range, IfOk};
-ghost use Rattle.std.specs.List.{list_any};
+ghost use Rattle.std.specs.List.{list_any, AllPairs};
 
 use crate::listed::{ID_NUMBERS, KIND_NUMBERS, Listed};
 use base::NoMemory;
-use game_model::MAX_ACTORS;
+use game_model::{Actor, MAX_ACTORS};
 use std::alloc::Global;
 use std::marker::Model;
 
@@ -29,7 +29,7 @@ impl Model for KindIndex {
 
 impl KindIndex {
     ghost use Rattle.actor_table.specs.Kinds.{is_listed, next_number, GainsId, IsNextListed};
-    ghost use Rattle.actor_table.specs.Kinds.{MovesId};
+    ghost use Rattle.actor_table.specs.Kinds.{ListsActors, MovesId};
 
     /// No actors, with room for [`MAX_ACTORS`]. Out of memory is its only error.
     pub(crate) fn create(alloc: Global) -> Result<KindIndex, NoMemory>
@@ -38,6 +38,21 @@ impl KindIndex {
         Ok(KindIndex {
             entries: Vec::with_capacity(alloc, MAX_ACTORS)?,
         })
+    }
+
+    /// These actors, whose ids rise, with room for [`MAX_ACTORS`]; sorted once. Out of memory is
+    /// its only error.
+    pub(crate) fn filled(alloc: Global, actors: &[Actor]) -> Result<KindIndex, NoMemory>
+        requires count { length actors.now ≤ MAX_ACTORS }
+        requires rise { AllPairs (λ (a b : Actor). a.id < b.id) actors.now }
+        ensures { IfOk result (λ index. ListsActors index actors.now) }
+    {
+        let mut entries = Vec::with_capacity(alloc, MAX_ACTORS)?;
+        for actor in actors {
+            entries.push_reserved(Listed::of(actor));
+        }
+        entries.sort_unstable_by_key(|e| e.rank());
+        Ok(KindIndex { entries })
     }
 
     /// The actors of an owner and a kind, by rising id; found by halving.

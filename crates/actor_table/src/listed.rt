@@ -1,5 +1,7 @@
 ghost use Rattle.std.specs.Prelude.{◌≡◌};
-ghost use Rattle.actor_table.specs.Kinds.{rank_of};
+ghost use Rattle.actor_table.specs.Kinds.{rank_of, listed_as, IsEntry};
+
+use game_model::Actor;
 
 /// How many numbers a kind can have.
 pub(crate) const KIND_NUMBERS: u64 = 65_536;
@@ -19,6 +21,19 @@ pub struct Listed {
 }
 
 impl Listed {
+    /// An actor as an index lists it.
+    pub(crate) fn of(a: &Actor) -> Listed
+        ensures value { result ≡ listed_as a.now }
+        ensures fits { IsEntry result }
+    {
+        let (kind, id) = (a.kind, a.id);
+        Listed {
+            owner: a.body.owner,
+            kind,
+            id,
+        }
+    }
+
     /// A number by which entries are sorted: by owner, then by kind, then by id.
     pub(crate) fn rank(&self) -> u64
         ensures { result ≡ rank_of self.now }

@@ -2,7 +2,7 @@ ghost use Rattle.std.specs.Prelude.{◌≡◌, ℕ, ◌<◌, ◌≤◌, [], ◌�
 ghost use Rattle.std.specs.Prelude.{slice_get};
 ghost use Rattle.std.specs.Prelude.{IfOk, IfErr, IsSome, IfSome};
 ghost use Rattle.std.specs.Option.{option_copied, option_map};
-ghost use Rattle.std.specs.List.{All};
+ghost use Rattle.std.specs.List.{All, AllPairs};
 ghost use Rattle.game_model.specs.World.{actor_of, ids_of};
 ghost use Rattle.actor_table.specs.ActorList.{without_id};
 ghost use Rattle.game_model.specs.ActorChanges.{changed_at, with_body, moved_to};
@@ -53,6 +53,19 @@ impl Roster {
             slots: Slab::with_capacity(alloc, MAX_ACTORS)?,
             order: Vec::with_capacity(alloc, MAX_ACTORS)?,
         })
+    }
+
+    /// These actors, whose ids rise, with room for [`MAX_ACTORS`]. Out of memory is its only error.
+    pub(crate) fn filled(alloc: Global, actors: &[Actor]) -> Result<Roster, NoMemory>
+        requires count { length actors.now ≤ MAX_ACTORS }
+        requires rise { AllPairs (λ (a b : Actor). a.id < b.id) actors.now }
+        ensures { IfOk result (λ roster. roster ≡ actors.now) }
+    {
+        let mut roster = Roster::create(alloc)?;
+        for actor in actors {
+            roster.push(actor.copy());
+        }
+        Ok(roster)
     }
 
     /// The number of actors.

@@ -1,7 +1,8 @@
 ghost use Rattle.std.specs.Prelude.{◌≡◌, ◌<◌, [], ◌∷◌, ◌++◌, length, true, false, Some, is_some};
-ghost use Rattle.std.specs.Prelude.{◌↔◌, slice_get, filter, IfOk, IfSome, IsSome, IsTrue};
-ghost use Rattle.std.specs.List.{All};
+ghost use Rattle.std.specs.Prelude.{◌↔◌, ◌≢◌, ◌≤◌, slice_get, filter, IfOk, IfSome, IsSome, IsTrue};
+ghost use Rattle.std.specs.List.{All, AllPairs};
 ghost use Rattle.std.specs.Option.{option_copied, option_map};
+ghost use Rattle.game_model.specs.Grid.{IsOn};
 ghost use Rattle.game_model.specs.World.{actor_of, ids_of, is_alive, is_occupied, living_of};
 ghost use Rattle.actor_table.specs.ActorList.{holder_of};
 ghost use Rattle.game_model.specs.ActorChanges.{changed_at, with_body, moved_to};
@@ -67,6 +68,30 @@ impl ActorTable {
             kinds: KindIndex::create(alloc)?,
             idle: IdleMarks::create(alloc, MAX_ACTORS)?,
         })
+    }
+
+    /// These actors, at most [`MAX_ACTORS`] with rising ids, on cells of the map of which no two
+    /// are the same, with room for [`MAX_ACTORS`]. It takes time by the number of cells and of
+    /// actors, and a sort of the actors. Out of memory is its only error.
+    pub fn filled(alloc: Global, w: u8, h: u8, actors: &[Actor]) -> Result<ActorTable, NoMemory>
+        requires count { length actors.now ≤ MAX_ACTORS }
+        requires on_map { All (λ (a : Actor). IsOn w h a.cell) actors.now }
+        requires rise { AllPairs (λ (a b : Actor). a.id < b.id) actors.now }
+        requires apart { AllPairs (λ (a b : Actor). a.cell ≢ b.cell) actors.now }
+        ensures { IfOk result (λ table. table ≡ (record {
+          width = w;
+          height = h;
+          actors = actors.now;
+        })) }
+    {
+        let mut table = ActorTable {
+            roster: Roster::filled(alloc, actors)?,
+            cells: CellIndex::filled(alloc, w, h, actors)?,
+            kinds: KindIndex::filled(alloc, actors)?,
+            idle: IdleMarks::create(alloc, MAX_ACTORS)?,
+        };
+        table.mark_all();
+        Ok(table)
     }
 
     /// The number of actors.

@@ -1,17 +1,14 @@
--- The numbers of the dead go one by one, and actors fill a table one by one.
-use Rattle.std.proofs.Common.{◌≡◌, ◌≢◌, ℕ, zero, suc, ◌+◌, ◌<◌, ◌≤◌, ◌==◌, Bool, true, false, List, [], ◌∷◌, ◌++◌}
+-- The numbers of the dead go one by one.
+use Rattle.std.proofs.Common.{◌≡◌, ℕ, zero, suc, ◌+◌, ◌<◌, ◌==◌, Bool, true, false, List, [], ◌∷◌, ◌++◌}
 use Rattle.std.proofs.Common.{length, take, drop, map, refl, sym, ap, ap₂, subst, ◌∙◌, arith, add-one, get_or, append_assoc, append-nil}
 use Rattle.std.specs.Prelude.{Some, slice_get, not}
-use Rattle.std.specs.List.{All, AllPairs, filter, list_any}
+use Rattle.std.specs.List.{All, AllPairs, filter}
 use Rattle.std.proofs.lemmas.Bool.Decides.{nat_tests}
 use Rattle.std.proofs.lemmas.List.Elements.{All-nil, All-cons, All-head, All-tail, All-weaker, All-filter, filter-append}
 use Rattle.std.proofs.lemmas.Option.{get_or_from_slice_get, slice_get_within}
-use Rattle.world_units.specs.declared.cell.CPos.{CPos}
-use Rattle.world_units.specs.Cells.{same_cell}
-use Rattle.world_units.specs.CellLemmas.{cell_decides}
 use Rattle.game_model.specs.declared.actor.Actor.{Actor}
 use Rattle.game_model.specs.StartLemmas.{pairs_head, pairs_tail}
-use Rattle.game_model.specs.World.{is_alive, is_occupied}
+use Rattle.game_model.specs.World.{is_alive}
 use Rattle.sync_hash.specs.declared.actor_number.ActorNumber.{ActorNumber}
 use Rattle.sync_hash.specs.Kept.{Kept, numbered, without_number}
 use Rattle.sync_hash.specs.KeptLemmas.{without_numbered}
@@ -122,15 +119,3 @@ pub kept_next :
 kept_next start now new actors i a rise at is_now is_new =
     is_new ∙ ap (λ (k : Kept). record k { actors = without_dead k.actors a }) is_now
     ∙ ap (λ l. with_actors start l) (forgot_next actors i a (map numbered (buried_up_to actors i)) rise at refl)
-
--- A cell that none of the actors has is free.
-pub is_free :
-    (actors : List Actor) (p : CPos) → All (λ (a : Actor). a.cell ≢ p) actors → is_occupied actors p ≡ false
-is_free [] p differ = refl
-is_free (a ∷ actors) p differ =
-    by_cell (same_cell a.cell p) refl (All-head (λ (x : Actor). x.cell ≢ p) a actors differ) (is_free actors p (All-tail (λ (x : Actor). x.cell ≢ p) a actors differ)) where
-      by_cell :
-          (same : Bool) → same_cell a.cell p ≡ same → a.cell ≢ p → is_occupied actors p ≡ false →
-          is_occupied (a ∷ actors) p ≡ false
-      by_cell true is other rest = absurd (other ((cell_decides a.cell p).0 is))
-      by_cell false is other rest = rw is rest

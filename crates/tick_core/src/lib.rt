@@ -16,7 +16,6 @@ mod activity_orders;
 mod blocks;
 mod burial;
 mod departures;
-mod filling;
 mod game;
 mod hashing;
 mod live_world;

@@ -1,6 +1,5 @@
 use crate::blocks::{blocks_of, clear_dead};
 use crate::departures::apply_departures;
-use crate::filling::filled_table;
 use crate::summing::actors_sum;
 use actor_table::ActorTable;
 use base::NoMemory;
@@ -67,7 +66,7 @@ impl Scene {
         ensures { IfOk result (λ scene. scene ≡ (record { setup = record { rules = rules.value; map = map.value }; world = world })) }
     {
         let (width, height) = (map.width, map.height);
-        let table = filled_table(alloc, width, height, world.actors.as_slice())?;
+        let table = ActorTable::filled(alloc, width, height, world.actors.as_slice())?;
         let blocks = blocks_of(alloc, &rules, &map, world.actors.as_slice())?;
         let mut router = Router::create(alloc, width, height)?;
         router.look(&map, &blocks);

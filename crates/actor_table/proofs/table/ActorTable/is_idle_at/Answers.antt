@@ -1,4 +1,3 @@
-use Rattle.std.proofs.Common.{rules}
 use Rattle.actor_table.proofs.IdleCalls.{idle_there}
 use Rattle.actor_table.proofs.table.ActorTable.is_idle_at.Goals as goal
 
