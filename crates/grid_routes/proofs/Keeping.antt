@@ -17,7 +17,7 @@ use Rattle.grid_routes.specs.declared.fields.Kept.{Kept}
 use Rattle.grid_routes.specs.declared.fields.Fields.{Fields}
 use Rattle.grid_routes.specs.declared.search.Search.{Search}
 use Rattle.grid_routes.specs.Steps.{IsGoing, IsSearch}
-use Rattle.grid_routes.specs.Kept.{AreFields, AreForgotten, IsFinal, IsFor, IsKept, IsOwn, IsWidened}
+use Rattle.grid_routes.specs.Kept.{AreFields, AreForgotten, IsFinal, IsFor, IsKeptField, IsOwn, IsWidened}
 use Rattle.grid_routes.proofs.Beginning.{may-go-on}
 
 pub forgotten-none : (old : List Kept) → AreForgotten old old 0
@@ -59,7 +59,7 @@ none-going (Some ask) P none = absurd (cc)
 -- Forgotten fields are kept over any ground.
 pub forgotten-kept :
     (w h : ℕ) (terrain terrain' : Grid Terrain) (built built' : Grid Bool) (old new : List Kept) →
-    AreForgotten old new (length old) → All (IsKept w h terrain built) old → All (IsKept w h terrain' built') new
+    AreForgotten old new (length old) → All (IsKeptField w h terrain built) old → All (IsKeptField w h terrain' built') new
 forgotten-kept w h terrain terrain' built built' old new forgotten kept = λ k d within.
     let inside : k < length old = omega (arith, forgotten.same) in
     let was = kept k d inside in
@@ -71,12 +71,12 @@ forgotten-kept w h terrain terrain' built built' old new forgotten kept = λ k d
 -- One more field, which is only room.
 pub widened-kept :
     (w h : ℕ) (terrain : Grid Terrain) (built : Grid Bool) (old new : List Kept) → IsWidened w h old new →
-    All (IsKept w h terrain built) old → All (IsKept w h terrain built) new
+    All (IsKeptField w h terrain built) old → All (IsKeptField w h terrain built) new
 widened-kept w h terrain built old new (inl same) kept =
-    subst (λ (l : List Kept). All (IsKept w h terrain built) l) (sym same) kept
+    subst (λ (l : List Kept). All (IsKeptField w h terrain built) l) (sym same) kept
 widened-kept w h terrain built old new (inr (more, room, is)) kept =
-    let P : Kept → Type 0 = IsKept w h terrain built in
-    let one : IsKept w h terrain built more =
+    let P : Kept → Type 0 = IsKeptField w h terrain built in
+    let one : IsKeptField w h terrain built more =
     record { size = room.size; going = none-going more.ask _ room.none } in
     subst (λ (l : List Kept). All P l) (sym is)
     (All-append P old (more ∷ []) kept (All-cons P more [] one (All-nil P)))
@@ -114,7 +114,7 @@ own-going search (Some ask) own =
 -- A field that is found for a goal and costs may be taken up.
 pub found-going :
     (w h : ℕ) (terrain : Grid Terrain) (built : Grid Bool) (k : Kept) (found : Option Ask) (field : Distances) (ask : Ask) →
-    IsKept w h terrain built k → found ≡ k.ask → field ≡ k.field → found ≡ Some ask →
+    IsKeptField w h terrain built k → found ≡ k.ask → field ≡ k.field → found ≡ Some ask →
     IsGoing (land_over terrain built ask.costs ask.goal) field
 found-going w h terrain built k found field ask kept same_ask same_field is =
     let here : k.ask ≡ Some ask = sym same_ask ∙ is in
@@ -136,9 +136,9 @@ exchanged xs i x e a f g within ask here same =
 
 pub kept-set :
     (w h : ℕ) (terrain : Grid Terrain) (built : Grid Bool) (xs ys : List Kept) (i : ℕ) (x : Kept) →
-    All (IsKept w h terrain built) xs → IsKept w h terrain built x → ys ≡ set xs i x → All (IsKept w h terrain built) ys
+    All (IsKeptField w h terrain built) xs → IsKeptField w h terrain built x → ys ≡ set xs i x → All (IsKeptField w h terrain built) ys
 kept-set w h terrain built xs ys i x kept one is =
-    subst (λ (l : List Kept). All (IsKept w h terrain built) l) (sym is) (All-set (IsKept w h terrain built) xs i x one kept)
+    subst (λ (l : List Kept). All (IsKeptField w h terrain built) l) (sym is) (All-set (IsKeptField w h terrain built) xs i x one kept)
 
 pub turned :
     (g o : Ground) (costs : Costs) (goal : CPos) → g ≡ record o { costs = costs; goal = goal } →
@@ -194,7 +194,7 @@ settled-fields w h f s ask fields asked before entry_costs search size =
         size = record { width = wide; height = high };
         room = search.room ∙ search.full.size ∙ ap (λ n. n * s.field.labels.height) wide ∙ ap (λ n. w * n) high;
         search = subst (λ (o : Option Ask). IfSome o (IsOwn s)) (sym asked) (for-own s ask is_for);
-        kept = subst (λ (g : Ground). All (IsKept w h g.terrain g.built) f.kept.items) (sym entry_costs) fields.kept;
+        kept = subst (λ (g : Ground). All (IsKeptField w h g.terrain g.built) f.kept.items) (sym entry_costs) fields.kept;
         place = fields.place;
       },
     )
@@ -202,13 +202,13 @@ settled-fields w h f s ask fields asked before entry_costs search size =
 -- A kept field that belongs to this, read over its ground.
 pub read-going :
     (w h : ℕ) (terrain : Grid Terrain) (built : Grid Bool) (kept : List Kept) (place : ℕ) (k : Kept) (ask : Ask)
-    (p : CPos) (t : Ground) → All (IsKept w h terrain built) kept → slice_get kept place ≡ Some k →
+    (p : CPos) (t : Ground) → All (IsKeptField w h terrain built) kept → slice_get kept place ≡ Some k →
     IsFinal ask p k → t ≡ ground_of terrain built ask.costs ask.goal → IsOn w h p →
     IsGoing (record { entry_cost = entry_cost_in t; goal = ask.goal }) k.field × IsOn k.field.labels.width k.field.labels.height p
 read-going w h terrain built kept place k ask p t all at final is on =
     let here : get_or kept place k ≡ k = get_or_from_slice_get kept place k k at in
-    let one : IsKept w h terrain built k =
-    subst (λ (x : Kept). IsKept w h terrain built x) here (all place k (slice_get_within kept place k at)) in
+    let one : IsKeptField w h terrain built k =
+    subst (λ (x : Kept). IsKeptField w h terrain built x) here (all place k (slice_get_within kept place k at)) in
     let going : IsGoing (land_over terrain built ask.costs ask.goal) k.field =
     asked-for (λ a. IsGoing (land_over terrain built a.costs a.goal) k.field) k.ask ask final.asked one.going in (
       subst (λ (g : Ground). IsGoing (record { entry_cost = entry_cost_in g; goal = ask.goal }) k.field) (sym is) going,

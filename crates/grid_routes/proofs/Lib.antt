@@ -15,4 +15,5 @@ pub mod Looking
 pub mod Lowering
 pub mod Shelves
 pub mod Shortest
+pub mod Spreading
 pub mod Walking

@@ -14,7 +14,7 @@ use Rattle.grid_routes.specs.Steps.{IsGoing, IsSearch}
 
 -- A kept field has the size of the map. If it belongs to a goal and costs, then a search for these
 -- over this ground made it.
-pub record IsKept (w h : ℕ) (terrain : Grid Terrain) (built : Grid Bool) (kept : Kept) : Type 0
+pub record IsKeptField (w h : ℕ) (terrain : Grid Terrain) (built : Grid Bool) (kept : Kept) : Type 0
   where
     pub size : HasSize w h kept.field.labels
     pub going :
@@ -62,7 +62,7 @@ pub record AreFields (w h : ℕ) (fields : Fields) : Type 0 where
   pub size : HasSize w h fields.search.field.labels
   pub room : fields.search.buckets.room ≡ w * h
   pub search : IfSome fields.ask (IsOwn fields.search)
-  pub kept : All (IsKept w h fields.search.entry_costs.terrain fields.search.entry_costs.built)
+  pub kept : All (IsKeptField w h fields.search.entry_costs.terrain fields.search.entry_costs.built)
       fields.kept.items
   pub place : fields.place < length fields.kept.items
 

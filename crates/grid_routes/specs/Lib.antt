@@ -12,5 +12,6 @@ pub mod Labels
 pub mod Least
 pub mod Held
 pub mod Steps
+pub mod Spreading
 pub mod Routing
 pub mod Questions

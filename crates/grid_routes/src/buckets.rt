@@ -1,8 +1,13 @@
-ghost use Rattle.std.specs.Prelude.{◌≡◌, ℕ, ◌+◌, ◌*◌, ◌<◌, ◌≤◌, length, true, false};
+ghost use Rattle.std.specs.Prelude.{◌≡◌, ℕ, ◌+◌, ◌*◌, ◌%◌, ◌<◌, ◌≤◌, length, true, false};
 ghost use Rattle.std.specs.Prelude.{vec_capacity, IfOk, IsTrue};
-ghost use Rattle.grid_routes.specs.Held.{HasRows, IsAt, IsWhole, emptied, len_of, pushed, tried};
-ghost use Rattle.grid_routes.specs.Held.{widened};
+ghost use Rattle.world_units.specs.declared.cell.CPos.{CPos};
+ghost use Rattle.grid_routes.specs.Beside.{IsPlaced};
+ghost use Rattle.grid_routes.specs.Labels.{IsFull, label_of};
+ghost use Rattle.grid_routes.specs.Held.{HasRows, IsAt, IsWhole, emptied, len_of, pushed, widened};
+ghost use Rattle.grid_routes.specs.Spreading.{AreOffers, IsSpread, grid_of};
 
+use crate::beside::Placed;
+use crate::offers::{Offers, bucket_of, offer_all};
 use base::NoMemory;
 use std::alloc::Global;
 use std::marker::Model;
@@ -102,17 +107,45 @@ impl Buckets {
         (self.lens[bucket] + 8) * 71 <= self.cells.len()
     }
 
-    /// Writes a cell after the last one of a bucket, which holds it from then on only if so told.
+    /// Offers all neighbours of a cell of the map their labels, and puts those that take them into
+    /// their buckets.
     #[inline(always)]
-    pub(crate) fn try_push(&mut self, bucket: usize, p: CPos, held: bool)
-        requires bucket { bucket < 71 }
-        requires row { HasRows self.old bucket 1 }
-        ensures value { self.new ≡ tried self.old bucket p held }
-        ensures whole { IsWhole self.old }
+    pub(crate) fn offer_all(
+        &mut self,
+        labels: &mut [u32],
+        q: Placed,
+        offers: &Offers,
+        width: u8,
+        height: u8,
+    )
+        requires full { IsFull (grid_of width height labels.old) }
+        requires here { IsPlaced width height q }
+        requires straight_rows { HasRows self.old (offers.now.straight % 71) 8 }
+        requires across_rows { HasRows self.old (offers.now.across % 71) 8 }
+        ensures labels { length labels.new ≡ length labels.old }
+        ensures spread { (entry_cost : CPos → ℕ) (level : ℕ) →
+            AreOffers entry_cost q.cell level offers.now →
+            label_of (grid_of width height labels.old) q.cell ≡ level →
+            IsSpread entry_cost q.cell level (grid_of width height labels.old) self.old
+            (grid_of width height labels.new) self.new }
     {
-        let len = self.lens[bucket];
-        self.cells[len * 71 + bucket] = p;
-        self.lens[bucket] = len + usize::from(held);
+        let sides = bucket_of(offers.straight);
+        let corners = bucket_of(offers.across);
+        let mut straight = self.lens[sides];
+        let mut across = self.lens[corners];
+        let cells = self.cells.as_mut_slice();
+        offer_all(
+            labels,
+            cells,
+            &mut straight,
+            &mut across,
+            q,
+            offers,
+            width,
+            height,
+        );
+        self.lens[sides] = straight;
+        self.lens[corners] = across;
     }
 
     /// How many cells a bucket holds.

@@ -1,9 +1,14 @@
-ghost use Rattle.std.specs.Prelude.{◌≡◌, IfOk, IfSome};
+ghost use Rattle.std.specs.Prelude.{◌≡◌, ℕ, ◌%◌, IfOk, IfSome};
+ghost use Rattle.world_units.specs.declared.cell.CPos.{CPos};
 ghost use Rattle.game_model.specs.Grid.{IsOn, HasSize, is_on, place_of, with_cell};
 ghost use Rattle.grid_routes.specs.Beside.{IsPlaced};
 ghost use Rattle.grid_routes.specs.Labels.{IsFull, label_of, begun};
+ghost use Rattle.grid_routes.specs.Held.{HasRows};
+ghost use Rattle.grid_routes.specs.Spreading.{AreOffers, IsSpread};
 
 use crate::beside::Placed;
+use crate::buckets::Buckets;
+use crate::offers::Offers;
 use base::NoMemory;
 use std::alloc::Global;
 use std::marker::Model;
@@ -145,6 +150,24 @@ impl Field {
         ensures full { IsFull self.old.labels }
     {
         self.labels[n.at] = label;
+    }
+
+    /// Offers all neighbours of a cell of the map their labels, and puts those that take them into
+    /// their buckets, which have rows for all.
+    #[inline(always)]
+    pub(crate) fn offer_all(&mut self, buckets: &mut Buckets, q: Placed, offers: &Offers)
+        requires here { IsPlaced self.old.labels.width self.old.labels.height q }
+        requires straight_rows { HasRows buckets.old (offers.now.straight % 71) 8 }
+        requires across_rows { HasRows buckets.old (offers.now.across % 71) 8 }
+        ensures level { self.new.level ≡ self.old.level }
+        ensures spread { (entry_cost : CPos → ℕ) (level : ℕ) →
+            AreOffers entry_cost q.cell level offers.now →
+            label_of self.old.labels q.cell ≡ level →
+            IsSpread entry_cost q.cell level self.old.labels buckets.old self.new.labels
+            buckets.new }
+    {
+        let labels = self.labels.as_mut_slice();
+        buckets.offer_all(labels, q, offers, self.width, self.height);
     }
 
     /// Up to this the labels are final.

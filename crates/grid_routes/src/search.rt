@@ -16,7 +16,7 @@ use crate::best_direction::least_lead;
 use crate::buckets::{BUCKETS, Buckets};
 use crate::entry_costs::{ACROSS, EntryCosts, STRAIGHT};
 use crate::field::{Field, NONE};
-use crate::offers::{bucket_of, offer, try_offer};
+use crate::offers::{Offers, bucket_of, offer};
 use crate::route::Route;
 use base::{List, NoMemory};
 use rule_traits::Costs;
@@ -194,8 +194,7 @@ impl Search {
     }
 
     /// Offers each neighbour of a cell the walk that enters the cell, where the buckets have rows
-    /// for all. A neighbour's label and the end of its bucket are written in any case, so that
-    /// nothing has to be decided by a jump.
+    /// for all.
     #[inline(always)]
     fn spread_inside(&mut self, q: Placed, entry_cost: u32, level: u32, width: u8, height: u8)
         requires full { IsFull self.old.field.labels }
@@ -216,73 +215,12 @@ impl Search {
         ensures done { IsExpanded (entry_cost_in self.old.entry_costs) self.new.field.labels level
             q.cell }
     {
-        let corners = self.entry_costs.corners(q, entry_cost, width, height);
-        let (straight, across) = (STRAIGHT * entry_cost, ACROSS * entry_cost);
-        let north = above(q, width, height);
-        let south = below(q, width, height);
-        let (field, buckets) = (&mut self.field, &mut self.buckets);
-        try_offer(
-            field, buckets, q, north, true, straight, level, width, height,
-        );
-        let north_east = right_of(q, north, width, height);
-        try_offer(
-            field,
-            buckets,
-            q,
-            north_east,
-            corners.north_east,
-            across,
-            level,
-            width,
-            height,
-        );
-        let east = right(q, width, height);
-        try_offer(
-            field, buckets, q, east, true, straight, level, width, height,
-        );
-        let south_east = right_of(q, south, width, height);
-        try_offer(
-            field,
-            buckets,
-            q,
-            south_east,
-            corners.south_east,
-            across,
-            level,
-            width,
-            height,
-        );
-        try_offer(
-            field, buckets, q, south, true, straight, level, width, height,
-        );
-        let south_west = left_of(q, south, width, height);
-        try_offer(
-            field,
-            buckets,
-            q,
-            south_west,
-            corners.south_west,
-            across,
-            level,
-            width,
-            height,
-        );
-        let west = left(q, width, height);
-        try_offer(
-            field, buckets, q, west, true, straight, level, width, height,
-        );
-        let north_west = left_of(q, north, width, height);
-        try_offer(
-            field,
-            buckets,
-            q,
-            north_west,
-            corners.north_west,
-            across,
-            level,
-            width,
-            height,
-        );
+        let offers = Offers {
+            straight: level + STRAIGHT * entry_cost,
+            across: level + ACROSS * entry_cost,
+            corners: self.entry_costs.corners(q, entry_cost, width, height),
+        };
+        self.field.offer_all(&mut self.buckets, q, &offers);
     }
 
     /// Offers each neighbour of a cell the walk that enters the cell, at its place on a map of this

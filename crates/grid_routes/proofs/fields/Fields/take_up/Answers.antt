@@ -3,7 +3,7 @@ use Rattle.std.specs.List.{All}
 use Rattle.game_model.specs.Grid.{HasSize}
 use Rattle.grid_routes.specs.EntryCosts.{Ground}
 use Rattle.grid_routes.specs.Labels.{Distances}
-use Rattle.grid_routes.specs.Kept.{IsKept}
+use Rattle.grid_routes.specs.Kept.{IsKeptField}
 use Rattle.grid_routes.specs.declared.fields.Kept.{Kept}
 use Rattle.grid_routes.proofs.Asking.{found-ask, not-false, not-true, take-asks}
 use Rattle.grid_routes.proofs.Keeping.{for-own, found-going, kept-set, turned}
@@ -44,7 +44,7 @@ returns-clause-fields c =
         entry_costs = turned new.entry_costs old.search.entry_costs c.args.ask.now.costs c.args.ask.now.goal c.set_out.ensures.entry_costs;
         going = c.set_out.ensures.search;
       });
-      kept = subst (λ (g : Ground). All (IsKept w h g.terrain g.built) c.exchange-found.new.kept.items) (sym c.set_out.ensures.entry_costs)
+      kept = subst (λ (g : Ground). All (IsKeptField w h g.terrain g.built) c.exchange-found.new.kept.items) (sym c.set_out.ensures.entry_costs)
           (kept-set w h old.search.entry_costs.terrain old.search.entry_costs.built old.kept.items c.exchange-found.new.kept.items
           c.args.place room f.kept (record { size = f.size; going = tt }) c.exchange-found.ensures.kept);
       place = rw (c.exchange-found.ensures.kept, length-set old.kept.items c.args.place room) c.requires.place;

@@ -1,47 +1,25 @@
-use Rattle.std.proofs.Common.{arith}
+use Rattle.std.proofs.Common.{refl}
 use Rattle.grid_routes.specs.EntryCosts.{entry_cost_in}
-use Rattle.grid_routes.proofs.Expanding.{offered-all, offered-eight}
 use Rattle.grid_routes.proofs.search.Search.spread_inside.Goals as goal
-
-pub returns-clause-level : goal.returns-clause-level
-returns-clause-level c =
-    let entry_cost = entry_cost_in c.args.self.now.entry_costs in
-    let step_costs = c.corners-corners.ensures in
-    (offered-eight entry_cost c.args.q.cell c.args.level _ _ _ _ _ _ _ _ _ _ _ _ _ _ _ _ _ _
-    (c.try_offer.ensures.offers entry_cost 0 (omega arith) step_costs.north c.above-north.ensures.beside)
-    (c.try_offer-2.ensures.offers entry_cost 1 (omega arith) step_costs.north_east (c.right_of-north_east.ensures.above c.above-north.ensures.beside))
-    (c.try_offer-3.ensures.offers entry_cost 2 (omega arith) step_costs.east c.right-east.ensures.beside)
-    (c.try_offer-4.ensures.offers entry_cost 3 (omega arith) step_costs.south_east (c.right_of-south_east.ensures.below c.below-south.ensures.beside))
-    (c.try_offer-5.ensures.offers entry_cost 4 (omega arith) step_costs.south c.below-south.ensures.beside)
-    (c.try_offer-6.ensures.offers entry_cost 5 (omega arith) step_costs.south_west (c.left_of-south_west.ensures.below c.below-south.ensures.beside))
-    (c.try_offer-7.ensures.offers entry_cost 6 (omega arith) step_costs.west c.left-west.ensures.beside)
-    (c.try_offer-8.ensures.offers entry_cost 7 (omega arith) step_costs.north_west (c.left_of-north_west.ensures.above c.above-north.ensures.beside))).same_level
 
 pub returns-clause-lowers : goal.returns-clause-lowers
 returns-clause-lowers c =
-    let entry_cost = entry_cost_in c.args.self.now.entry_costs in
-    let step_costs = c.corners-corners.ensures in
-    (offered-eight entry_cost c.args.q.cell c.args.level _ _ _ _ _ _ _ _ _ _ _ _ _ _ _ _ _ _
-    (c.try_offer.ensures.offers entry_cost 0 (omega arith) step_costs.north c.above-north.ensures.beside)
-    (c.try_offer-2.ensures.offers entry_cost 1 (omega arith) step_costs.north_east (c.right_of-north_east.ensures.above c.above-north.ensures.beside))
-    (c.try_offer-3.ensures.offers entry_cost 2 (omega arith) step_costs.east c.right-east.ensures.beside)
-    (c.try_offer-4.ensures.offers entry_cost 3 (omega arith) step_costs.south_east (c.right_of-south_east.ensures.below c.below-south.ensures.beside))
-    (c.try_offer-5.ensures.offers entry_cost 4 (omega arith) step_costs.south c.below-south.ensures.beside)
-    (c.try_offer-6.ensures.offers entry_cost 5 (omega arith) step_costs.south_west (c.left_of-south_west.ensures.below c.below-south.ensures.beside))
-    (c.try_offer-7.ensures.offers entry_cost 6 (omega arith) step_costs.west c.left-west.ensures.beside)
-    (c.try_offer-8.ensures.offers entry_cost 7 (omega arith) step_costs.north_west (c.left_of-north_west.ensures.above c.above-north.ensures.beside))).lowers
+    (c.offer_all.ensures.spread (entry_cost_in c.args.self.now.entry_costs) c.args.level (record {
+      cost = c.args.entry_cost;
+      some = c.requires.some;
+      cheap = c.requires.cheap;
+      straight = refl;
+      across = refl;
+      step_costs = c.corners.ensures;
+    }) c.requires.from).lowers
 
 pub returns-clause-done : goal.returns-clause-done
 returns-clause-done c =
-    let entry_cost = entry_cost_in c.args.self.now.entry_costs in
-    let step_costs = c.corners-corners.ensures in
-    offered-all entry_cost _ _ _ _ c.args.q.cell c.args.level c.requires.full
-    (offered-eight entry_cost c.args.q.cell c.args.level _ _ _ _ _ _ _ _ _ _ _ _ _ _ _ _ _ _
-    (c.try_offer.ensures.offers entry_cost 0 (omega arith) step_costs.north c.above-north.ensures.beside)
-    (c.try_offer-2.ensures.offers entry_cost 1 (omega arith) step_costs.north_east (c.right_of-north_east.ensures.above c.above-north.ensures.beside))
-    (c.try_offer-3.ensures.offers entry_cost 2 (omega arith) step_costs.east c.right-east.ensures.beside)
-    (c.try_offer-4.ensures.offers entry_cost 3 (omega arith) step_costs.south_east (c.right_of-south_east.ensures.below c.below-south.ensures.beside))
-    (c.try_offer-5.ensures.offers entry_cost 4 (omega arith) step_costs.south c.below-south.ensures.beside)
-    (c.try_offer-6.ensures.offers entry_cost 5 (omega arith) step_costs.south_west (c.left_of-south_west.ensures.below c.below-south.ensures.beside))
-    (c.try_offer-7.ensures.offers entry_cost 6 (omega arith) step_costs.west c.left-west.ensures.beside)
-    (c.try_offer-8.ensures.offers entry_cost 7 (omega arith) step_costs.north_west (c.left_of-north_west.ensures.above c.above-north.ensures.beside)))
+    (c.offer_all.ensures.spread (entry_cost_in c.args.self.now.entry_costs) c.args.level (record {
+      cost = c.args.entry_cost;
+      some = c.requires.some;
+      cheap = c.requires.cheap;
+      straight = refl;
+      across = refl;
+      step_costs = c.corners.ensures;
+    }) c.requires.from).done
