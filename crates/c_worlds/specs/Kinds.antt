@@ -5,7 +5,6 @@ use Rattle.game_orders.specs.Order.{flag_number}
 use Rattle.rule_traits.specs.declared.kind.Kind.{Kind}
 use Rattle.rule_traits.specs.declared.trait_fields.Armament.{Armament}
 use Rattle.rule_traits.specs.declared.trait_fields.Buildable.{Buildable}
-use Rattle.rule_traits.specs.declared.trait_fields.Costs.{Costs}
 use Rattle.rule_traits.specs.declared.trait_fields.Harvester.{Harvester}
 use Rattle.rule_traits.specs.declared.trait_fields.Mobile.{Mobile}
 use Rattle.rule_traits.specs.declared.trait_fields.Refinery.{Refinery}

@@ -1,5 +1,5 @@
 -- The cases of the step of an attack.
-use Rattle.std.proofs.Common.{◌≡◌, ◌≢◌, ℕ, eqb, Bool, true, false, Some, None, inl, inr, refl, sym}
+use Rattle.std.proofs.Common.{◌≡◌, ◌≢◌, ℕ, Bool, true, false, Some, None, inl, inr, refl, sym}
 use Rattle.std.specs.Prelude.{nat_le}
 use Rattle.std.proofs.lemmas.Bool.Decides.{eqb_tells}
 use Rattle.world_units.specs.Cells.{dist_sq_of, square}
@@ -14,7 +14,7 @@ use Rattle.game_model.specs.World.{actor_of, living_of}
 use Rattle.game_model.specs.Kinds.{kind_of, range_in}
 use Rattle.game_tick.specs.Acts.{popped}
 use Rattle.game_tick.specs.Attacking.{after_attack, hit_by, points_of, reloading}
-use Rattle.game_model.specs.FoundLemmas.{IdsRise, found_id}
+use Rattle.game_model.specs.FoundLemmas.{found_id}
 use Rattle.actor_table.specs.Table.{Table}
 use Rattle.motion.specs.Steps.{gone_by_id}
 use Rattle.combat.specs.Attacks.{IsFought}

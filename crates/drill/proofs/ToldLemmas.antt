@@ -1,7 +1,7 @@
 -- Who was dropped, or said farewell, has left: proofs.
 use Rattle.std.proofs.Common.{◌≡◌, ℕ, true, suc, ◌<◌, List, length}
-use Rattle.std.proofs.Common.{refl, ap, subst, ◌∙◌, sym, inl, inr}
-use Rattle.std.specs.Prelude.{◌⊎◌, Option, Some, slice_get, slice_set}
+use Rattle.std.proofs.Common.{ap, subst, ◌∙◌, sym, inl, inr}
+use Rattle.std.specs.Prelude.{◌⊎◌, Option, slice_set}
 use Rattle.frame_core.specs.Column.{Column, no_column, left_column, column_of}
 use Rattle.frame_core.specs.GrowsLemmas.{Grows-column}
 use Rattle.frame_core.specs.Match.{Match}
@@ -11,7 +11,6 @@ use Rattle.drill_words.specs.declared.event.Event.TheVariants.{Up, DropClient}
 use Rattle.drill.specs.declared.sent.Sent.{Sent}
 use Rattle.drill.specs.Record.{columns_after_up}
 use Rattle.drill.specs.Agreement.{record_after, ColumnsOnlyGrow, WasDropped, SaidFarewell}
-use Rattle.drill.proofs.DepartureLemmas.{bye_of}
 use Rattle.drill.proofs.GrownLemmas.{columns_only_grow, length_columns}
 use Rattle.drill.proofs.RecordLemmas.{next_record, set_here}
 

@@ -1,8 +1,6 @@
 -- A drill that is being made, and what is added to it.
 use Rattle.std.specs.Prelude.{ℕ, ◌+◌, ◌==◌, if◌then◌else◌, List, [], ◌∷◌, ◌++◌, length}
-use Rattle.twister.specs.Place.{Place, after_word, start_of}
-use Rattle.twister.specs.Sequence.{draw_of}
-use Rattle.game_orders.specs.declared.order.Order.{Order}
+use Rattle.twister.specs.Place.{Place, start_of}
 use Rattle.drill_words.specs.declared.event.Event.{Event}
 use Rattle.drill_words.specs.declared.event.Event.TheVariants.{Seal}
 use Rattle.drill.specs.Drawing.{below}

@@ -1,10 +1,9 @@
 -- A whole run of a command over links, over plain values.
-use Rattle.std.proofs.Common.{◌≡◌, ◌≤◌, ◌⊎◌, ℕ, List, [], Option, None, Some, Result, Ok, Err, IsOk, IfOk, IfSome, IfNone, IsSome, refl, sym, ap, subst, inl, inr, arith, ◌∙◌}
+use Rattle.std.proofs.Common.{◌≡◌, ◌≤◌, ◌⊎◌, ℕ, List, [], Option, None, Some, Result, Ok, Err, IsOk, IfOk, IfSome, IfNone, refl, sym, ap, subst, inl, inr, ◌∙◌}
 use Rattle.base.specs.Cause.{Increased}
 use Rattle.base.specs.Steps.{◌>>=◌}
 use Rattle.base.specs.Written.{WrotePrefix, Wrote-nil}
 use Rattle.game_io.specs.Files.{Files}
-use Rattle.game_io.specs.DiskState.{DiskState}
 use Rattle.game_io.specs.SinkState.{SinkState}
 use Rattle.command_answers.specs.declared.answer.Answer.{Answer}
 use Rattle.command_answers.specs.declared.statuses.TheConstants.{OUT_OF_MEMORY}
@@ -20,7 +19,7 @@ use Rattle.command_answers.specs.Reply.{Reply, refusal, read_fault}
 use Rattle.command_answers.specs.Step.{Step}
 use Rattle.command_answers.specs.Stop.{IsReadStop, IsStepStop, IsOpaqueStop, PrintsStop}
 use Rattle.command_answers.specs.WantedFiles.{WantedFiles, in_order}
-use Rattle.link_commands.specs.Links.{WithLinks, with_links, RunsLinked, Begins, EndsBefore, IsApart, IsObservableStart, IsOpaqueStart, MadePrints, causes_by}
+use Rattle.link_commands.specs.Links.{WithLinks, RunsLinked, Begins, EndsBefore, IsApart, IsObservableStart, IsOpaqueStart, MadePrints, causes_by}
 
 -- ---- printed replies
 

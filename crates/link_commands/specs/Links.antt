@@ -1,5 +1,5 @@
 -- A run of a command over links: its files decide first, and then what comes over the links.
-use Rattle.std.specs.Prelude.{◌≡◌, ◌≢◌, ℕ, ◌⊎◌, Option, None, Result, Ok, Err, IsOk, IfSome, IfNone}
+use Rattle.std.specs.Prelude.{◌≡◌, ◌≢◌, ℕ, ◌⊎◌, None, Result, Ok, Err, IsOk, IfSome, IfNone}
 use Rattle.base.specs.Cause.{Increased}
 use Rattle.base.specs.Steps.{◌>>=◌}
 use Rattle.game_io.specs.DiskState.{DiskState}

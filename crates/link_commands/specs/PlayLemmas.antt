@@ -1,5 +1,5 @@
 -- What is known of a match that was played over a link, over plain values.
-use Rattle.std.proofs.Common.{◌≡◌, ◌≤◌, ◌<◌, ◌+◌, ◌-◌, ◌⊎◌, ℕ, List, length, Option, None, Some, Result, Ok, Err, IsOk, min, refl, sym, ap, subst, inl, inr, arith, ◌∙◌}
+use Rattle.std.proofs.Common.{◌≡◌, ◌≤◌, ◌<◌, ◌+◌, ◌-◌, ◌⊎◌, ℕ, List, length, Option, min, sym, subst, inl, inr, arith, ◌∙◌}
 use Rattle.std.specs.Prelude.{◌^◌}
 use Rattle.base.specs.Cause.{Increased}
 use Rattle.game_io.specs.NetState.{NetState, link_faults}
@@ -13,8 +13,7 @@ use Rattle.match_net.specs.declared.play_end.PlayEnd.TheVariants as end
 use Rattle.match_net.specs.Playing.{Stage}
 use Rattle.match_net.specs.PlayMatch.{EndsBy}
 use Rattle.match_net.specs.Stages.{Terms}
-use Rattle.command_answers.specs.declared.statuses.TheConstants.{DONE, REFUSED_FILE, FAULT_READ, OUT_OF_MEMORY}
-use Rattle.command_answers.specs.Causes.{Causes, IsQuiet}
+use Rattle.command_answers.specs.declared.statuses.TheConstants.{DONE, REFUSED_FILE, OUT_OF_MEMORY}
 use Rattle.command_answers.specs.CausesLemmas.{HasCauses, done_settled, file_settled, at_memory, at_read}
 use Rattle.command_answers.specs.Printing.{MayPrintReply}
 use Rattle.command_answers.specs.Reply.{Reply}

@@ -5,7 +5,7 @@ use Rattle.frame_core.specs.declared.summary.Summary.{Summary}
 use Rattle.drill.specs.Text.{world_text, end_line}
 use Rattle.match_net.specs.declared.play_end.PlayEnd.{PlayEnd}
 use Rattle.match_net.specs.declared.play_end.PlayEnd.TheVariants as end
-use Rattle.command_answers.specs.declared.statuses.TheConstants.{DONE, REFUSED_FILE, FAULT_READ}
+use Rattle.command_answers.specs.declared.statuses.TheConstants.{REFUSED_FILE, FAULT_READ}
 use Rattle.command_answers.specs.Reply.{Reply, done, printed}
 use Rattle.link_commands.specs.CauseNames.{play_name}
 

@@ -1,5 +1,5 @@
 -- A script that is played over the first link of a net, which was handed back to the net then.
-use Rattle.std.specs.Prelude.{◌≡◌, ◌⊎◌, ℕ, ◌≤◌, [], ◌∷◌, drop, Option, Some, Result, Ok, Err}
+use Rattle.std.specs.Prelude.{◌≡◌, ◌⊎◌, ℕ, ◌≤◌, [], ◌∷◌, drop, Option, Some}
 use Rattle.std.specs.Option.{option_map}
 use Rattle.base.specs.Cause.{Increased}
 use Rattle.game_io.specs.NetState.{NetState, IsNewLink, taken_back}

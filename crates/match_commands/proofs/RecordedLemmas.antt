@@ -1,5 +1,5 @@
 -- What is known of a run of `serve` that records its match, over plain values.
-use Rattle.std.proofs.Common.{◌≡◌, ◌≤◌, ◌⊎◌, ◌∙◌, ℕ, List, Option, None, Some, Result, Ok, Err, IsOk, IfSome, IfNone, refl, sym, subst, inl, inr, arith}
+use Rattle.std.proofs.Common.{◌≡◌, ◌≤◌, ◌⊎◌, ◌∙◌, ℕ, List, Some, Result, Ok, Err, IsOk, IfSome, IfNone, refl, sym, subst, inl, inr, arith}
 use Rattle.base.specs.Cause.{Increased}
 use Rattle.game_io.specs.DiskState.{DiskState}
 use Rattle.game_io.specs.NetState.{NetState}
@@ -13,7 +13,7 @@ use Rattle.command_answers.specs.FileWrite.{OnlyChanges}
 use Rattle.command_answers.specs.Step.{Step}
 use Rattle.command_answers.specs.Stop.{IsReadStop, IsOpaqueStop, PrintsStop, ReturnsStep}
 use Rattle.command_answers.specs.WantedFiles.{WantedFiles, in_order, rules_and_map}
-use Rattle.link_commands.specs.Links.{WithLinks, with_links, Begins, EndsBefore, IsApart}
+use Rattle.link_commands.specs.Links.{WithLinks, with_links, Begins, EndsBefore}
 use Rattle.link_commands.specs.LinkLemmas.{IsCaused, linked_given, linked_stopped, stop_begins, stop_caused}
 use Rattle.serve_command.specs.Records.{recording_causes}
 use Rattle.serve_command.specs.RecordsLemmas.{records_caused, records_changes, widen_caused, widen_runs}

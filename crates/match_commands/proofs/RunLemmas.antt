@@ -3,7 +3,7 @@ use Rattle.std.specs.Prelude.{◌==◌, option_and_then, unwrap_or, if◌then◌
 use Rattle.std.proofs.Common.{◌≡◌, ◌⊎◌, ℕ, Bool, true, false, List, [], Option, None, Some, Ok, Err, IsOk, IfSome, IfNone, ◌≢◌, refl, sym, subst, inl, inr, arith}
 use Rattle.command_words.specs.RequestPlain.{RequestPlain, MatchPlain, Drill, Yaml, Check, Route, Make, Local, Serve, Play, Replay, Migrate, Save, Continue, View, Worlds, Compare, Datagrams, PlayBot}
 use Rattle.game_io.specs.Files.{Files}
-use Rattle.command_answers.specs.declared.statuses.TheConstants.{DONE, REFUSED_FILE, FAULT_READ, FAULT_WRITE, OUT_OF_MEMORY, MARK_DIFFERS}
+use Rattle.command_answers.specs.declared.statuses.TheConstants.{DONE, REFUSED_FILE, OUT_OF_MEMORY, MARK_DIFFERS}
 use Rattle.base.specs.Steps.{◌>>=◌}
 use Rattle.command_answers.specs.Step.{Step, replied}
 use Rattle.command_answers.specs.Contents.{Contents, contents_of}

@@ -1,6 +1,6 @@
 -- What later commands answer of the file that a command wrote: its match is kept in it. Rules and
 -- map are the same.
-use Rattle.std.specs.Prelude.{◌≡◌, ℕ, List, [], Option, None, Some, Ok, IfSome, unwrap_or}
+use Rattle.std.specs.Prelude.{◌≡◌, ℕ, [], Option, Some, Ok, IfSome, unwrap_or}
 use Rattle.command_words.specs.RequestPlain.{MatchPlain, RequestPlain, Drill, Migrate, Save}
 use Rattle.drill_words.specs.Drill.{DrillPlain}
 use Rattle.game_io.specs.Files.{Files}

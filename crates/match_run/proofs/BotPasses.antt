@@ -1,5 +1,5 @@
 -- The bots' columns: what the calls of the ticking thread's pass leave of them.
-use Rattle.std.proofs.Common.{◌≡◌, ◌≢◌, ℕ, zero, suc, ◌+◌, ◌-◌, ◌^◌, ◌<◌, ◌≤◌, ◌⊎◌, Bool, true, false, true≢false, List, [], ◌∷◌, ◌++◌, length, map, refl, sym, ap, ap₂, ◌∙◌, subst, inl, inr, ⊎_elim, arith}
+use Rattle.std.proofs.Common.{◌≡◌, ◌≢◌, ℕ, ◌+◌, ◌-◌, ◌^◌, ◌<◌, ◌≤◌, ◌⊎◌, Bool, true, false, true≢false, List, [], ◌∷◌, ◌++◌, length, map, refl, sym, ap, ap₂, ◌∙◌, subst, inl, ⊎_elim, arith}
 use native.Mathlib.Decide.{ℕ_discrete}
 use mathlib.Core.Logic.{dite}
 use Rattle.std.specs.List.{range_with_len}
@@ -15,14 +15,13 @@ use Rattle.frame_core.specs.Column.{Column, after_answer, put_answer, put_column
 use Rattle.drill_words.specs.Scripts.{plays_of}
 use Rattle.frame_table.specs.declared.planned.Planned.{Planned}
 use Rattle.frame_table.specs.declared.planned.Planned.TheVariants.{Free}
-use Rattle.frame_table.specs.declared.seen.Seen.{Seen}
 use Rattle.frame_table.specs.declared.pass.Pass.{Pass}
 use Rattle.frame_table.specs.declared.table.FrameTable.{FrameTable}
 use Rattle.frame_table.specs.Part.{Part, OthersStay}
 use Rattle.frame_table.specs.Word.{one_if}
 use Rattle.frame_table.specs.Steps.{IsFound, published, known_after}
-use Rattle.frame_table.specs.Calls.{plan_of, view_of, standing, IsPassOf, Acted, Unchanged, IsLater, IsLaterPart, MayPut, MayPutPlay, MayLeaveBy, PutsSo, LeavesSo}
-use Rattle.match_run.specs.Feeding.{MayFeed, HasFed, HasEnded, MayFeedAll, HasFedAll, HasEndedAll}
+use Rattle.frame_table.specs.Calls.{plan_of, view_of, standing, IsPassOf, IsLater, IsLaterPart, MayPut, MayPutPlay, MayLeaveBy, PutsSo, LeavesSo}
+use Rattle.match_run.specs.Feeding.{MayFeed, HasFed, HasEnded, HasFedAll, HasEndedAll}
 use Rattle.match_run.specs.Local.{script_column, IsAll}
 use Rattle.match_run.specs.Passes.{FollowsScript, IsLocalPass, KnowsSeen, KnowsAllSeen}
 use Rattle.match_run.proofs.Columns.{open_column, put_last, published_all}

@@ -1,5 +1,5 @@
 -- The passes of a local match: the calls of the table keep what is known of them.
-use Rattle.std.proofs.Common.{◌≡◌, ◌≢◌, ℕ, zero, suc, ◌+◌, ◌-◌, ◌*◌, ◌/◌, ◌^◌, ◌<◌, ◌≤◌, ◌⊎◌, ◌||◌, max, Bool, true, false, true≢false, List, [], ◌∷◌, ◌++◌, length, take, get_or, refl, sym, ap, ◌∙◌, subst, inl, inr, ⊎_elim, arith}
+use Rattle.std.proofs.Common.{◌≡◌, ◌≢◌, ℕ, zero, suc, ◌+◌, ◌-◌, ◌*◌, ◌/◌, ◌^◌, ◌<◌, ◌≤◌, ◌⊎◌, ◌||◌, max, Bool, true, false, List, [], ◌∷◌, ◌++◌, length, take, get_or, refl, sym, ap, ◌∙◌, subst, inl, inr, ⊎_elim, arith}
 use native.Mathlib.Decide.{ℕ_discrete}
 use mathlib.Core.Logic.{dite}
 use Rattle.game_orders.specs.declared.order.Order.{Order}
@@ -8,12 +8,10 @@ use Rattle.frame_core.specs.Grows.{GrowsTo}
 use Rattle.drill_words.specs.Scripts.{plays_of}
 use Rattle.frame_table.specs.declared.seen.Seen.{Seen}
 use Rattle.frame_table.specs.declared.planned.Planned.{Planned}
-use Rattle.frame_table.specs.declared.planned.Planned.TheVariants.{Free, Plays}
-use Rattle.frame_table.specs.declared.view.View.{View}
-use Rattle.frame_table.specs.declared.view.Mark.{Mark}
+use Rattle.frame_table.specs.declared.planned.Planned.TheVariants.{Plays}
 use Rattle.frame_table.specs.declared.pass.Pass.{Pass}
 use Rattle.frame_table.specs.declared.table.FrameTable.{FrameTable}
-use Rattle.frame_table.specs.Part.{Part, part_of, part_in, no_mark}
+use Rattle.frame_table.specs.Part.{Part, part_in, no_mark}
 use Rattle.frame_table.specs.Word.{whole_of}
 use Rattle.frame_table.specs.Rule.{Follows}
 use Rattle.frame_table.specs.Steps.{IsWithinPlan, IsFound, known_after}
@@ -21,11 +19,11 @@ use Rattle.frame_table.specs.Passes.{joined_mark, joined_view, further}
 use Rattle.frame_table.specs.Calls.{plan_of, view_of, standing, IsPassOf, Acted, Unchanged, IsLater, IsLaterPart, MayPut, MayPutPlay, MayLeaveBy, PutsSo, LeavesSo}
 use Rattle.match_run.specs.declared.client_pass.ClientPass.{ClientPass}
 use Rattle.match_run.specs.Local.{script_column, IsAll}
-use Rattle.match_run.specs.Feeding.{HasEnded, HasEndedAll}
+use Rattle.match_run.specs.Feeding.{HasEndedAll}
 use Rattle.match_run.proofs.Splitting.{Scripts, shares_push, part_joined, joined_share}
 use Rattle.match_run.specs.Passes.{script_plan, FollowsScript, IsLocalPass, KnowsSeen, KnowsAllSeen, IsClientPass, shares_of}
 use Rattle.std.specs.Prelude.{slice_get, All, Some}
-use Rattle.std.proofs.lemmas.List.Elements.{All-nil, All-push, All-pop}
+use Rattle.std.proofs.lemmas.List.Elements.{All-pop}
 use Rattle.game_orders.specs.declared.entry.Entry.TheVariants.{Play}
 use Rattle.game_orders.specs.declared.limits.TheConstants.{MAX_FRAMES}
 use Rattle.frame_core.specs.Column.{left_column, put_column}

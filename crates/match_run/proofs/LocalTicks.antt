@@ -1,19 +1,19 @@
 -- The ticking thread.
-use Rattle.std.proofs.Common.{◌≡◌, true, ℕ, zero, suc, ◌+◌, ◌<◌, ◌≤◌, ◌⊎◌, List, [], ◌∷◌, ◌++◌, length, map, take, refl, sym, ap, ap₂, ◌∙◌, subst, inl, inr, ⊎_elim, arith}
+use Rattle.std.proofs.Common.{◌≡◌, true, ℕ, suc, ◌+◌, ◌<◌, ◌≤◌, ◌⊎◌, List, [], ◌∷◌, ◌++◌, length, map, take, refl, sym, ap, ◌∙◌, subst, arith}
 use Rattle.std.specs.List.{range_with_len}
 use Rattle.std.proofs.lemmas.List.FromFn.{length-map-range_with_len}
 use Rattle.game_orders.specs.declared.order.Order.{Order}
 use Rattle.game_orders.specs.declared.entry.Entry.{Entry}
 use Rattle.game_orders.specs.declared.entry.Entry.TheVariants.{Play}
-use Rattle.frame_core.specs.Column.{Column, has_at}
-use Rattle.frame_core.specs.Ready.{or_leave, frame_at}
+use Rattle.frame_core.specs.Column.{Column}
+use Rattle.frame_core.specs.Ready.{frame_at}
 use Rattle.frame_core.specs.declared.ready.Ready.{Ready}
 use Rattle.frame_core.specs.declared.ready.Ready.TheVariants.{Yes, Over}
 use Rattle.drill_words.specs.Scripts.{plays_of}
 use Rattle.frame_table.specs.declared.pass.Pass.{Pass}
 use Rattle.frame_table.specs.declared.table.FrameTable.{FrameTable}
 use Rattle.frame_table.specs.Word.{whole_of}
-use Rattle.frame_table.specs.Calls.{plan_of, view_of, standing, HasSeen, IsPassOf, IsLater, MeansReadySeen}
+use Rattle.frame_table.specs.Calls.{view_of, standing, HasSeen, IsPassOf, IsLater, MeansReadySeen}
 use Rattle.match_run.specs.Bots.{BotMatch, bot_column, bot_entries, bot_plays}
 use Rattle.match_run.specs.Feeding.{MayFeedAll, HasFed, HasFedAll, HasEndedAll}
 use Rattle.match_run.specs.Local.{script_column, script_columns, frames_of, IsAll}
@@ -21,7 +21,6 @@ use Rattle.match_run.specs.Passes.{IsLocalPass, KnowsAllSeen, IsStepped}
 use Rattle.match_run.specs.declared.taken.Taken.{Taken}
 use Rattle.match_run.specs.Taken.{AreTaken}
 use Rattle.match_run.proofs.BotColumns.{plays_length, plays_more, world_more}
-use Rattle.match_run.proofs.BotPasses.{later_fed_all, later_ended_all}
 use Rattle.match_run.proofs.TakenFrames.{taken_later}
 use Rattle.match_run.proofs.LocalPasses.{later_local, later_knows}
 use Rattle.match_run.proofs.Splitting.{Scripts}

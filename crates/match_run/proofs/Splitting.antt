@@ -1,9 +1,9 @@
 -- Passes with which nothing was done yet: the first, those that are split off it, and those that are joined back.
-use Rattle.std.proofs.Common.{◌≡◌, ℕ, zero, suc, ◌+◌, ◌-◌, ◌*◌, ◌/◌, ◌^◌, ◌<◌, ◌≤◌, ◌⊎◌, ◌||◌, if◌then◌else◌, max, Bool, true, false, true≢false, List, [], ◌∷◌, ◌++◌, length, take, map, replicate, get_or, refl, sym, ap, ap₂, ◌∙◌, subst, inl, inr, ⊎_elim, arith, length-append, append_assoc}
-use Rattle.std.specs.Prelude.{All, Some}
+use Rattle.std.proofs.Common.{◌≡◌, ℕ, zero, suc, ◌+◌, ◌-◌, ◌*◌, ◌/◌, ◌^◌, ◌<◌, ◌≤◌, ◌⊎◌, ◌||◌, if◌then◌else◌, Bool, true, false, true≢false, List, [], ◌∷◌, ◌++◌, length, take, map, replicate, get_or, refl, sym, ap, ap₂, ◌∙◌, subst, inl, inr, ⊎_elim, arith, length-append, append_assoc}
+use Rattle.std.specs.Prelude.{All}
 use Rattle.std.proofs.lemmas.List.Elements.{All-nil, All-cons}
 use Rattle.game_orders.specs.declared.order.Order.{Order}
-use Rattle.frame_core.specs.Column.{Column, no_column}
+use Rattle.frame_core.specs.Column.{Column}
 use Rattle.drill_words.specs.Scripts.{plays_of}
 use Rattle.frame_table.specs.declared.seen.Seen.{Seen}
 use Rattle.frame_table.specs.declared.planned.Planned.{Planned}
@@ -16,12 +16,12 @@ use Rattle.frame_table.specs.Part.{Part, part_of, part_in, no_mark}
 use Rattle.frame_table.specs.Word.{one_if}
 use Rattle.frame_table.specs.Rule.{planned_of}
 use Rattle.frame_table.specs.Steps.{IsWithinPlan}
-use Rattle.frame_table.specs.Passes.{kept_mark, given_mark, kept_marks, kept_view, given_view, known_in, longer, joined_mark, joined_view, further, is_free, first_mark, first_view}
+use Rattle.frame_table.specs.Passes.{kept_mark, given_mark, kept_marks, kept_view, given_view, longer, joined_mark, joined_view, further, is_free, first_mark, first_view}
 use Rattle.frame_table.specs.PassesLemmas.{handed, joined_at, first_at}
 use Rattle.frame_table.specs.Calls.{plan_of, view_of, standing, IsPassOf}
 use Rattle.match_run.specs.declared.client_pass.ClientPass.{ClientPass}
-use Rattle.match_run.specs.Feeding.{MayFeed, HasFed, HasFedAll}
-use Rattle.match_run.specs.Passes.{script_plan, match_plan, IsUntouched, IsUnused, AreUnused, AreFrom, rights_of, OneFeeds, FollowsScript, IsLocalPass, KnowsSeen, KnowsAllSeen, IsClientPass, shares_of}
+use Rattle.match_run.specs.Feeding.{HasFedAll}
+use Rattle.match_run.specs.Passes.{script_plan, match_plan, IsUntouched, IsUnused, AreUnused, AreFrom, rights_of, OneFeeds, IsLocalPass, KnowsAllSeen, IsClientPass, shares_of}
 
 abbrev pub Scripts : Type 0
 Scripts = List (List (List Order))

@@ -8,14 +8,13 @@ use mathlib.Core.Logic.{dite}
 use Rattle.game_orders.specs.declared.order.Order.{Order}
 use Rattle.game_orders.specs.declared.limits.TheConstants.{MAX_FRAMES}
 use Rattle.frame_core.specs.Column.{Column, length_of, entry_from, has_at}
-use Rattle.game_orders.specs.declared.entry.Entry.{Entry}
-use Rattle.frame_core.specs.Ready.{or_leave, frame_at}
+use Rattle.frame_core.specs.Ready.{or_leave}
 use Rattle.drill_words.specs.Scripts.{plays_of}
 use Rattle.frame_table.specs.Part.{Part}
 use Rattle.frame_table.specs.Steps.{IsFound}
 use Rattle.frame_table.specs.Calls.{HasSeen}
 use Rattle.match_run.specs.declared.taken.Taken.{Taken}
-use Rattle.match_run.specs.Local.{script_column, script_columns}
+use Rattle.match_run.specs.Local.{script_column}
 use Rattle.match_run.specs.Passes.{FollowsScript}
 use Rattle.match_run.specs.Taken.{IsTaken, HasEntry, entry_taken, AreTaken, HasFrame}
 use Rattle.match_run.proofs.LocalPasses.{found_follows}

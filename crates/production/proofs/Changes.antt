@@ -1,13 +1,12 @@
 -- Lists of actors in which the one of an id has changed.
-use Rattle.std.proofs.Common.{◌≡◌, ℕ, zero, suc, ◌<◌, ◌||◌, List, [], ◌∷◌, length, All, Some, inl}
+use Rattle.std.proofs.Common.{◌≡◌, ℕ, zero, suc, ◌<◌, ◌||◌, List, [], ◌∷◌, length, All, inl}
 use Rattle.std.proofs.Common.{inr, refl, ap, arith}
 use Rattle.std.proofs.lemmas.Bool.Decides.{eqb_tells}
 use Rattle.world_units.specs.declared.cell.CPos.{CPos}
 use Rattle.world_units.specs.Cells.{same_cell}
 use Rattle.game_model.specs.declared.actor.Actor.{Actor}
 use Rattle.game_model.specs.ActorChanges.{changed_at}
-use Rattle.game_model.specs.World.{actor_of, is_occupied}
-use Rattle.game_model.specs.FoundLemmas.{IdsRise, changed_as}
+use Rattle.game_model.specs.World.{is_occupied}
 
 -- the same cells are held where a change moves nobody
 pub changed_occupied : (actors : List Actor) (id : ℕ) (f : Actor → Actor) (p : CPos) → ((a : Actor) → (f a).cell ≡ a.cell) → is_occupied (changed_at actors id f) p ≡ is_occupied actors p

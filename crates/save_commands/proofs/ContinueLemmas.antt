@@ -1,5 +1,5 @@
 -- What `continue` answers of the save that `save` writes.
-use Rattle.std.specs.Prelude.{◌≡◌, ℕ, ◌≤◌, ◌==◌, nat_lt, ◌&&◌, true, false, List, Result, Ok, Err}
+use Rattle.std.specs.Prelude.{◌≡◌, ℕ, ◌≤◌, ◌==◌, nat_lt, ◌&&◌, true, false, List, Result, Ok}
 use Rattle.std.proofs.Common.{refl, sym, ap, ap₂, subst, ◌∙◌, arith}
 use Rattle.std.proofs.lemmas.Bool.Decides.{nat_tests}
 use Rattle.base.specs.Steps.{◌>>=◌}
@@ -20,7 +20,7 @@ use Rattle.replay_run.specs.RecordLaws.{AllAgree}
 use Rattle.replay_run.specs.Rerun.{Rerun, frame_count, hash_in, marks_before, replayed, replayed_from}
 use Rattle.replay_run.specs.Rerun.{replayed_late, rerun_over, resumed_at}
 use Rattle.tick_core.specs.Game.{GameState, game_after, game_hash, game_summary}
-use Rattle.save_commands.specs.Continuing.{Continues, GoesOn}
+use Rattle.save_commands.specs.Continuing.{GoesOn}
 use Rattle.save_commands.specs.Refusals.{of_match, read_save_step, with_frames}
 use Rattle.save_commands.specs.Saves.{continue_step, continued_reply, game_at, saved_at}
 use Rattle.save_commands.proofs.GameLemmas.{game_kept, resumed_is}

@@ -1,7 +1,7 @@
 -- The save of the game after some frames of a replay.
-use Rattle.std.specs.Prelude.{◌≡◌, ℕ, List, Result, Ok, Err, IfOk}
+use Rattle.std.specs.Prelude.{◌≡◌, ℕ, Result, Ok, Err, IfOk}
 use Rattle.std.specs.Global.{Vec}
-use Rattle.std.proofs.Common.{refl, sym, ap, ap₂, subst, ◌∙◌}
+use Rattle.std.proofs.Common.{sym, ap, ◌∙◌}
 use Rattle.game_model.specs.Setup.{Setup}
 use Rattle.game_save.specs.declared.saved.Saved.{Saved}
 use Rattle.game_save.specs.ReadSave.{read_save_of}

@@ -1,5 +1,5 @@
 -- What is known of a match that was served and recorded, over plain values.
-use Rattle.std.proofs.Common.{◌≡◌, ◌<◌, ◌≤◌, ◌⊎◌, ◌∙◌, ℕ, zero, suc, List, [], ◌∷◌, length, max, Some, IsOk, refl, sym, ap, subst, inl, inr, arith}
+use Rattle.std.proofs.Common.{◌≡◌, ◌<◌, ◌≤◌, ◌⊎◌, ◌∙◌, ℕ, zero, suc, List, [], ◌∷◌, length, Some, refl, inl, inr, arith}
 use Rattle.base.specs.Cause.{Increased}
 use Rattle.frame_core.specs.Column.{Column, column_of, length_of}
 use Rattle.frame_core.specs.Match.{Match}
@@ -10,7 +10,7 @@ use Rattle.match_serve.specs.Passes.{columns_of}
 use Rattle.match_serve.specs.Serve.{IsGreatest}
 use Rattle.command_answers.specs.declared.statuses.TheConstants.{OUT_OF_MEMORY}
 use Rattle.command_answers.specs.Causes.{IsQuiet, causes_of}
-use Rattle.command_answers.specs.CausesLemmas.{HasCauses, at_memory, at_read, at_write, answered_changes}
+use Rattle.command_answers.specs.CausesLemmas.{at_memory, at_read, at_write, answered_changes}
 use Rattle.command_answers.specs.Contents.{Contents}
 use Rattle.command_answers.specs.Environment.{environment}
 use Rattle.command_answers.specs.FileWrite.{OnlyChanges}

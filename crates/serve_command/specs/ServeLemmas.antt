@@ -1,9 +1,8 @@
 -- What is known of a match that was served, over plain values.
-use Rattle.std.proofs.Common.{◌≡◌, ◌⊎◌, ℕ, Bool, true, false, if◌then◌else◌, List, refl, inl, inr, ◌∙◌}
+use Rattle.std.proofs.Common.{◌≡◌, ◌⊎◌, ℕ, Bool, true, false, if◌then◌else◌, List, inl, inr, ◌∙◌}
 use Rattle.std.specs.List.{list_any}
 use Rattle.base.specs.Cause.{Increased}
 use Rattle.frame_core.specs.Match.{Match}
-use Rattle.game_io.specs.NetState.{NetState}
 use Rattle.game_io.specs.SinkState.{SinkState}
 use Rattle.match_net.specs.declared.invite.Invite.{Invite}
 use Rattle.match_serve.specs.declared.link_end.LinkEnd.{LinkEnd}

@@ -1,5 +1,5 @@
 -- The first fault of the files of a setup.
-use Rattle.std.specs.Prelude.{◌≡◌, ℕ, List, Option, None, Some, Result, Ok, Err, codes}
+use Rattle.std.specs.Prelude.{◌≡◌, ℕ, List, Option, None, Result, Ok, Err, codes}
 use Rattle.base.specs.Steps.{IsFault}
 use Rattle.yaml_lines.specs.declared.place.Place.{Place}
 use Rattle.yaml_lines.specs.declared.fault.LineFault.{LineFault}

@@ -1,6 +1,6 @@
 -- The files of a setup, and what they make.
 use Rattle.std.specs.Prelude.{◌≡◌, ℕ, ◌≤◌, nat_lt, Bool, true, false, if◌then◌else◌}
-use Rattle.std.specs.Prelude.{List, [], ◌∷◌, ◌++◌, length, Option, None, Some, Result, Ok, Err}
+use Rattle.std.specs.Prelude.{List, [], ◌∷◌, ◌++◌, length, Option, None, Some, Ok, Err}
 use Rattle.std.specs.Prelude.{IfSome}
 use Rattle.setup_files.specs.declared.limits.TheConstants.{MAX_RULE_FILES}
 use Rattle.setup_files.specs.declared.making.Made.{Made}

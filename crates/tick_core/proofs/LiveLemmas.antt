@@ -1,6 +1,6 @@
 -- That all actors have health, and what steps, orders and burials leave of it.
 use Rattle.std.proofs.Common.{◌≡◌, ℕ, suc, ◌+◌, ◌<◌, ◌≤◌, Bool, true, false, List, [], ◌∷◌, length, get_or, Option, Some, None, inl, inr, refl, sym, ap, subst, ◌∙◌, arith}
-use Rattle.std.specs.Prelude.{◌==◌, ◌||◌, nat_lt, not, IfSome, IsSomeAnd}
+use Rattle.std.specs.Prelude.{◌==◌, ◌||◌, nat_lt, IfSome, IsSomeAnd}
 use Rattle.std.specs.List.{All, filter}
 use Rattle.std.proofs.lemmas.Bool.{or_parts}
 use Rattle.std.proofs.lemmas.Bool.Decides.{eqb_tells, nat_tests}
@@ -8,7 +8,6 @@ use Rattle.std.proofs.lemmas.List.Elements.{All-cons, All-head, All-nil, All-tai
 use Rattle.rule_traits.specs.declared.kind.Kind.{Kind}
 use Rattle.rule_traits.specs.Rules.{kind_at}
 use Rattle.game_model.specs.declared.actor.Actor.{Actor}
-use Rattle.game_model.specs.declared.world.World.{World}
 use Rattle.game_model.specs.FoundLemmas.{IdsRise}
 use Rattle.game_model.specs.LivingLemmas.{found_at}
 use Rattle.game_model.specs.ValidWorld.{IsHealthOf, IsHealthy}

@@ -1,14 +1,12 @@
 -- An order changes at most the actor to which it is given, and leaves kinds and cells.
-use Rattle.std.proofs.Common.{◌≡◌, ℕ, ◌+◌, Bool, true, false, cond, List, [], ◌∷◌, map, Option, Some, None, inl, inr, refl, sym, ap, ap₂, subst, ◌∙◌, arith}
+use Rattle.std.proofs.Common.{◌≡◌, ℕ, ◌+◌, Bool, true, false, List, [], ◌∷◌, map, Option, Some, None, inl, inr, refl, sym, ap, ap₂, subst, ◌∙◌}
 use Rattle.std.specs.Prelude.{◌==◌, if◌then◌else◌, is_some, ◌⊎◌, ◌&&◌, ◌||◌, ◌*◌}
 use Rattle.std.specs.List.{range_with_len}
 use Rattle.std.proofs.lemmas.Bool.Decides.{eqb_tells}
 use Rattle.twister.specs.Place.{Place}
 use Rattle.world_units.specs.declared.cell.CPos.{CPos}
 use Rattle.world_units.specs.Cells.{same_cell}
-use Rattle.activities.specs.declared.activity.Activity.{Activity}
 use Rattle.rule_traits.specs.declared.kind.Kind.{Kind}
-use Rattle.rule_traits.specs.Rules.{cost_of}
 use Rattle.game_orders.specs.declared.order.Order.{Order}
 use Rattle.game_orders.specs.declared.order.Order.TheVariants.{Move, Attack, Harvest, Stop, Produce, Cancel, Donate, Pace}
 use Rattle.game_model.specs.declared.actor.Actor.{Actor}
@@ -20,10 +18,9 @@ use Rattle.game_model.specs.Grid.{Grid}
 use Rattle.game_model.specs.Setup.{Setup}
 use Rattle.game_model.specs.World.{living_of}
 use Rattle.game_model.specs.Kinds.{kind_of}
-use Rattle.game_tick.specs.Acts.{with_acts}
 use Rattle.game_tick.specs.ChangesLemmas.{id_of_living}
 use Rattle.game_tick.specs.Nearest.{cell_of}
-use Rattle.game_tick.specs.Orders.{Doing, Goods, after_donation, after_order, attacking, cancelled, changed_if, donation_fits, goods_of, harvesting, if_owned, last_of, moving, own_of, pace_fits, produce_fits, produced, stopping, with_cancel, with_produce}
+use Rattle.game_tick.specs.Orders.{Doing, Goods, after_donation, after_order, attacking, cancelled, changed_if, donation_fits, goods_of, harvesting, last_of, moving, own_of, pace_fits, produce_fits, produced, stopping, with_cancel, with_produce}
 use Rattle.game_tick.specs.OrdersLemmas.{order_valid}
 use Rattle.game_tick.specs.OwnActorLemmas.{owned_living}
 use Rattle.game_tick.specs.Turn.{blocks_of, dice_of}

@@ -1,8 +1,7 @@
 -- A step leaves all actors as they are but the one that makes it, the one that it hits, and the one
 -- that comes out.
-use Rattle.std.proofs.Common.{◌≡◌, ◌≢◌, ℕ, suc, ◌+◌, Bool, true, false, List, [], ◌∷◌, ◌++◌, Option, Some, None, refl, sym, ap, ap₂, subst, ◌∙◌, arith}
+use Rattle.std.proofs.Common.{◌≡◌, ◌≢◌, ℕ, ◌+◌, Bool, true, List, [], ◌∷◌, ◌++◌, Option, Some, None, refl, sym, subst, ◌∙◌, arith}
 use Rattle.std.specs.Prelude.{◌-◌, ◌==◌, ◌&&◌, if◌then◌else◌, nat_le, nat_lt, not}
-use Rattle.std.proofs.lemmas.Bool.{and_parts}
 use Rattle.twister.specs.Place.{Place}
 use Rattle.world_units.specs.declared.cell.CPos.{CPos}
 use Rattle.world_units.specs.Angles.{dir_angle_of}
@@ -16,7 +15,7 @@ use Rattle.game_model.specs.declared.actor.Actor.{Actor}
 use Rattle.game_model.specs.declared.actor.Leg.{Leg}
 use Rattle.game_model.specs.declared.builds.Build.{Build}
 use Rattle.game_model.specs.declared.world.World.{World}
-use Rattle.game_model.specs.ActorChanges.{changed_at, with_body}
+use Rattle.game_model.specs.ActorChanges.{changed_at}
 use Rattle.game_model.specs.BestDirection.{best_dir_of}
 use Rattle.game_model.specs.Buildings.{neighbour_of}
 use Rattle.game_model.specs.Grid.{Grid}
@@ -32,9 +31,9 @@ use Rattle.game_tick.specs.Attacking.{Fought, after_attack, fought_with, hit_by,
 use Rattle.game_tick.specs.Building.{Built, after_build, built_first, came_out, exit_of, finished, has_room}
 use Rattle.game_tick.specs.ChangesLemmas.{id_of_living}
 use Rattle.game_tick.specs.Harvesting.{Harvested, after_deliver, after_harvest, after_loading, after_search, after_unloading, delivered_to, is_beside, nearest_refinery}
-use Rattle.game_tick.specs.Moving.{Moved, after_leg, after_move, gone_on, gone_towards, moved_in, moved_into, moved_towards, set_out}
+use Rattle.game_tick.specs.Moving.{Moved, after_move, gone_on, gone_towards, moved_in, moved_into, moved_towards, set_out}
 use Rattle.game_tick.specs.Nearest.{nearest_ore, ore_at}
-use Rattle.game_tick.specs.Turn.{after_activity, after_first, after_step, after_way, blocks_of, dice_of, harvest_of, reloaded, step_if, with_build, with_reload, with_way}
+use Rattle.game_tick.specs.Turn.{after_first, after_step, after_way, blocks_of, dice_of, harvest_of, reloaded, step_if, with_build, with_reload, with_way}
 use Rattle.tick_core.specs.Scene.{prepared, prepared_if}
 use Rattle.tick_core.specs.Telling.{target_in, target_of}
 use Rattle.tick_core.specs.Touched.{GrowsBut, SameBut, is_among}

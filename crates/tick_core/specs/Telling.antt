@@ -1,5 +1,5 @@
 -- What a hasher is told after a step or an order.
-use Rattle.std.specs.Prelude.{◌≡◌, ℕ, zero, ◌<◌, ◌⊎◌, true, List, [], ◌∷◌, length, IfSome, Option, Some, None, map, slice_set}
+use Rattle.std.specs.Prelude.{◌≡◌, ℕ, ◌<◌, ◌⊎◌, true, List, [], ◌∷◌, length, IfSome, Option, Some, None, map, slice_set}
 use Rattle.world_units.specs.declared.cell.CPos.{CPos}
 use Rattle.activities.specs.declared.activity.Activity.{Activity}
 use Rattle.activities.specs.declared.activity.Activity.TheVariants.{Move, Attack, Harvest, Deliver}

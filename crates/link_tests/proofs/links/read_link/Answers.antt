@@ -1,6 +1,5 @@
 use Rattle.frame_table.specs.Calls.{view_of}
 use Rattle.match_net.proofs.SessionLemmas.{stays_free}
-use Rattle.link_tests.specs.Passes.{IsReadPass}
 use Rattle.link_tests.proofs.links.read_link.Goals as goal
 
 pub returns : goal.returns

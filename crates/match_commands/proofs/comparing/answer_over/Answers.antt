@@ -1,4 +1,4 @@
-use Rattle.std.proofs.Common.{◌≡◌, ℕ, List, [], Ok, subst}
+use Rattle.std.proofs.Common.{◌≡◌, ℕ, [], Ok, subst}
 use Rattle.std.specs.Prelude.{unwrap_or}
 use Rattle.game_model.specs.Setup.{Setup}
 use Rattle.command_words.specs.RequestPlain.{plain_match}

@@ -1,4 +1,3 @@
-use Rattle.match_commands.specs.TopCalls.{waiting}
 use Rattle.match_commands.proofs.WaitingLemmas.{named_waits, memory_waits}
 use Rattle.match_commands.proofs.waiting.run_waiting.Goals as goal
 

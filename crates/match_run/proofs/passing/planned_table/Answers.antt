@@ -1,4 +1,4 @@
-use Rattle.match_run.proofs.Splitting.{first_plan, first_unused, first_share, first_all_rights, first_feeds, plan_length}
+use Rattle.match_run.proofs.Splitting.{first_plan, first_unused, first_all_rights, first_feeds}
 use Rattle.match_run.proofs.passing.planned_table.Goals as goal
 
 pub returns-clause-plan : goal.returns-clause-plan

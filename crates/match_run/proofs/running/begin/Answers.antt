@@ -1,4 +1,4 @@
-use Rattle.std.proofs.Common.{◌≡◌, ◌+◌, ◌-◌, ◌≤◌, ◌^◌, arith, subst, length}
+use Rattle.std.proofs.Common.{◌≡◌, ◌+◌, ◌-◌, ◌≤◌, ◌^◌, arith, subst}
 use Rattle.match_run.proofs.Splitting.{power_more, others_feed, unused_long, unused_fed, unused_clients}
 use Rattle.match_run.proofs.running.begin.Goals as goal
 

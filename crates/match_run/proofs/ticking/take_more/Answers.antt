@@ -1,4 +1,4 @@
-use Rattle.std.proofs.Common.{length, subst, sym, ap, ◌∙◌, arith}
+use Rattle.std.proofs.Common.{length, subst, sym, ◌∙◌, arith}
 use Rattle.frame_table.specs.Part.{Part}
 use Rattle.frame_table.specs.Calls.{HasSeen}
 use Rattle.match_run.proofs.BotPasses.{others_fed_all}

@@ -1,5 +1,4 @@
-use Rattle.std.proofs.Common.{◌∙◌, ap}
-use Rattle.std.specs.List.{list_any}
+use Rattle.std.proofs.Common.{◌∙◌}
 use Rattle.production.proofs.Living.{any_living}
 use Rattle.production.proofs.needs.has_kind.Goals as goal
 

@@ -1,8 +1,6 @@
 use Rattle.std.proofs.Common.{◌∙◌, ap, sym}
-use Rattle.game_model.specs.declared.actor.Actor.{Actor}
 use Rattle.game_model.specs.Setup.{Setup}
 use Rattle.game_tick.specs.Orders.{moving}
-use Rattle.actor_table.specs.Table.{Table}
 use Rattle.tick_core.proofs.OrderLemmas.{order_is, order_not, with_actors}
 use Rattle.tick_core.proofs.activity_orders.order_move.Goals as goal
 

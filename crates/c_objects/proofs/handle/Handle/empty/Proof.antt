@@ -1,9 +1,8 @@
 -- `empty`: null becomes a handle's word. It owns nothing.
-use Rattle.std.proofs.Common.{◌≡◌, List, [], ◌∷◌, Option, None, refl}
+use Rattle.std.proofs.Common.{◌≡◌, [], ◌∷◌, Option, None, refl}
 use mir.Val.{Val}
 use base.Logic.{SProp, emp}
 use base.Fml.{ftrue}
-use prog.Wp.{WpFn}
 use types.Kit.{‵, raw, ◌⊛◌, ◌$◌, ◌∵◌, !, qed, by, move, keep, split, use0}
 use types.Run.{no_more, and_then, lit, returns, enter}
 use types.ByLocal.{alloc_all, pass_all, free_all, look_at, sets}

@@ -1,7 +1,5 @@
-use Rattle.std.proofs.Common.{◌≡◌, ◌≤◌, ◌∙◌, ap, length, subst, sym, refl, arith}
+use Rattle.std.proofs.Common.{◌≡◌, ◌≤◌, ◌∙◌, length, subst, sym, refl, arith}
 use Rattle.game_model.specs.Setup.{Setup}
-use Rattle.game_model.specs.World.{clients_of}
-use Rattle.tick_core.specs.Live.{Standing}
 use Rattle.tick_core.specs.Ordered.{IsReady}
 use Rattle.tick_core.proofs.TickLemmas.{entered_next, entered_all, ready_now}
 use Rattle.tick_core.proofs.live_world.LiveWorld.apply_plays.Goals as goal

@@ -1,4 +1,4 @@
-use Rattle.std.proofs.Common.{refl, arith}
+use Rattle.std.proofs.Common.{arith}
 use Rattle.tick_core.proofs.TickLemmas.{turned_next, turned_all}
 use Rattle.tick_core.proofs.live_world.LiveWorld.run_turns.Goals as goal
 

@@ -1,4 +1,4 @@
-use Rattle.std.proofs.Common.{◌≡◌, ◌∙◌, ℕ, Option, Some, None, sym, subst}
+use Rattle.std.proofs.Common.{◌≡◌, ◌∙◌, Some, None, sym, subst}
 use Rattle.std.specs.Prelude.{slice_get}
 use Rattle.game_model.specs.World.{ids_of}
 use Rattle.tick_core.specs.Live.{Standing}

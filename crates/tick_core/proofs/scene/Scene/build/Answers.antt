@@ -1,11 +1,8 @@
-use Rattle.std.proofs.Common.{◌∙◌, ap, ap₂, refl, sym, subst}
-use Rattle.std.specs.Prelude.{IsSome, IsSomeAnd}
-use Rattle.game_model.specs.declared.actor.Actor.{Actor}
+use Rattle.std.proofs.Common.{◌∙◌, ap, refl}
 use Rattle.game_model.specs.declared.world.World.{World}
 use Rattle.game_model.specs.Setup.{Setup}
-use Rattle.game_model.specs.World.{living_of, world_with}
+use Rattle.game_model.specs.World.{world_with}
 use Rattle.actor_table.specs.Table.{Table}
-use Rattle.tick_core.specs.Live.{Standing}
 use Rattle.tick_core.proofs.SceneLemmas.{build_is, build_scene}
 use Rattle.tick_core.proofs.scene.Scene.build.Goals as goal
 

@@ -1,13 +1,11 @@
-use Rattle.std.proofs.Common.{◌∙◌, ap, ap₂, refl, sym, subst}
-use Rattle.std.specs.Prelude.{IsSome, IsSomeAnd}
-use Rattle.game_model.specs.declared.actor.Actor.{Actor}
+use Rattle.std.proofs.Common.{◌∙◌, ap, refl, sym, subst}
+use Rattle.std.specs.Prelude.{IsSomeAnd}
 use Rattle.game_model.specs.declared.world.World.{World}
 use Rattle.game_model.specs.Setup.{Setup}
 use Rattle.game_model.specs.World.{living_of, world_with}
 use Rattle.actor_table.specs.Table.{Table}
 use Rattle.tick_core.specs.Live.{Standing}
 use Rattle.activities.specs.declared.activity.Activity.TheVariants.{Attack}
-use Rattle.twister.specs.Place.{Place}
 use Rattle.tick_core.specs.Scene.{DoesFirst}
 use Rattle.tick_core.proofs.SceneLemmas.{fight_dice, fight_is, way_scene}
 use Rattle.tick_core.proofs.scene.Scene.fight.Goals as goal

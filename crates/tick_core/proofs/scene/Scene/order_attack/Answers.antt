@@ -1,4 +1,4 @@
-use Rattle.std.proofs.Common.{◌∙◌, ap, ap₂, refl, sym, subst}
+use Rattle.std.proofs.Common.{◌∙◌, ap, sym, subst}
 use Rattle.game_model.specs.declared.world.World.{World}
 use Rattle.game_model.specs.Setup.{Setup}
 use Rattle.game_model.specs.World.{world_with}

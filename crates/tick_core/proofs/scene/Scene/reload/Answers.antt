@@ -1,6 +1,5 @@
-use Rattle.std.proofs.Common.{◌∙◌, ap, ap₂, refl, sym, subst}
-use Rattle.std.specs.Prelude.{IsSome, IsSomeAnd}
-use Rattle.game_model.specs.declared.actor.Actor.{Actor}
+use Rattle.std.proofs.Common.{◌∙◌, ap, refl, sym, subst}
+use Rattle.std.specs.Prelude.{IsSome}
 use Rattle.game_model.specs.declared.world.World.{World}
 use Rattle.game_model.specs.Setup.{Setup}
 use Rattle.game_model.specs.World.{living_of, world_with}
