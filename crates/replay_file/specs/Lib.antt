@@ -16,6 +16,7 @@ pub mod ReadClauses
 pub mod Reading
 pub mod ReadingLemmas
 pub mod ReplayBytes
+pub mod ReplayLeft
 pub mod ReplayLemmas
 pub mod RuleLaws
 pub mod RuleLemmas

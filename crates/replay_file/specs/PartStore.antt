@@ -1,7 +1,7 @@
 -- How a list of parts is stored: the bytes of each part as in a file, with the number of a frame's
 -- entries after its tag.
-use Rattle.std.specs.Prelude.{◌≡◌, ℕ, zero, suc, ◌≤◌, ◌==◌, nat_lt, false, if◌then◌else◌}
-use Rattle.std.specs.Prelude.{List, [], ◌∷◌, ◌++◌, length, replicate, Option, Some, None, Ok, Err}
+use Rattle.std.specs.Prelude.{◌≡◌, ℕ, zero, suc, ◌-◌, ◌≤◌, ◌==◌, nat_lt, false, if◌then◌else◌}
+use Rattle.std.specs.Prelude.{List, [], ◌∷◌, ◌++◌, length, drop, replicate, Option, Some, None, Ok, Err}
 use Rattle.std.specs.List.{flat_map, AllByRecursion}
 use Rattle.base.specs.Steps.{◌>>=◌}
 use Rattle.wire_bytes.specs.Field.{field_bytes}
@@ -65,6 +65,17 @@ pub record IsStore (bytes : List ℕ) : Type 0 where
   pub stored : bytes ≡ all_stored (parts_in bytes)
   pub fits : AllByRecursion FitsPart (parts_in bytes)
   pub small : AllByRecursion IsSmall (parts_in bytes)
+
+-- So do the last bytes that are left of stored ones.
+pub record EndsStore (old new : List ℕ) : Type 0 where
+  pub store : IsStore new
+  pub few : length new ≤ length old
+  pub last : drop (length old - length new) old ≡ new
+
+-- So do the bytes after the first `read` ones.
+pub record IsStoreAfter (read : ℕ) (bytes : List ℕ) : Type 0 where
+  pub few : read ≤ length bytes
+  pub store : IsStore (drop read bytes)
 
 -- They do, and so many of the parts are frames.
 pub record IsCountedStore (bytes : List ℕ) (frames : ℕ) : Type 0 where

@@ -1,10 +1,11 @@
 -- Stored parts are read back.
 use Rattle.std.specs.Prelude.{◌≡◌, ℕ, zero, suc, ◌+◌, ◌<◌, ◌≤◌, false}
-use Rattle.std.specs.Prelude.{List, [], ◌∷◌, ◌++◌, length, replicate, Result, Ok, Err, OnOk, OnErr}
+use Rattle.std.specs.Prelude.{List, [], ◌∷◌, ◌++◌, length, drop, replicate, Result, Ok, Err, OnOk}
+use Rattle.std.specs.Prelude.{OnErr}
 use Rattle.std.specs.List.{AllByRecursion}
-use Rattle.std.proofs.Common.{refl, sym, ap, subst, ◌∙◌, arith, append_assoc}
+use Rattle.std.proofs.Common.{refl, sym, ap, ap₂, subst, ◌∙◌, arith, append_assoc}
 use Rattle.std.proofs.lemmas.Bool.{le-ltb}
-use Rattle.std.proofs.lemmas.List.{append-nil, length-append}
+use Rattle.std.proofs.lemmas.List.{append-nil, drop_at, length-append}
 use Rattle.wire_bytes.specs.Field.{field_bytes}
 use Rattle.wire_bytes.specs.FieldLemmas.{field_length}
 use Rattle.wire_bytes.specs.Read.{field_at}
@@ -21,7 +22,8 @@ use Rattle.replay_file.specs.Frames.{frames_of}
 use Rattle.replay_file.specs.OrdersLemmas.{all_added}
 use Rattle.replay_file.specs.PartReading.{PartRead, mark_in}
 use Rattle.replay_file.specs.PartStore.{stored_bytes, all_stored, counted_frame, stored_at}
-use Rattle.replay_file.specs.PartStore.{parts_up_to, parts_in, IsCountedStore, IsSmall, IsStore}
+use Rattle.replay_file.specs.PartStore.{parts_up_to, parts_in, EndsStore, IsCountedStore, IsSmall}
+use Rattle.replay_file.specs.PartStore.{IsStore}
 use Rattle.replay_file.specs.PartBytes.{entries_bytes, FitsEntry, FitsPart}
 
 -- Parts in a row, and what follows them.
@@ -252,9 +254,9 @@ count_begins =
     }
 
 -- The first part was read.
-pub record TakenFrom (view : List Part) (new : List ℕ) (part : Part) : Type 0 where
+pub record TakenFrom (view : List Part) (left new : List ℕ) (part : Part) : Type 0 where
   pub first : view ≡ part ∷ parts_in new
-  pub store : IsStore new
+  pub ends : EndsStore left new
 
 same_read : (part other : Part) (rest more : List ℕ) (read : PartRead Part) →
     read ≡ Ok (part, rest) → read ≡ Ok (other, more) → (part ≡ other) × (rest ≡ more)
@@ -262,10 +264,25 @@ same_read part other rest more read is also =
     let both : (part, rest) ≡ (other, more) = cc in
     (ap (λ (pair : Part × List ℕ). pair.0) both, ap (λ (pair : Part × List ℕ). pair.1) both)
 
+-- What follows a part is the last of the bytes.
+ends_after :
+    (left front new : List ℕ) → IsStore new → left ≡ front ++ new → EndsStore left new
+ends_after left front new store is =
+    let count : length left ≡ length front + length new =
+    ap length is ∙ length-append front new in
+    record {
+      store = store;
+      few = omega (arith, count);
+      last =
+          ap₂ (λ (n : ℕ) (bytes : List ℕ). drop n bytes)
+          (omega (arith, count)) is
+          ∙ drop_at front new (length front) refl;
+    }
+
 taken_of :
     (left new : List ℕ) (part : Part) (view : List Part) → left ≡ all_stored view →
     AllByRecursion FitsPart view → AllByRecursion IsSmall view → 0 < length left →
-    stored_at left ≡ Ok (part, new) → TakenFrom view new part
+    stored_at left ≡ Ok (part, new) → TakenFrom view left new part
 taken_of left new part [] stored fits small some read =
     absurd (omega (arith, ap length stored))
 taken_of left new part (first ∷ others) stored fits small some read =
@@ -277,12 +294,13 @@ taken_of left new part (first ∷ others) stored fits small some read =
     record {
       first = ap (λ (p : Part). p ∷ others) (sym same.0)
           ∙ ap (λ (rest : List Part). part ∷ rest) (sym are);
-      store = is_store new others same.1 fits.1 small.1;
+      ends = ends_after left (stored_bytes first) new (is_store new others same.1 fits.1 small.1)
+          (stored ∙ ap (λ (rest : List ℕ). stored_bytes first ++ rest) (sym same.1));
     }
 
 pub part_taken :
     (left new : List ℕ) (part : Part) → IsStore left → 0 < length left →
-    stored_at left ≡ Ok (part, new) → TakenFrom (parts_in left) new part
+    stored_at left ≡ Ok (part, new) → TakenFrom (parts_in left) left new part
 part_taken left new part is some read =
     taken_of left new part (parts_in left) is.stored is.fits is.small some read
 

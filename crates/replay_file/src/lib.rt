@@ -19,8 +19,9 @@
 //! says it of the frames and marks as a whole (`specs/RuleLaws.antt`).
 //!
 //! [`Parts`] holds the parts in about as many bytes as a file has; a [`PartCursor`] hands them out
-//! one by one, frames in the room of one that the caller keeps. [`read_entries`] reads the entries of one frame, as they stand in a file, from any
-//! bytes. What a replay is to a game, its frames in order and how many stand before each mark, is
+//! one by one, frames in the room of one that the caller keeps, and a [`ReplayCursor`] does so and
+//! owns the replay. [`read_entries`] reads the entries of one frame, as they stand in a file, from
+//! any bytes. What a replay is to a game, its frames in order and how many stand before each mark, is
 //! in `specs/Frames.antt`, and the replay that replaces it in the version that is written in
 //! `specs/Migrated.antt`.
 #![tactic(auto)]
@@ -39,6 +40,7 @@ mod part_reading;
 mod part_writing;
 mod parts;
 mod replay;
+mod replay_cursor;
 mod replay_fault;
 mod replay_reading;
 mod replay_writer;
@@ -57,6 +59,7 @@ pub use part_kind::PartKind;
 pub use part_reading::read_entries;
 pub use parts::Parts;
 pub use replay::Replay;
+pub use replay_cursor::ReplayCursor;
 pub use replay_fault::ReplayFault;
 pub use replay_reading::read_replay;
 pub use replay_writer::ReplayWriter;

@@ -1,9 +1,9 @@
-ghost use Rattle.std.specs.Prelude.{◌≡◌};
+ghost use Rattle.std.specs.Prelude.{◌≡◌, drop};
 ghost use Rattle.wire_bytes.specs.Read.{Reads};
 ghost use Rattle.replay_file.specs.declared.part.Part.TheVariants as part;
 ghost use Rattle.replay_file.specs.PartKind.{next_of, part_of, with_value};
 ghost use Rattle.replay_file.specs.PartStore.{counted_frame, parts_in, stored_at, TakesPart};
-ghost use Rattle.replay_file.specs.PartStore.{IsStore};
+ghost use Rattle.replay_file.specs.PartStore.{EndsStore, IsStore, IsStoreAfter};
 
 use crate::departed::Departed;
 use crate::limits::GREATEST_TAG;
@@ -66,6 +66,37 @@ fn read_stored(c: &mut Cursor<'_>, frame: &mut Frame) -> Result<PartKind, PartFa
     }
 }
 
+/// Takes the first part of stored bytes off. The entries of a frame come in the place of those that
+/// `frame` has. None exactly where no byte is left.
+fn take_first(left: &mut Cursor<'_>, frame: &mut Frame) -> Option<PartKind>
+    requires { IsStore left.old }
+    ensures taken { TakesPart (parts_in left.old) (parts_in left.new) (next_of result frame.new) }
+    ensures ends { EndsStore left.old left.new }
+{
+    if left.left() == 0 {
+        return None;
+    }
+    let Ok(kind) = read_stored(left, frame) else {
+        unreachable!()
+    };
+    Some(kind)
+}
+
+/// Takes off the first part of those that are stored after the first `read` bytes, as
+/// [`PartCursor::next_into`] does.
+pub(crate) fn take_after(bytes: &[u8], read: &mut usize, frame: &mut Frame) -> Option<PartKind>
+    requires { IsStoreAfter read.old bytes.now }
+    ensures taken { TakesPart (parts_in (drop read.old bytes.now))
+        (parts_in (drop read.new bytes.now)) (next_of result frame.new) }
+    ensures ends { IsStoreAfter read.new bytes.now }
+{
+    let (_, after) = bytes.split_at(*read);
+    let mut left = Cursor::over(after);
+    let kind = take_first(&mut left, frame);
+    *read = bytes.len() - left.left();
+    kind
+}
+
 impl<'a> PartCursor<'a> {
     /// The parts that these bytes store.
     pub(crate) fn over(bytes: &'a [u8]) -> Self
@@ -82,12 +113,6 @@ impl<'a> PartCursor<'a> {
     pub fn next_into(&mut self, frame: &mut Frame) -> Option<PartKind>
         ensures { TakesPart self.old self.new (next_of result frame.new) }
     {
-        if self.left.left() == 0 {
-            return None;
-        }
-        let Ok(kind) = read_stored(&mut self.left, frame) else {
-            unreachable!()
-        };
-        Some(kind)
+        take_first(&mut self.left, frame)
     }
 }

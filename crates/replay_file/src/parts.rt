@@ -5,7 +5,7 @@ ghost use Rattle.replay_file.specs.declared.part.Part.TheVariants as part;
 ghost use Rattle.replay_file.specs.Frames.{frames_of};
 ghost use Rattle.replay_file.specs.PartBytes.{FitsPart};
 ghost use Rattle.replay_file.specs.PartKind.{part_of};
-ghost use Rattle.replay_file.specs.PartStore.{all_stored, stored_bytes, parts_in};
+ghost use Rattle.replay_file.specs.PartStore.{all_stored, stored_bytes, parts_in, IsStore};
 
 use crate::part_cursor::PartCursor;
 use crate::part_fits::frame_fits;
@@ -105,6 +105,15 @@ impl Parts {
         ensures { result ≡ self.now }
     {
         PartCursor::over(self.bytes.as_slice())
+    }
+
+    /// The bytes that store the parts.
+    pub(crate) fn stored(&self) -> &[u8]
+        ensures bytes { result.now ≡ all_stored self.now }
+        ensures store { IsStore result.now }
+        ensures parts { parts_in result.now ≡ self.now }
+    {
+        self.bytes.as_slice()
     }
 
     /// The numbers of the parts that code holds fit their fields. The call does nothing.
