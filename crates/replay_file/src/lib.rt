@@ -21,8 +21,8 @@
 //! [`Parts`] holds the parts in about as many bytes as a file has; a [`PartCursor`] hands them out
 //! one by one, frames in the room of one that the caller keeps, and a [`ReplayCursor`] does so and
 //! owns the replay. [`read_entries`] reads the entries of one frame, as they stand in a file, from
-//! any bytes. What a replay is to a game, its frames in order and how many stand before each mark, is
-//! in `specs/Frames.antt`, and the replay that replaces it in the version that is written in
+//! any bytes. What a replay is to a game, its frames in order and how many stand before each mark,
+//! is in `specs/Frames.antt`, and the replay that replaces it in the version that is written in
 //! `specs/Migrated.antt`.
 #![tactic(auto)]
 

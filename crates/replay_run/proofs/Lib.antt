@@ -2,3 +2,4 @@ mod FramesLemmas
 mod PlayingLemmas
 mod RecordLawsLemmas
 mod ResumeLemmas
+mod SteppingLemmas

@@ -9,3 +9,4 @@ pub mod Rerun
 pub mod RerunLemmas
 pub mod Shown
 pub mod Skipping
+pub mod Stepping

@@ -160,13 +160,13 @@ frame_passed run from r left entries so_far hash is =
       few = is.few;
     }
 
-first_of_assoc :
+pub first_of_assoc :
     (a b c : Option Difference) → first_of (first_of a b) c ≡ first_of a (first_of b c)
 first_of_assoc None b c = refl
 first_of_assoc (Some d) b c = refl
 
 -- The first difference of a mark and others.
-difference_cons :
+pub difference_cons :
     (hash_at : ℕ → ℕ) (frames file : ℕ) (marks : List (ℕ × ℕ)) →
     first_difference hash_at ((frames, file) ∷ marks)
     ≡ first_of (compared frames file (hash_at frames)) (first_difference hash_at marks)
@@ -255,7 +255,7 @@ same_replayed a b difference frames world =
     ap₂ (λ (d : Option Difference) (n : ℕ). replayed_with d n a.world) difference frames
     ∙ ap (replayed_with b.difference b.frames) world
 
-first_of_none : (d : Option Difference) → first_of d None ≡ d
+pub first_of_none : (d : Option Difference) → first_of d None ≡ d
 first_of_none None = refl
 first_of_none (Some d) = refl
 

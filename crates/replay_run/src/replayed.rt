@@ -63,7 +63,7 @@ impl<S: FirstHash> Replayed<S> {
     }
 
     /// Compares a mark, if none differed before.
-    fn compare(&mut self, file: u64, version: u16)
+    pub(crate) fn compare(&mut self, file: u64, version: u16)
         ensures { self.new ≡ passed S.after (hash_by S.hash_of S.first_hash_of version)
             self.old (part.Mark file) }
     {

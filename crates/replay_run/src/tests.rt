@@ -147,6 +147,26 @@ fn replays_go_on_from_each_frame(rt: HostRuntime) -> Result<(), Fail> {
 }
 
 #[test]
+fn a_replay_is_stepped(rt: HostRuntime) -> Result<(), Fail> {
+    let r = read_replay(rt.alloc(), &changed(&RECORD, 38, 6), 7)?;
+    assert!(&rt; r.clients == 2);
+    let mut run = ReplayStepper::begin(Tally::new(), r);
+    let last = Difference {
+        frames: 2,
+        file: 6,
+        here: 5,
+    };
+    // a mark is compared as soon as the frame before it was stepped
+    for difference in [None, Some(last)] {
+        assert!(&rt; run.step());
+        assert_eq!(rt; run.so_far().difference, difference);
+    }
+    assert!(&rt; !run.step());
+    assert_eq!(rt; run.so_far().frames, 2);
+    Ok(())
+}
+
+#[test]
 fn replays_are_migrated(rt: HostRuntime) -> Result<(), Fail> {
     let r = read_replay(rt.alloc(), &FIRST, 7)?;
     assert!(&rt; r.clients == 2);
