@@ -18,7 +18,7 @@ use Rattle.clap.specs.declared.error.kind.ErrorKind.TheVariants.{MissingRequired
 use Rattle.clap.proofs.SimpleLemmas.{is_nil}
 use Rattle.clap.proofs.WalkLemmas.{both}
 use Rattle.world_units.specs.declared.cell.CPos.{CPos}
-use Rattle.command_words.specs.RequestPlain.{Check, Compare, Continue, Datagrams, Drill, Local, Make, Migrate, Replay, RequestPlain, Save, Serve, View, Worlds, Yaml}
+use Rattle.command_words.specs.RequestPlain.{Check, Compare, Continue, Datagrams, Drill, Local, Make, Migrate, Replay, RequestPlain, Save, View, Worlds, Yaml}
 use Rattle.command_words.specs.Player.{PlayerPlain, Script, Bot}
 use Rattle.command_words.specs.Commands.{option_named, required_option, flag_named, number_option, required_number, bare_app, lockstep_app}
 use Rattle.command_words.specs.Reading.{is_accepted, command_request, names_in, cell_in, number_of, number_in, up_to, count_in, count_or, optional, seconds_in, ports_in, host_in, from_one, step_or, at_most, bots_in, match_in, local_in, play_in, serve_in, migrate_in, route_in, save_in, continue_in, view_in, range_in, worlds_in, compare_in, has_flag, player_of, player_in, played_by, found_request, request_of, NamesRefused, CellRefused, PlayerRefused, PortsRefused}

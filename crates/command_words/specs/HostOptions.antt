@@ -1,8 +1,6 @@
 -- What the arguments say of the log, the clocks and the ports of a match over links.
-use Rattle.std.specs.Prelude.{ℕ, ◌≤◌, false, Option, None, Some, IfSome}
+use Rattle.std.specs.Prelude.{false, Option, None, Some}
 use Rattle.command_words.specs.declared.host.HostOptions.{HostOptions}
-use Rattle.command_words.specs.declared.host.TheConstants.{MAX_SECONDS}
-use Rattle.command_words.specs.declared.port_range.PortRange.{PortRange}
 use Rattle.command_words.specs.RequestPlain.{RequestPlain, Serve, Play, PlayBot}
 
 -- None of the options is given.

@@ -12,8 +12,8 @@ ghost use Rattle.command_words.specs.Commands.{replaying_app, saving_app, showin
 ghost use Rattle.command_words.specs.Commands.{option_named, required_option, required_number};
 ghost use Rattle.command_words.specs.Commands.{file_names, number_option, within};
 ghost use Rattle.command_words.specs.Follows.{Follows};
-ghost use Rattle.clap.specs.Simple.{app_of};
-ghost use Rattle.clap.specs.Walk.{rule_of};
+ghost use Rattle.clap.specs.Simple.{App, app_of, with_rule, with_subcommand};
+ghost use Rattle.clap.specs.Walk.{Rule, rule_of};
 
 use crate::{MAX_BOTS, MAX_SECONDS};
 use base::NoMemory;
@@ -27,9 +27,8 @@ use std::alloc::Global;
 pub(crate) fn lockstep_command<'a>(alloc: Global) -> Result<Command<'a>, NoMemory>
     ensures { IfOk result (λ command. app_of command ≡ lockstep_app) }
 {
-    showing_commands(alloc)?
-        .subcommand(compare_command(alloc)?)?
-        .subcommand(datagrams_command(alloc)?)
+    let command = with_command(showing_commands(alloc), compare_command(alloc));
+    with_command(command, datagrams_command(alloc))
 }
 
 /// The command of the program with the subcommands that show worlds of a replay, too.
@@ -37,9 +36,8 @@ pub(crate) fn lockstep_command<'a>(alloc: Global) -> Result<Command<'a>, NoMemor
 fn showing_commands<'a>(alloc: Global) -> Result<Command<'a>, NoMemory>
     ensures { IfOk result (Follows showing_app) }
 {
-    saving_commands(alloc)?
-        .subcommand(view_command(alloc)?)?
-        .subcommand(worlds_command(alloc)?)
+    let command = with_command(saving_commands(alloc), view_command(alloc));
+    with_command(command, worlds_command(alloc))
 }
 
 /// The command of the program with the subcommands that write a save and go on from it, too.
@@ -47,9 +45,8 @@ fn showing_commands<'a>(alloc: Global) -> Result<Command<'a>, NoMemory>
 fn saving_commands<'a>(alloc: Global) -> Result<Command<'a>, NoMemory>
     ensures { IfOk result (Follows saving_app) }
 {
-    replaying_commands(alloc)?
-        .subcommand(save_command(alloc)?)?
-        .subcommand(continue_command(alloc)?)
+    let command = with_command(replaying_commands(alloc), save_command(alloc));
+    with_command(command, continue_command(alloc))
 }
 
 /// The command of the program with the subcommands that run a replay, too.
@@ -57,9 +54,8 @@ fn saving_commands<'a>(alloc: Global) -> Result<Command<'a>, NoMemory>
 fn replaying_commands<'a>(alloc: Global) -> Result<Command<'a>, NoMemory>
     ensures { IfOk result (Follows replaying_app) }
 {
-    linked_commands(alloc)?
-        .subcommand(replay_command(alloc)?)?
-        .subcommand(migrate_command(alloc)?)
+    let command = with_command(linked_commands(alloc), replay_command(alloc));
+    with_command(command, migrate_command(alloc))
 }
 
 /// The command of the program with the subcommands over links, too.
@@ -67,9 +63,8 @@ fn replaying_commands<'a>(alloc: Global) -> Result<Command<'a>, NoMemory>
 fn linked_commands<'a>(alloc: Global) -> Result<Command<'a>, NoMemory>
     ensures { IfOk result (Follows linked_app) }
 {
-    playing_commands(alloc)?
-        .subcommand(serve_command(alloc)?)?
-        .subcommand(play_command(alloc)?)
+    let command = with_command(playing_commands(alloc), serve_command(alloc));
+    with_command(command, play_command(alloc))
 }
 
 /// The command of the program with the subcommands that play made matches and scripts, too.
@@ -77,9 +72,8 @@ fn linked_commands<'a>(alloc: Global) -> Result<Command<'a>, NoMemory>
 fn playing_commands<'a>(alloc: Global) -> Result<Command<'a>, NoMemory>
     ensures { IfOk result (Follows playing_app) }
 {
-    asking_commands(alloc)?
-        .subcommand(make_command(alloc)?)?
-        .subcommand(local_command(alloc)?)
+    let command = with_command(asking_commands(alloc), make_command(alloc));
+    with_command(command, local_command(alloc))
 }
 
 /// The command of the program with the subcommands that only ask about rules and maps, too.
@@ -87,9 +81,8 @@ fn playing_commands<'a>(alloc: Global) -> Result<Command<'a>, NoMemory>
 fn asking_commands<'a>(alloc: Global) -> Result<Command<'a>, NoMemory>
     ensures { IfOk result (Follows asking_app) }
 {
-    first_commands(alloc)?
-        .subcommand(check_command(alloc)?)?
-        .subcommand(route_command(alloc)?)
+    let command = with_command(first_commands(alloc), check_command(alloc));
+    with_command(command, route_command(alloc))
 }
 
 /// The command of the program with its first subcommands.
@@ -97,9 +90,30 @@ fn asking_commands<'a>(alloc: Global) -> Result<Command<'a>, NoMemory>
 fn first_commands<'a>(alloc: Global) -> Result<Command<'a>, NoMemory>
     ensures { IfOk result (Follows first_app) }
 {
-    bare_command(alloc)
-        .subcommand(drill_command(alloc)?)?
-        .subcommand(yaml_command(alloc)?)
+    let command = with_command(Ok(bare_command(alloc)), drill_command(alloc));
+    with_command(command, yaml_command(alloc))
+}
+
+/// The command with one more subcommand, if both were made.
+fn with_command<'a>(
+    command: Result<Command<'a>, NoMemory>,
+    added: Result<Command<'a>, NoMemory>,
+) -> Result<Command<'a>, NoMemory>
+    ensures { (app sub : App) → IfOk command.entry (Follows app) → IfOk added.entry (Follows sub)
+        → IfOk result (Follows (with_subcommand app sub.top)) }
+{
+    command?.subcommand(added?)
+}
+
+/// The command with one more argument, if it was made.
+fn with_arg<'a>(
+    command: Result<Command<'a>, NoMemory>,
+    arg: Arg<'a>,
+) -> Result<Command<'a>, NoMemory>
+    ensures { (app : App) (rule : Rule) → IfOk command.entry (Follows app) → rule_of arg.entry ≡ rule
+        → arg.entry.global ≡ false → IfOk result (Follows (with_rule app rule)) }
+{
+    command?.arg(arg)
 }
 
 /// A command that one of its subcommands must follow. It has no subcommand and no option for help
@@ -119,9 +133,11 @@ fn bare_command<'a>(alloc: Global) -> Command<'a>
 fn drill_command<'a>(alloc: Global) -> Result<Command<'a>, NoMemory>
     ensures { IfOk result (Follows drill_app) }
 {
-    played_command(alloc, "drill", "script")?
-        .arg(option_named(alloc, "record"))?
-        .arg(file_names(alloc))
+    let command = with_arg(
+        played_command(alloc, "drill", "script"),
+        option_named(alloc, "record"),
+    );
+    with_arg(command, file_names(alloc))
 }
 
 /// A command that plays a match over the file of this option, and a map, if one is named, so far.
@@ -133,9 +149,11 @@ fn played_command<'a>(
 ) -> Result<Command<'a>, NoMemory>
     ensures { IfOk result (Follows (played_app command.entry.now option.entry.now)) }
 {
-    Command::new(alloc, command)
-        .arg(required_option(alloc, option))?
-        .arg(option_named(alloc, "map"))
+    let command = with_arg(
+        Ok(Command::new(alloc, command)),
+        required_option(alloc, option),
+    );
+    with_arg(command, option_named(alloc, "map"))
 }
 
 #[tactic(auto, unfolding(crate::specs::Commands::yaml_app))]
@@ -149,16 +167,15 @@ fn yaml_command<'a>(alloc: Global) -> Result<Command<'a>, NoMemory>
 fn check_command<'a>(alloc: Global) -> Result<Command<'a>, NoMemory>
     ensures { IfOk result (Follows check_app) }
 {
-    Command::new(alloc, "check")
-        .arg(option_named(alloc, "map"))?
-        .arg(file_names(alloc))
+    let command = with_arg(Ok(Command::new(alloc, "check")), option_named(alloc, "map"));
+    with_arg(command, file_names(alloc))
 }
 
 #[tactic(auto, unfolding(crate::specs::Commands::route_app))]
 fn route_command<'a>(alloc: Global) -> Result<Command<'a>, NoMemory>
     ensures { IfOk result (Follows route_app) }
 {
-    route_with_cells(alloc)?.arg(file_names(alloc))
+    with_arg(route_with_cells(alloc), file_names(alloc))
 }
 
 /// `route` with all its options.
@@ -166,9 +183,8 @@ fn route_command<'a>(alloc: Global) -> Result<Command<'a>, NoMemory>
 fn route_with_cells<'a>(alloc: Global) -> Result<Command<'a>, NoMemory>
     ensures { IfOk result (Follows ends_app) }
 {
-    routed_command(alloc)?
-        .arg(required_option(alloc, "from"))?
-        .arg(required_option(alloc, "to"))
+    let command = with_arg(routed_command(alloc), required_option(alloc, "from"));
+    with_arg(command, required_option(alloc, "to"))
 }
 
 /// `route` with its first options: what walks on which map.
@@ -176,25 +192,29 @@ fn route_with_cells<'a>(alloc: Global) -> Result<Command<'a>, NoMemory>
 fn routed_command<'a>(alloc: Global) -> Result<Command<'a>, NoMemory>
     ensures { IfOk result (Follows routed_app) }
 {
-    Command::new(alloc, "route")
-        .arg(required_option(alloc, "map"))?
-        .arg(required_option(alloc, "kind"))
+    let command = with_arg(
+        Ok(Command::new(alloc, "route")),
+        required_option(alloc, "map"),
+    );
+    with_arg(command, required_option(alloc, "kind"))
 }
 
 #[tactic(auto, unfolding(crate::specs::Commands::local_app))]
 fn local_command<'a>(alloc: Global) -> Result<Command<'a>, NoMemory>
     ensures { IfOk result (Follows local_app) }
 {
-    played_command(alloc, "local", "script")?
-        .arg(number_option(alloc, "bots", 0, u32::from(MAX_BOTS)))?
-        .arg(file_names(alloc))
+    let command = with_arg(
+        played_command(alloc, "local", "script"),
+        number_option(alloc, "bots", 0, u32::from(MAX_BOTS)),
+    );
+    with_arg(command, file_names(alloc))
 }
 
 #[tactic(auto, unfolding(crate::specs::Commands::serve_app))]
 fn serve_command<'a>(alloc: Global) -> Result<Command<'a>, NoMemory>
     ensures { IfOk result (Follows serve_app) }
 {
-    recorded_command(alloc)?.arg(file_names(alloc))
+    with_arg(recorded_command(alloc), file_names(alloc))
 }
 
 /// `serve` with all its options.
@@ -202,9 +222,8 @@ fn serve_command<'a>(alloc: Global) -> Result<Command<'a>, NoMemory>
 fn recorded_command<'a>(alloc: Global) -> Result<Command<'a>, NoMemory>
     ensures { IfOk result (Follows recorded_app) }
 {
-    bound_command(alloc)?
-        .arg(option_named(alloc, "record"))?
-        .arg(option_named(alloc, "map"))
+    let command = with_arg(bound_command(alloc), option_named(alloc, "record"));
+    with_arg(command, option_named(alloc, "map"))
 }
 
 /// `serve` without the files that it names.
@@ -212,9 +231,8 @@ fn recorded_command<'a>(alloc: Global) -> Result<Command<'a>, NoMemory>
 fn bound_command<'a>(alloc: Global) -> Result<Command<'a>, NoMemory>
     ensures { IfOk result (Follows bound_app) }
 {
-    clocked_command(alloc)?
-        .arg(flag_named(alloc, "quiet"))?
-        .arg(option_named(alloc, "udp-ports"))
+    let command = with_arg(clocked_command(alloc), flag_named(alloc, "quiet"));
+    with_arg(command, option_named(alloc, "udp-ports"))
 }
 
 /// `serve` with all its numbers.
@@ -222,9 +240,11 @@ fn bound_command<'a>(alloc: Global) -> Result<Command<'a>, NoMemory>
 fn clocked_command<'a>(alloc: Global) -> Result<Command<'a>, NoMemory>
     ensures { IfOk result (Follows clocked_app) }
 {
-    serve_with_numbers(alloc)?
-        .arg(number_option(alloc, "patience", 1, MAX_SECONDS))?
-        .arg(number_option(alloc, "lobby", 1, MAX_SECONDS))
+    let command = with_arg(
+        serve_with_numbers(alloc),
+        number_option(alloc, "patience", 1, MAX_SECONDS),
+    );
+    with_arg(command, number_option(alloc, "lobby", 1, MAX_SECONDS))
 }
 
 /// `serve` with the numbers of the match.
@@ -232,9 +252,11 @@ fn clocked_command<'a>(alloc: Global) -> Result<Command<'a>, NoMemory>
 fn serve_with_numbers<'a>(alloc: Global) -> Result<Command<'a>, NoMemory>
     ensures { IfOk result (Follows timed_app) }
 {
-    hosted_command(alloc)?
-        .arg(number_option(alloc, "lag", 1, u32::from(MAX_LAG)))?
-        .arg(number_option(alloc, "seed", 0, u32::MAX))
+    let command = with_arg(
+        hosted_command(alloc),
+        number_option(alloc, "lag", 1, u32::from(MAX_LAG)),
+    );
+    with_arg(command, number_option(alloc, "seed", 0, u32::MAX))
 }
 
 /// `serve` with its first options: where, and to how many clients.
@@ -242,16 +264,21 @@ fn serve_with_numbers<'a>(alloc: Global) -> Result<Command<'a>, NoMemory>
 fn hosted_command<'a>(alloc: Global) -> Result<Command<'a>, NoMemory>
     ensures { IfOk result (Follows hosted_app) }
 {
-    Command::new(alloc, "serve")
-        .arg(required_option(alloc, "at"))?
-        .arg(required_number(alloc, "clients", 1, u32::from(MAX_CLIENTS)))
+    let command = with_arg(
+        Ok(Command::new(alloc, "serve")),
+        required_option(alloc, "at"),
+    );
+    with_arg(
+        command,
+        required_number(alloc, "clients", 1, u32::from(MAX_CLIENTS)),
+    )
 }
 
 #[tactic(auto, unfolding(crate::specs::Commands::play_app))]
 fn play_command<'a>(alloc: Global) -> Result<Command<'a>, NoMemory>
     ensures { IfOk result (Follows play_app) }
 {
-    quiet_command(alloc)?.arg(file_names(alloc))
+    with_arg(quiet_command(alloc), file_names(alloc))
 }
 
 /// `play` with all its options.
@@ -259,9 +286,8 @@ fn play_command<'a>(alloc: Global) -> Result<Command<'a>, NoMemory>
 fn quiet_command<'a>(alloc: Global) -> Result<Command<'a>, NoMemory>
     ensures { IfOk result (Follows quiet_app) }
 {
-    manned_command(alloc)?
-        .arg(flag_named(alloc, "quiet"))?
-        .arg(option_named(alloc, "map"))
+    let command = with_arg(manned_command(alloc), flag_named(alloc, "quiet"));
+    with_arg(command, option_named(alloc, "map"))
 }
 
 /// `play` with all that says where and who plays.
@@ -269,9 +295,8 @@ fn quiet_command<'a>(alloc: Global) -> Result<Command<'a>, NoMemory>
 fn manned_command<'a>(alloc: Global) -> Result<Command<'a>, NoMemory>
     ensures { IfOk result (Follows manned_app) }
 {
-    dialed_command(alloc)?
-        .arg(flag_named(alloc, "bot"))?
-        .arg(number_option(alloc, "frames", 0, MAX_FRAMES))
+    let command = with_arg(dialed_command(alloc), flag_named(alloc, "bot"));
+    with_arg(command, number_option(alloc, "frames", 0, MAX_FRAMES))
 }
 
 /// `play` with its first options: where, and by which script.
@@ -279,34 +304,37 @@ fn manned_command<'a>(alloc: Global) -> Result<Command<'a>, NoMemory>
 fn dialed_command<'a>(alloc: Global) -> Result<Command<'a>, NoMemory>
     ensures { IfOk result (Follows dialed_app) }
 {
-    Command::new(alloc, "play")
-        .arg(required_option(alloc, "at"))?
-        .arg(option_named(alloc, "script"))
+    let command = with_arg(
+        Ok(Command::new(alloc, "play")),
+        required_option(alloc, "at"),
+    );
+    with_arg(command, option_named(alloc, "script"))
 }
 
 #[tactic(auto, unfolding(crate::specs::Commands::replay_app))]
 fn replay_command<'a>(alloc: Global) -> Result<Command<'a>, NoMemory>
     ensures { IfOk result (Follows replay_app) }
 {
-    played_command(alloc, "replay", "file")?.arg(file_names(alloc))
+    with_arg(played_command(alloc, "replay", "file"), file_names(alloc))
 }
 
 #[tactic(auto, unfolding(crate::specs::Commands::migrate_app))]
 fn migrate_command<'a>(alloc: Global) -> Result<Command<'a>, NoMemory>
     ensures { IfOk result (Follows migrate_app) }
 {
-    played_command(alloc, "migrate", "file")?
-        .arg(required_option(alloc, "to"))?
-        .arg(file_names(alloc))
+    let command = with_arg(
+        played_command(alloc, "migrate", "file"),
+        required_option(alloc, "to"),
+    );
+    with_arg(command, file_names(alloc))
 }
 
 #[tactic(auto, unfolding(crate::specs::Commands::save_app))]
 fn save_command<'a>(alloc: Global) -> Result<Command<'a>, NoMemory>
     ensures { IfOk result (Follows save_app) }
 {
-    framed_command(alloc)?
-        .arg(required_option(alloc, "to"))?
-        .arg(file_names(alloc))
+    let command = with_arg(framed_command(alloc), required_option(alloc, "to"));
+    with_arg(command, file_names(alloc))
 }
 
 /// `save` with its first options: which replay, and after how many frames.
@@ -314,34 +342,43 @@ fn save_command<'a>(alloc: Global) -> Result<Command<'a>, NoMemory>
 fn framed_command<'a>(alloc: Global) -> Result<Command<'a>, NoMemory>
     ensures { IfOk result (Follows framed_app) }
 {
-    played_command(alloc, "save", "file")?.arg(required_number(alloc, "frames", 0, u32::MAX))
+    with_arg(
+        played_command(alloc, "save", "file"),
+        required_number(alloc, "frames", 0, u32::MAX),
+    )
 }
 
 #[tactic(auto, unfolding(crate::specs::Commands::continue_app))]
 fn continue_command<'a>(alloc: Global) -> Result<Command<'a>, NoMemory>
     ensures { IfOk result (Follows continue_app) }
 {
-    played_command(alloc, "continue", "file")?
-        .arg(required_option(alloc, "save"))?
-        .arg(file_names(alloc))
+    let command = with_arg(
+        played_command(alloc, "continue", "file"),
+        required_option(alloc, "save"),
+    );
+    with_arg(command, file_names(alloc))
 }
 
 #[tactic(auto, unfolding(crate::specs::Commands::view_app))]
 fn view_command<'a>(alloc: Global) -> Result<Command<'a>, NoMemory>
     ensures { IfOk result (Follows view_app) }
 {
-    played_command(alloc, "view", "file")?
-        .arg(required_number(alloc, "client", 0, u32::MAX))?
-        .arg(file_names(alloc))
+    let command = with_arg(
+        played_command(alloc, "view", "file"),
+        required_number(alloc, "client", 0, u32::MAX),
+    );
+    with_arg(command, file_names(alloc))
 }
 
 #[tactic(auto, unfolding(crate::specs::Commands::worlds_app))]
 fn worlds_command<'a>(alloc: Global) -> Result<Command<'a>, NoMemory>
     ensures { IfOk result (Follows worlds_app) }
 {
-    ranged_command(alloc)?
-        .arg(number_option(alloc, "every", 1, u32::MAX))?
-        .arg(file_names(alloc))
+    let command = with_arg(
+        ranged_command(alloc),
+        number_option(alloc, "every", 1, u32::MAX),
+    );
+    with_arg(command, file_names(alloc))
 }
 
 /// `worlds` with its first options: of which replay, from where and how far.
@@ -349,18 +386,22 @@ fn worlds_command<'a>(alloc: Global) -> Result<Command<'a>, NoMemory>
 fn ranged_command<'a>(alloc: Global) -> Result<Command<'a>, NoMemory>
     ensures { IfOk result (Follows ranged_app) }
 {
-    played_command(alloc, "worlds", "file")?
-        .arg(number_option(alloc, "from", 0, u32::MAX))?
-        .arg(number_option(alloc, "to", 0, u32::MAX))
+    let command = with_arg(
+        played_command(alloc, "worlds", "file"),
+        number_option(alloc, "from", 0, u32::MAX),
+    );
+    with_arg(command, number_option(alloc, "to", 0, u32::MAX))
 }
 
 #[tactic(auto, unfolding(crate::specs::Commands::compare_app))]
 fn compare_command<'a>(alloc: Global) -> Result<Command<'a>, NoMemory>
     ensures { IfOk result (Follows compare_app) }
 {
-    played_command(alloc, "compare", "file")?
-        .arg(required_option(alloc, "with"))?
-        .arg(file_names(alloc))
+    let command = with_arg(
+        played_command(alloc, "compare", "file"),
+        required_option(alloc, "with"),
+    );
+    with_arg(command, file_names(alloc))
 }
 
 #[tactic(auto, unfolding(crate::specs::Commands::datagrams_app))]

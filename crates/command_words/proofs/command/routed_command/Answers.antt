@@ -1,0 +1,12 @@
+use Rattle.std.specs.Prelude.{codes}
+use Rattle.clap.specs.Simple.{new_app}
+use Rattle.command_words.specs.Commands.{routed_app}
+use Rattle.command_words.proofs.command.routed_command.Goals as goal
+
+pub returns : goal.returns
+unfolding routed_app
+returns c =
+    c.with_arg.ensures _ _
+    (c.with_arg-command.ensures (new_app (codes "route")) _ (record { app = c.new.ensures.app; local = c.new.ensures.local })
+    c.required_option.ensures.rule c.required_option.ensures.local)
+    c.required_option-2.ensures.rule c.required_option-2.ensures.local
