@@ -280,7 +280,10 @@ fn a_held_link(rt: HostRuntime) -> Result<(), Fail> {
         let (after, ended) = hold_a_link(&rt, rt.alloc(), remains)?;
         let ends = [LinkEnd::Ended, LinkEnd::Kicked(0)];
         assert_eq!(rt; after.ends.as_slice(), ends.as_slice());
-        assert_eq!(rt; (after.faults, after.left), ((faults, 0), (Some(0), Some(0))));
+        assert_eq!(rt;
+            (after.faults, after.left),
+            ((faults, 0), (Some(0), Some(0)))
+        );
         assert!(rt; !ended);
     }
     Ok(())

@@ -96,7 +96,10 @@ fn a_client_that_is_kicked(rt: HostRuntime) -> Result<(), Fail> {
         );
         assert!(rt; may_end(ends.get(1).copied(), second.plays), "{second:?}");
         let packets = column_packets(second.plays);
-        assert_eq!(rt; (told_first.as_slice(), told_second.as_slice()), (packets, packets));
+        assert_eq!(rt;
+            (told_first.as_slice(), told_second.as_slice()),
+            (packets, packets)
+        );
     }
     Ok(())
 }

@@ -57,7 +57,10 @@ fn serve_link<R: Threads + Wait + Sync>(
 fn links(rt: HostRuntime) -> Result<(), Fail> {
     for (bytes, end, taken, hash) in LINKS {
         let served = serve_link(&rt, rt.alloc(), bytes)?;
-        assert_eq!(rt; (served.ends.as_slice().get(0).copied(), served.hash), (Some(end), hash));
+        assert_eq!(rt;
+            (served.ends.as_slice().get(0).copied(), served.hash),
+            (Some(end), hash)
+        );
         assert_eq!(rt; served.taken.as_slice(), [taken, 24].as_slice());
     }
     Ok(())
