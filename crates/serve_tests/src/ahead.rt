@@ -2,13 +2,14 @@
 
 ghost use Rattle.std.specs.Prelude.{◌≡◌};
 
-use crate::held::{HELLO, HeldConsole, HeldNet, Hold};
-use crate::serving::{serve_by_console, two_links};
-use game_io::{MemNet, MemSource};
+use crate::held::{HELLO, HeldNet, Hold, serve_held_console};
+use crate::serving::{Outcome, two_links};
+use game_io::MemNet;
 use match_serve::LinkEnd;
 use std::alloc::{AllocError, Global};
-use std::sync::atomic::Ordering;
+use std::sync::Wait;
 use std::test::Fail;
+use std::thread::Threads;
 
 /// So many frames are offered at once.
 const OFFERED: u32 = 1_000;
@@ -59,32 +60,38 @@ fn held_net<'a>(net: MemNet, hold: &'a Hold, other: &'a Hold) -> HeldNet<'a>
     }
 }
 
+/// Serves a match in which client 0 offers its frames at once and client 1 plays so many. Until the
+/// last play was put the console is held, and until the departure was put client 1. Whether the
+/// turns of either have ended as well.
+fn play_ahead<R: Threads + Wait + Sync>(
+    rt: &R,
+    alloc: Global,
+    played: u32,
+    last_play: &'static [&'static [u8]],
+    departure: &'static [&'static [u8]],
+) -> Result<(Outcome, (bool, bool)), Fail> {
+    let first = plays(alloc, OFFERED)?;
+    let second = plays(alloc, played)?;
+    let links = two_links(alloc, &first, &second, Vec::new(alloc))?;
+    let full = Hold::new(last_play);
+    let gone = Hold::new(departure);
+    let net = held_net(links, &gone, &full);
+    let (served, _left) = serve_held_console(rt, alloc, net, b"kick 0\n", &full)?;
+    Ok((served, (full.has_ended(), gone.has_ended())))
+}
+
 /// Client 0 offers a thousand frames at once. The console kicks it once client 1 was sent the last one
 /// that may be put, and client 1 leaves once it was sent the departure. With a reader that puts less
 /// the turns end; with one that puts more, or a kick that holds later, they end too.
 #[test]
 fn a_client_that_is_far_ahead(rt: HostRuntime) -> Result<(), Fail> {
     for (played, last_play, departure, put) in ROWS {
-        let full = Hold::new(last_play);
-        let gone = Hold::new(departure);
-        let first = plays(rt.alloc(), OFFERED)?;
-        let second = plays(rt.alloc(), played)?;
-        let links = two_links(rt.alloc(), &first, &second, Vec::new(rt.alloc()))?;
-        let mut net = held_net(links, &gone, &full);
-        let mut console = HeldConsole {
-            source: MemSource::new(
-                Vec::from_slice(rt.alloc(), b"kick 0\n")?,
-                Vec::new(rt.alloc()),
-            ),
-            hold: &full,
-        };
-        let mut served = serve_by_console(&rt, rt.alloc(), &mut net, &mut console)?;
-        let ahead = served.table.seen(&mut served.pass, 0);
-        let other = served.table.seen(&mut served.pass, 1);
+        let (served, ended) = play_ahead(&rt, rt.alloc(), played, last_play, departure)?;
+        let (ahead, other) = served.seen;
         let ends = [LinkEnd::Kicked(put), LinkEnd::Ended];
         assert_eq!(rt; (ahead.plays, other.plays), (put, played));
         assert_eq!(rt; served.ends.as_slice(), ends.as_slice());
-        assert!(rt; !full.ended.load(Ordering::SeqCst) && !gone.ended.load(Ordering::SeqCst));
+        assert_eq!(rt; ended, (false, false));
     }
     Ok(())
 }

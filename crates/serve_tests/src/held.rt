@@ -1,16 +1,20 @@
 //! A link that gives nothing more until its client was let go, and a console that gives nothing
 //! before.
+ghost use Rattle.std.specs.Prelude.{◌≡◌, []};
 ghost use Rattle.game_io.specs.PlannedBytes.{sink_state, source_state};
 ghost use Rattle.game_io.specs.PlannedLinks.{net_state};
 
-use crate::serving::{serve, serve_by_console, two_links};
+use crate::serving::{Outcome, serve, serve_by_console, two_links};
 use game_io::{
     Failed, FailingCall, MAX_HOLD_TURNS, MemNet, MemSink, MemSource, Net, Remains, Sink, Source,
 };
 use match_serve::LinkEnd;
+use std::alloc::{AllocError, Global};
+use std::sync::Wait;
 use std::sync::atomic::{AtomicBool, Ordering};
 use std::test::Fail;
 use std::thread;
+use std::thread::Threads;
 
 /// The departures of clients 0 and 1 at frame 0, as packets in this order.
 const FIRST_LEAVES_FIRST: &[u8] =
@@ -35,7 +39,7 @@ const BOTH_HAVE_LEFT: &[&[u8]] = &[FIRST_LEAVES_FIRST, SECOND_LEAVES_FIRST];
 pub(crate) struct Hold {
     until: &'static [&'static [u8]],
     pub let_go: AtomicBool,
-    pub ended: AtomicBool,
+    ended: AtomicBool,
 }
 
 impl Hold {
@@ -52,6 +56,11 @@ impl Hold {
         if self.until.iter().any(|end| bytes.ends_with(end)) {
             self.let_go.store(true, Ordering::SeqCst);
         }
+    }
+
+    /// Whether the turns have ended.
+    pub fn has_ended(&self) -> bool {
+        self.ended.load(Ordering::SeqCst)
     }
 
     /// Waits for the end of the hold, at most [`MAX_HOLD_TURNS`] turns.
@@ -203,29 +212,79 @@ const LINES: &[u8] =
 /// and how often that link has then failed.
 const FAILING: [(Option<Remains>, u64); 2] = [(None, 0), (Some(Remains::Prefix(3)), 1)];
 
+/// What became of a held link and of the other one.
+#[derive(Drop)]
+struct AfterHold {
+    /// How each link ended, by client.
+    ends: Vec<LinkEnd>,
+    /// How often each link has failed.
+    faults: (u64, u64),
+    /// How many bytes each link has left.
+    left: (Option<usize>, Option<usize>),
+}
+
+/// How many bytes link `i` has left.
+fn left_of(net: &MemNet, i: u32) -> Option<usize> {
+    match net.left(i) {
+        Some(bytes) => Some(bytes.len()),
+        None => None,
+    }
+}
+
+/// The call that fails so, if one does.
+fn failing(alloc: Global, remains: Option<Remains>) -> Result<Vec<FailingCall>, AllocError> {
+    let mut puts = Vec::new(alloc);
+    if let Some(remains) = remains {
+        puts.push(FailingCall { call: 2, remains })?;
+    }
+    Ok(puts)
+}
+
+/// Serves a match over a net that is held so.
+fn serve_held<R: Threads + Wait + Sync>(
+    rt: &R,
+    alloc: Global,
+    net: MemNet,
+    hold: &Hold,
+) -> Result<AfterHold, Fail>
+    requires no_links { net.given ≡ [] }
+{
+    let other = None;
+    let mut net = HeldNet { net, hold, other };
+    let served = serve(rt, alloc, &mut net, LINES)?;
+    Ok(AfterHold {
+        ends: served.ends,
+        faults: (net.link_faults(0), net.link_faults(1)),
+        left: (left_of(&net.net, 0), left_of(&net.net, 1)),
+    })
+}
+
+/// Serves a match whose second link is held, while a put to the first one fails so. Whether the
+/// turns have ended as well.
+fn hold_a_link<R: Threads + Wait + Sync>(
+    rt: &R,
+    alloc: Global,
+    remains: Option<Remains>,
+) -> Result<(AfterHold, bool), Fail> {
+    let puts = failing(alloc, remains)?;
+    let net = two_links(alloc, HELLO_AND_BYE, HELLO, puts)?;
+    let hold = Hold::new(SECOND_HAS_LEFT);
+    let after = serve_held(rt, alloc, net, &hold)?;
+    Ok((after, hold.has_ended()))
+}
+
 /// With a server that does not kick, the turns end.
 #[test]
 fn a_held_link(rt: HostRuntime) -> Result<(), Fail> {
     for (remains, faults) in FAILING {
-        let hold = Hold::new(SECOND_HAS_LEFT);
-        let mut puts = Vec::new(rt.alloc());
-        if let Some(remains) = remains {
-            puts.push(FailingCall { call: 2, remains })?;
-        }
-        let mut net = HeldNet {
-            net: two_links(rt.alloc(), HELLO_AND_BYE, HELLO, puts)?,
-            hold: &hold,
-            other: None,
-        };
-        let served = serve(&rt, rt.alloc(), &mut net, LINES)?;
+        let (after, ended) = hold_a_link(&rt, rt.alloc(), remains)?;
         let ends = [LinkEnd::Ended, LinkEnd::Kicked(0)];
-        assert_eq!(rt; served.ends.as_slice(), ends.as_slice());
-        assert_eq!(rt; (net.link_faults(0), net.link_faults(1)), (faults, 0));
+        assert_eq!(rt; after.ends.as_slice(), ends.as_slice());
         assert_eq!(rt;
-            (net.net.left(0), net.net.left(1)),
-            (Some(b"".as_slice()), Some(b"".as_slice()))
+            (after.faults, after.left),
+            ((faults, 0), (Some(0), Some(0)))
         );
-        assert!(rt; !hold.ended.load(Ordering::SeqCst));
+        assert!(rt; !ended);
     }
     Ok(())
 }
@@ -254,31 +313,47 @@ impl<'a> Source for HeldConsole<'a> {
 const LAST_LINES: &[u8] =
     b"They have left. This line is 64 bytes long, its end counts too.\nkick 0\n";
 
-/// The first line that comes once both have left ends the console.
-#[test]
-fn a_held_console(rt: HostRuntime) -> Result<(), Fail> {
+/// Serves a match over a held net, while a console that is held so gives these lines. What the
+/// console has left as well.
+pub(crate) fn serve_held_console<'a, R: Threads + Wait + Sync>(
+    rt: &R,
+    alloc: Global,
+    mut net: HeldNet<'a>,
+    lines: &[u8],
+    hold: &'a Hold,
+) -> Result<(Outcome, Vec<u8>), Fail>
+    requires no_links { net.net.given ≡ [] }
+{
+    let source = MemSource::new(Vec::from_slice(alloc, lines)?, Vec::new(alloc));
+    let mut console = HeldConsole { source, hold };
+    let served = serve_by_console(rt, alloc, &mut net, &mut console)?;
+    Ok((served, Vec::from_slice(alloc, console.source.left())?))
+}
+
+/// Serves a match whose second link and whose console are held. What the console has left, and
+/// whether the turns have ended, as well.
+fn hold_a_console<R: Threads + Wait + Sync>(
+    rt: &R,
+    alloc: Global,
+) -> Result<(Outcome, Vec<u8>, bool), Fail> {
+    let net = two_links(alloc, HELLO_AND_BYE, HELLO_AND_BYE, Vec::new(alloc))?;
     let hold = Hold::new(BOTH_HAVE_LEFT);
-    let mut net = HeldNet {
-        net: two_links(
-            rt.alloc(),
-            HELLO_AND_BYE,
-            HELLO_AND_BYE,
-            Vec::new(rt.alloc()),
-        )?,
+    let net = HeldNet {
+        net,
         hold: &hold,
         other: None,
     };
-    let mut console = HeldConsole {
-        source: MemSource::new(
-            Vec::from_slice(rt.alloc(), LAST_LINES)?,
-            Vec::new(rt.alloc()),
-        ),
-        hold: &hold,
-    };
-    let served = serve_by_console(&rt, rt.alloc(), &mut net, &mut console)?;
+    let (served, left) = serve_held_console(rt, alloc, net, LAST_LINES, &hold)?;
+    Ok((served, left, hold.has_ended()))
+}
+
+/// The first line that comes once both have left ends the console.
+#[test]
+fn a_held_console(rt: HostRuntime) -> Result<(), Fail> {
+    let (served, left, ended) = hold_a_console(&rt, rt.alloc())?;
     let ends = [LinkEnd::Ended, LinkEnd::Ended];
     assert_eq!(rt; served.ends.as_slice(), ends.as_slice());
-    assert_eq!(rt; console.source.left(), b"kick 0\n".as_slice());
-    assert!(rt; !hold.ended.load(Ordering::SeqCst));
+    assert_eq!(rt; left.as_slice(), b"kick 0\n".as_slice());
+    assert!(rt; !ended);
     Ok(())
 }

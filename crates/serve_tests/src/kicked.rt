@@ -1,8 +1,10 @@
 //! A client that plays while the console kicks it.
-use crate::serving::{serve, two_links};
+use crate::serving::{Outcome, serve, two_links};
 use match_serve::LinkEnd;
 use std::alloc::{AllocError, Global};
+use std::sync::Wait;
 use std::test::Fail;
+use std::thread::Threads;
 
 /// The bytes of a link whose client greets and plays the frames 0 to 4.
 const FIVE_FRAMES: &[u8] =
@@ -68,14 +70,24 @@ fn may_end(end: Option<LinkEnd>, plays: u32) -> bool {
 /// How often the match is played. Each time the kick may come at another frame.
 const MATCHES: u32 = 16;
 
+/// Serves such a match. What each of both links told of client 1 as well.
+fn kick_a_client<R: Threads + Wait + Sync>(
+    rt: &R,
+    alloc: Global,
+) -> Result<(Outcome, Vec<u8>, Vec<u8>), Fail> {
+    let puts = Vec::new(alloc);
+    let mut net = two_links(alloc, FIVE_FRAMES_AND_BYE, FIVE_FRAMES, puts)?;
+    let served = serve(rt, alloc, &mut net, b"kick 1\n")?;
+    let first = told_of_client_1(alloc, net.written(0).unwrap_or(b""))?;
+    let second = told_of_client_1(alloc, net.written(1).unwrap_or(b""))?;
+    Ok((served, first, second))
+}
+
 #[test]
 fn a_client_that_is_kicked(rt: HostRuntime) -> Result<(), Fail> {
     for _match in 0..MATCHES {
-        let puts = Vec::new(rt.alloc());
-        let mut net = two_links(rt.alloc(), FIVE_FRAMES_AND_BYE, FIVE_FRAMES, puts)?;
-        let mut served = serve(&rt, rt.alloc(), &mut net, b"kick 1\n")?;
-        let first = served.table.seen(&mut served.pass, 0);
-        let second = served.table.seen(&mut served.pass, 1);
+        let (served, told_first, told_second) = kick_a_client(&rt, rt.alloc())?;
+        let (first, second) = served.seen;
         let ends = served.ends.as_slice();
         assert_eq!(rt; (first.left, second.left), (true, true));
         assert_eq!(rt;
@@ -84,10 +96,10 @@ fn a_client_that_is_kicked(rt: HostRuntime) -> Result<(), Fail> {
         );
         assert!(rt; may_end(ends.get(1).copied(), second.plays), "{second:?}");
         let packets = column_packets(second.plays);
-        for link in 0..2 {
-            let told = told_of_client_1(rt.alloc(), net.written(link).unwrap_or(b""))?;
-            assert_eq!(rt; told.as_slice(), packets);
-        }
+        assert_eq!(rt;
+            (told_first.as_slice(), told_second.as_slice()),
+            (packets, packets)
+        );
     }
     Ok(())
 }

@@ -1,10 +1,15 @@
 //! What a match logs.
+ghost use Rattle.std.specs.Prelude.{◌≡◌, []};
+
 use crate::held::{HELLO_AND_BYE, HeldNet, Hold};
-use crate::serving::{serve_logged, two_links};
-use game_io::{MatchEvent, MemSource, MemWatch, NoGreeting, Watch};
+use crate::serving::{Outcome, serve_logged, two_links};
+use game_io::{MatchEvent, MemNet, MemWatch, NoGreeting, Watch};
 use match_serve::LinkEnd;
+use std::alloc::Global;
+use std::sync::Wait;
 use std::sync::atomic::{AtomicU32, Ordering};
 use std::test::Fail;
+use std::thread::Threads;
 
 /// The bytes of a link whose client is of another version.
 const OTHER_VERSION: &[u8] = b"\x0b\x00\x01\x04\x00\x00\x00\x00\x00\x00\x00\x00\x00";
@@ -41,14 +46,17 @@ const LOG: [MatchEvent; 9] = [
     MatchEvent::Over { frames: 1 },
 ];
 
+/// Serves this match, and answers what was logged of it.
+fn log_a_match<R: Threads + Wait + Sync>(rt: &R, alloc: Global) -> Result<Vec<MatchEvent>, Fail> {
+    let watch = MemWatch::new(alloc, 16)?;
+    let mut net = two_links(alloc, OTHER_VERSION, ONE_FRAME, Vec::new(alloc))?;
+    let _served = serve_logged(rt, alloc, &mut net, &watch)?;
+    Ok(watch.logged(alloc)?)
+}
+
 #[test]
 fn a_match_is_logged_in_order(rt: HostRuntime) -> Result<(), Fail> {
-    let watch = MemWatch::new(rt.alloc(), 16)?;
-    let puts = Vec::new(rt.alloc());
-    let mut net = two_links(rt.alloc(), OTHER_VERSION, ONE_FRAME, puts)?;
-    let mut console = MemSource::new(Vec::new(rt.alloc()), Vec::new(rt.alloc()));
-    let _served = serve_logged(&rt, rt.alloc(), &mut net, &mut console, &watch)?;
-    let logged = watch.logged(rt.alloc())?;
+    let logged = log_a_match(&rt, rt.alloc())?;
     let mut other = LOG;
     other.swap(3, 4);
     assert!(rt;
@@ -77,24 +85,39 @@ impl<'a> Watch for WaitWatch<'a> {
     }
 }
 
+/// Serves a match over these links, of which the second one is held until the watch was told.
+fn serve_waiting<R: Threads + Wait + Sync>(
+    rt: &R,
+    alloc: Global,
+    net: MemNet,
+    hold: &Hold,
+) -> Result<Outcome, Fail>
+    requires no_links { net.given ≡ [] }
+{
+    let count = AtomicU32::new(0);
+    let watch = WaitWatch { hold, count };
+    let other = None;
+    let mut net = HeldNet { net, hold, other };
+    serve_logged(rt, alloc, &mut net, &watch)
+}
+
+/// Serves a match that waits for client 1. Whether the turns have ended as well.
+fn wait_for_a_client<R: Threads + Wait + Sync>(
+    rt: &R,
+    alloc: Global,
+) -> Result<(Outcome, bool), Fail> {
+    let net = two_links(alloc, ONE_FRAME, HELLO_AND_BYE, Vec::new(alloc))?;
+    let hold = Hold::new(&[]);
+    let served = serve_waiting(rt, alloc, net, &hold)?;
+    Ok((served, hold.has_ended()))
+}
+
 /// While a match waits that is told again and again.
 #[test]
 fn waiting_is_logged_again_and_again(rt: HostRuntime) -> Result<(), Fail> {
-    let hold = Hold::new(&[]);
-    let watch = WaitWatch {
-        hold: &hold,
-        count: AtomicU32::new(0),
-    };
-    let puts = Vec::new(rt.alloc());
-    let mut net = HeldNet {
-        net: two_links(rt.alloc(), ONE_FRAME, HELLO_AND_BYE, puts)?,
-        hold: &hold,
-        other: None,
-    };
-    let mut console = MemSource::new(Vec::new(rt.alloc()), Vec::new(rt.alloc()));
-    let served = serve_logged(&rt, rt.alloc(), &mut net, &mut console, &watch)?;
+    let (served, ended) = wait_for_a_client(&rt, rt.alloc())?;
     let ends = [LinkEnd::Ended, LinkEnd::Ended];
     assert_eq!(rt; served.ends.as_slice(), ends.as_slice());
-    assert!(rt; !hold.ended.load(Ordering::SeqCst));
+    assert!(rt; !ended);
     Ok(())
 }
