@@ -80,9 +80,9 @@ fn play_ahead<R: Threads + Wait + Sync>(
     Ok((served, (full.has_ended(), gone.has_ended())))
 }
 
-/// Client 0 offers a thousand frames at once. The console kicks it once client 1 was sent the last one
-/// that may be put, and client 1 leaves once it was sent the departure. With a reader that puts less
-/// the turns end; with one that puts more, or a kick that holds later, they end too.
+/// Client 0 offers a thousand frames at once. The console kicks it once client 1 was sent the last
+/// one that may be put, and client 1 leaves once it was sent the departure. With a reader that puts
+/// less the turns end; with one that puts more, or a kick that holds later, they end too.
 #[test]
 fn a_client_that_is_far_ahead(rt: HostRuntime) -> Result<(), Fail> {
     for (played, last_play, departure, put) in ROWS {
