@@ -11,6 +11,7 @@ use Rattle.grid_routes.specs.declared.field.TheConstants.{NONE}
 use Rattle.game_model.specs.Walks.{Land, IsStep, IsWalk}
 use Rattle.grid_routes.specs.Labels.{Distances, IsFull, IsRight, label_of, open_count}
 use Rattle.grid_routes.specs.Held.{Shelves, IsAt, emptied}
+use Rattle.grid_routes.specs.Reach.{IsReached}
 use Rattle.grid_routes.specs.Steps.{AreQueued, HasLabel, IsClear, IsExpanded, IsNext, IsSearch, Lowers, rings_left}
 use Rattle.grid_routes.proofs.Cells.{placed}
 use Rattle.grid_routes.proofs.Filling.{labelled-on}
@@ -78,7 +79,7 @@ skipped land f s l search whole clear p below less =
           absurd (clear.none (label_of f.labels p) held.place p high below held.at refl)
     ]
 
-module _ (entry_cost : CPos → ℕ) (goal : CPos) (f : Distances) (s : Shelves) (l : ℕ) (g : Grid ℕ) (t : Shelves) (search : IsSearch (record { entry_cost = entry_cost; goal = goal }) f s) (whole : s.lost ≡ false) (next : IsNext f s l) (low : Lowers entry_cost l f.labels s g t) (done : (i : ℕ) (q : CPos) → IsAt s (l % 71) i q → label_of f.labels q ≡ l → IsExpanded entry_cost g l q) (unfinished : f.level < NONE) where
+module _ (entry_cost : CPos → ℕ) (goal : CPos) (f : Distances) (s : Shelves) (l : ℕ) (g : Grid ℕ) (t : Shelves) (search : IsSearch (record { entry_cost = entry_cost; goal = goal }) f s) (whole : s.lost ≡ false) (next : IsNext f s l) (low : Lowers entry_cost l f.labels s g t) (done : (i : ℕ) (q : CPos) → IsAt s (l % 71) i q → label_of f.labels q ≡ l → IsReached f.reach q l → IsExpanded entry_cost g l q) (unfinished : f.level < NONE) where
   few : length f.labels.cells < 65536
   few = omega (arith, search.full.size, mul-lt f.labels.width f.labels.height 256 256 search.full.wide search.full.high)
 
@@ -114,8 +115,8 @@ module _ (entry_cost : CPos → ℕ) (goal : CPos) (f : Distances) (s : Shelves)
 
   closed :
       (p q : CPos) (d k : ℕ) → IsOn g.width g.height p → IsStep entry_cost p d q k → label_of g q < l + 1 →
-      label_of g p ≤ label_of g q + k
-  closed p q d k on step below =
+      IsReached f.reach q (label_of g q) → label_of g p ≤ label_of g q + k
+  closed p q d k on step below reached =
       let was = level-was entry_cost l f.labels s g t low q (omega arith) in
       let fell = falls entry_cost l f.labels s g t low p in
       let wide : g.width ≡ f.labels.width = low.size.width in
@@ -125,16 +126,18 @@ module _ (entry_cost : CPos → ℕ) (goal : CPos) (f : Distances) (s : Shelves)
         | inl same ↦
             let held = (search.queued whole).each q (omega (arith, next.from)) (omega (arith, l-small)) in
             let place = subst (λ (n : ℕ). IsAt s (n % 71) held.place q) same held.at in
-            let most = done held.place q place same p d k on step in
+            let reached_here = subst (λ (n : ℕ). IsReached f.reach q n) (was ∙ same) reached in
+            let most = done held.place q place same reached_here p d k on step in
             omega (arith, most, was, same)
         | inr other ↦
             let less : label_of f.labels q < l = omega (arith, was) in
             let before = skipped (record { entry_cost = entry_cost; goal = goal }) f s l search whole next.clear q less (omega (arith, l-small)) in
-            let most = search.right.closed p q d k here step before in
+            let reached_here = subst (λ (n : ℕ). IsReached f.reach q n) was reached in
+            let most = search.right.closed p q d k here step before reached_here in
             omega (arith, most, fell, was)
       ]
 
-  right : IsRight (record { entry_cost = entry_cost; goal = goal }) (record { labels = g; level = l + 1 })
+  right : IsRight (record { entry_cost = entry_cost; goal = goal }) (record { labels = g; level = l + 1; reach = f.reach })
   right = record {
     goal = level-stays entry_cost l f.labels s g t low goal (omega (arith, search.right.goal)) ∙ search.right.goal;
     walks = walks;
@@ -152,7 +155,7 @@ module _ (entry_cost : CPos → ℕ) (goal : CPos) (f : Distances) (s : Shelves)
     rises = λ less. omega (arith, some-open, bound, next.near, low.count, low.cells);
   }
 
-  queued : (emptied t (l % 71)).lost ≡ false → AreQueued (record { labels = g; level = l + 1 }) (emptied t (l % 71))
+  queued : (emptied t (l % 71)).lost ≡ false → AreQueued (record { labels = g; level = l + 1; reach = f.reach }) (emptied t (l % 71))
   queued still = record {
     each = λ p from to.
         elim (low.each p) [
@@ -174,7 +177,7 @@ module _ (entry_cost : CPos → ℕ) (goal : CPos) (f : Distances) (s : Shelves)
         ];
   }
 
-  pub passed : IsSearch (record { entry_cost = entry_cost; goal = goal }) (record { labels = g; level = l + 1 }) (emptied t (l % 71))
+  pub passed : IsSearch (record { entry_cost = entry_cost; goal = goal }) (record { labels = g; level = l + 1; reach = f.reach }) (emptied t (l % 71))
   passed = record {
     goal = record { column = rw low.size.width search.goal.column; row = rw low.size.height search.goal.row };
     full = full-stays entry_cost l f.labels s g t low search.full;
@@ -189,7 +192,7 @@ module _ (entry_cost : CPos → ℕ) (goal : CPos) (f : Distances) (s : Shelves)
     queued = queued;
   }
 
-  pub passed-fewer : rings_left (record { labels = g; level = l + 1 }) < rings_left f
+  pub passed-fewer : rings_left (record { labels = g; level = l + 1; reach = f.reach }) < rings_left f
   unfolding rings_left
   passed-fewer =
       let a : nat_lt f.level NONE ≡ true = grind (arith, nat_tests) in
@@ -200,7 +203,7 @@ module _ (entry_cost : CPos → ℕ) (goal : CPos) (f : Distances) (s : Shelves)
 -- Where no bucket has a cell left all labels are final.
 pub dry :
     (land : Land) (f : Distances) (s : Shelves) → IsSearch land f s → s.lost ≡ false → IsClear f s (f.level + 71) →
-    IsSearch land (record { labels = f.labels; level = NONE }) s
+    IsSearch land (record { labels = f.labels; level = NONE; reach = f.reach }) s
 dry land f s search whole clear = record {
   goal = search.goal;
   full = search.full;
@@ -209,9 +212,9 @@ dry land f s search whole clear = record {
   right = record {
     goal = search.right.goal;
     walks = search.right.walks;
-    closed = λ p q d k on step less.
+    closed = λ p q d k on step less reached.
         search.right.closed p q d k on step
-        (skipped land f s (f.level + 71) search whole clear q (search.right.near q less) less);
+        (skipped land f s (f.level + 71) search whole clear q (search.right.near q less) less) reached;
     near = λ p less. omega arith;
     small = search.right.small;
     rises = λ (less : NONE < NONE). absurd (omega arith);
@@ -219,7 +222,7 @@ dry land f s search whole clear = record {
   queued = λ still. record { each = λ p from to. absurd (omega arith) };
 }
 
-pub dry-fewer : (f : Distances) → f.level < NONE → rings_left (record { labels = f.labels; level = NONE }) < rings_left f
+pub dry-fewer : (f : Distances) → f.level < NONE → rings_left (record { labels = f.labels; level = NONE; reach = f.reach }) < rings_left f
 unfolding rings_left
 dry-fewer f unfinished =
     let a : nat_lt f.level NONE ≡ true = grind (arith, nat_tests) in

@@ -1,5 +1,5 @@
 -- A field that begins is right up to level 0.
-use Rattle.std.proofs.Common.{◌≡◌, ℕ, ◌*◌, ◌%◌, ◌<◌, ◌≤◌, inl, inr, Bool, true, false, cond, length, [], replicate, get_or, refl, ap, sym, ◌∙◌, arith, subst, length-set}
+use Rattle.std.proofs.Common.{◌≡◌, ℕ, ◌*◌, ◌%◌, ◌<◌, ◌≤◌, inl, inr, Bool, true, false, cond, length, [], replicate, get_or, Option, refl, ap, sym, ◌∙◌, arith, subst, length-set}
 use Rattle.std.proofs.lemmas.List.Sums.{count_by-le-length}
 use Rattle.std.proofs.lemmas.List.{get_or-replicate, length-replicate}
 use Rattle.std.proofs.Math.ListN.{get_or-eq_default}
@@ -7,6 +7,7 @@ use Rattle.std.proofs.lemmas.Bool.{cases_lt}
 use Rattle.world_units.specs.declared.cell.CPos.{CPos}
 use Rattle.game_model.specs.Grid.{Grid, HasSize, IsOn, is_on, place_of}
 use Rattle.grid_routes.specs.declared.field.TheConstants.{NONE}
+use Rattle.grid_routes.specs.declared.reach.Reach.{Reach}
 use Rattle.grid_routes.specs.Values.{value_in}
 use Rattle.grid_routes.specs.Labels.{Distances, IsFull, begun, label_of, open_count}
 use Rattle.grid_routes.specs.Held.{Shelves, IsHeld, IsWhole, len_of, pushed}
@@ -36,17 +37,17 @@ all-open : (g : Grid ℕ) → open_count 0 g ≤ length g.cells
 unfolding open_count
 all-open g = count_by-le-length _ g.cells
 
-module _ (land : Land) (f : Distances) (s : Shelves) (w h : ℕ) (full : IsFull f.labels) (fair : IsFair land.entry_cost w h) (size : HasSize w h f.labels) (whole : IsWhole s) (empty : (b : ℕ) → len_of s b ≡ 0) (kept : s.lost ≡ false) (room : s.room ≡ w * h) (on : IsOn w h land.goal) where
+module _ (land : Land) (f : Distances) (s : Shelves) (w h : ℕ) (full : IsFull f.labels) (fair : IsFair land.entry_cost w h) (size : HasSize w h f.labels) (whole : IsWhole s) (empty : (b : ℕ) → len_of s b ≡ 0) (kept : s.lost ≡ false) (room : s.room ≡ w * h) (on : IsOn w h land.goal) (reach : Option Reach) where
   here : IsOn f.labels.width f.labels.height land.goal
   here = record { column = rw size.width on.column; row = rw size.height on.row }
 
   none : Grid ℕ
   none = record f.labels { cells = replicate (length f.labels.cells) NONE }
 
-  at-goal : label_of (begun f land.goal).labels land.goal ≡ 0
+  at-goal : label_of (begun f land.goal reach).labels land.goal ≡ 0
   at-goal = set-here NONE (record f.labels { cells = replicate (length f.labels.cells) NONE }) land.goal 0 (length-replicate (length f.labels.cells) NONE ∙ full.size) here
 
-  only-goal : (p : CPos) → label_of (begun f land.goal).labels p < NONE → p ≡ land.goal
+  only-goal : (p : CPos) → label_of (begun f land.goal reach).labels p < NONE → p ≡ land.goal
   only-goal p less =
       elim (one-or-not p land.goal) [
         | inl same ↦ same
@@ -56,10 +57,10 @@ module _ (land : Land) (f : Distances) (s : Shelves) (w h : ℕ) (full : IsFull 
             absurd (omega (arith, stays, outside))
       ]
 
-  zero-there : (p : CPos) → label_of (begun f land.goal).labels p < NONE → label_of (begun f land.goal).labels p ≡ 0
-  zero-there p less = ap (λ c. label_of (begun f land.goal).labels c) (only-goal p less) ∙ at-goal
+  zero-there : (p : CPos) → label_of (begun f land.goal reach).labels p < NONE → label_of (begun f land.goal reach).labels p ≡ 0
+  zero-there p less = ap (λ c. label_of (begun f land.goal reach).labels c) (only-goal p less) ∙ at-goal
 
-  cells-same : length (begun f land.goal).labels.cells ≡ length f.labels.cells
+  cells-same : length (begun f land.goal reach).labels.cells ≡ length f.labels.cells
   cells-same =
       length-set (replicate (length f.labels.cells) NONE) (place_of f.labels.width land.goal) 0 ∙ length-replicate (length f.labels.cells) NONE
 
@@ -69,14 +70,14 @@ module _ (land : Land) (f : Distances) (s : Shelves) (w h : ℕ) (full : IsFull 
   held : IsHeld (pushed s 0 land.goal) 0 land.goal
   held = (pushed-fits s 0 land.goal whole (omega arith) few kept).1
 
-  queued : AreQueued (begun f land.goal) (pushed s 0 land.goal)
+  queued : AreQueued (begun f land.goal reach) (pushed s 0 land.goal)
   queued = record {
     each = λ p from to.
         subst (λ (n : ℕ). IsHeld (pushed s 0 land.goal) (n % 71) p) (sym (zero-there p to))
         (subst (λ (x : CPos). IsHeld (pushed s 0 land.goal) 0 x) (sym (only-goal p to)) held);
   }
 
-  pub begins : IsSearch land (begun f land.goal) (pushed s 0 land.goal)
+  pub begins : IsSearch land (begun f land.goal reach) (pushed s 0 land.goal)
   begins = record {
     goal = here;
     full = record { size = cells-same ∙ full.size; wide = full.wide; high = full.high };
@@ -90,10 +91,10 @@ module _ (land : Land) (f : Distances) (s : Shelves) (w h : ℕ) (full : IsFull 
     right = record {
       goal = at-goal;
       walks = λ p less. ([], (only-goal p less, zero-there p less));
-      closed = λ p q d k on_map step below. absurd (omega arith);
+      closed = λ p q d k on_map step below reached. absurd (omega arith);
       near = λ p less. omega (arith, zero-there p less);
       small = λ p less. omega (arith, zero-there p less);
-      rises = λ less. omega (arith, all-open (begun f land.goal).labels);
+      rises = λ less. omega (arith, all-open (begun f land.goal reach).labels);
     };
     queued = λ still. queued;
   }

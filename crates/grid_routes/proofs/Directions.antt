@@ -18,7 +18,16 @@ shifted-back n up down m low there =
     let same : m + down - up ≡ n = omega arith in
     rw (back, same) refl
 
-both : (a b : Option ℕ) (q : CPos) → cell_at a b ≡ Some q → (a ≡ Some q.x) × (b ≡ Some q.y)
+-- Where a shift leads.
+pub moved : (n up down m : ℕ) → shifted n up down ≡ Some m → m + down ≡ n + up
+moved n up down m there =
+    let parts = stayed (nat_lt (n + up) down || nat_lt (255 + down) (n + up)) (n + up - down) m there in
+    let inside : (nat_lt (n + up) down || nat_lt (255 + down) (n + up)) ≡ false = parts.0 in
+    let sum : n + up - down ≡ m = parts.1 in
+    let enough : down ≤ n + up = grind (arith, nat_tests) in
+    omega arith
+
+pub both : (a b : Option ℕ) (q : CPos) → cell_at a b ≡ Some q → (a ≡ Some q.x) × (b ≡ Some q.y)
 both (Some x) (Some y) q some = (ap Some (cc), ap Some (cc))
 both (Some x) None q some = absurd (cc)
 both None b q some = absurd (cc)

@@ -1,5 +1,5 @@
 -- What a cell's and a ring's expansion has done so far.
-use Rattle.std.proofs.Common.{◌≡◌, ℕ, ◌+◌, ◌*◌, ◌%◌, ◌<◌, ◌≤◌, inl, inr, Some, refl, ap, sym, ◌∙◌, arith, subst}
+use Rattle.std.proofs.Common.{◌≡◌, ℕ, ◌+◌, ◌*◌, ◌%◌, ◌<◌, ◌≤◌, inl, inr, Option, Some, refl, ap, sym, ◌∙◌, arith, subst}
 use Rattle.std.proofs.lemmas.Bool.{cases_eq}
 use Rattle.world_units.specs.declared.cell.CPos.{CPos}
 use Rattle.world_units.specs.Directions.{opposite_of, step_of}
@@ -8,6 +8,8 @@ use Rattle.game_model.specs.Walks.{IsStep}
 use Rattle.grid_routes.specs.EntryCosts.{Ground, entry_cost_in}
 use Rattle.grid_routes.specs.Labels.{Distances, IsFull, label_of}
 use Rattle.grid_routes.specs.Held.{Shelves, IsAt, IsWhole}
+use Rattle.grid_routes.specs.declared.reach.Reach.{Reach}
+use Rattle.grid_routes.specs.Reach.{IsReached}
 use Rattle.grid_routes.specs.Steps.{Lowers, IsExpanded, IsOffered}
 use Rattle.grid_routes.proofs.Directions.{step-back, opposite-back, opposite-low}
 use Rattle.grid_routes.proofs.Lowering.{lowers-refl, lowers-trans, falls, level-stays, expanded-stays}
@@ -29,7 +31,7 @@ full-stays entry_cost level old before new after low full =
 
 -- The neighbours in directions below d were offered their walk over q.
 pub record Offered (entry_cost : CPos → ℕ) (field : Distances) (shelves : Shelves) (field' : Distances) (shelves' : Shelves) (q : CPos) (level d : ℕ) : Type 0 where
-  pub same_level : field'.level ≡ field.level
+  pub same : field' ≡ record field { labels = field'.labels }
   pub lowers : Lowers entry_cost level field.labels shelves field'.labels shelves'
   pub done :
       (e : ℕ) (p : CPos) (k : ℕ) → e < d → step_of q e ≡ Some p → IsOn field.labels.width field.labels.height p →
@@ -39,7 +41,7 @@ pub offered-none :
     (entry_cost : CPos → ℕ) (field : Distances) (shelves : Shelves) (q : CPos) (level : ℕ) →
     Offered entry_cost field shelves field shelves q level 0
 offered-none entry_cost field shelves q level = record {
-  same_level = refl;
+  same = refl;
   lowers = lowers-refl entry_cost level field.labels shelves;
   done = λ e p k below there on step. absurd (omega arith);
 }
@@ -54,7 +56,7 @@ offered-step entry_cost field shelves field' shelves' q level d field'' shelves'
     let wide : field'.labels.width ≡ field.labels.width = so_far.lowers.size.width in
     let high : field'.labels.height ≡ field.labels.height = so_far.lowers.size.height in
     record {
-      same_level = one.same ∙ so_far.same_level;
+      same = one.same ∙ ap (λ (f : Distances). record f { labels = field''.labels }) so_far.same;
       lowers = lowers-trans entry_cost level field.labels shelves field'.labels shelves' field''.labels shelves'' so_far.lowers one.lowers;
       done = λ e p k below there on step.
           elim (cases_eq e d) [
@@ -117,20 +119,20 @@ expanded-free entry_cost labels level q free = λ p d k on step.
 -- The cells in the first places of the level's bucket are expanded.
 pub record Ringed (entry_costs : Ground) (field : Distances) (shelves : Shelves) (entry_costs' : Ground) (field' : Distances) (shelves' : Shelves) (level i : ℕ) : Type 0 where
   pub same_entry_costs : entry_costs' ≡ entry_costs
-  pub same_level : field'.level ≡ field.level
+  pub same : field' ≡ record field { labels = field'.labels }
   pub lowers : Lowers (entry_cost_in entry_costs) level field.labels shelves field'.labels shelves'
   pub done :
       (j : ℕ) (q : CPos) → j < i → IsAt shelves (level % 71) j q → label_of field.labels q ≡ level →
-      IsExpanded (entry_cost_in entry_costs) field'.labels level q
+      IsReached field.reach q level → IsExpanded (entry_cost_in entry_costs) field'.labels level q
 
 pub ringed-none :
     (entry_costs : Ground) (field : Distances) (shelves : Shelves) (level : ℕ) →
     Ringed entry_costs field shelves entry_costs field shelves level 0
 ringed-none entry_costs field shelves level = record {
   same_entry_costs = refl;
-  same_level = refl;
+  same = refl;
   lowers = lowers-refl (entry_cost_in entry_costs) level field.labels shelves;
-  done = λ j q below at label. absurd (omega arith);
+  done = λ j q below at label reached. absurd (omega arith);
 }
 
 module _ (entry_costs : Ground) (field : Distances) (shelves : Shelves) (entry_costs' : Ground) (field' : Distances) (shelves' : Shelves) (level i : ℕ) (c : CPos) (so_far : Ringed entry_costs field shelves entry_costs' field' shelves' level i) (whole : IsWhole shelves') (at : IsAt shelves' (level % 71) i c) where
@@ -139,28 +141,30 @@ module _ (entry_costs : Ground) (field : Distances) (shelves : Shelves) (entry_c
       let low : level % 71 < 71 = omega arith in
       only-one shelves' (level % 71) i q c whole low (so_far.lowers.kept (level % 71) i q here) at
 
-  pub ringed-skip : (label_of field'.labels c ≡ level → ⊥) → Ringed entry_costs field shelves entry_costs' field' shelves' level (i + 1)
+  pub ringed-skip : (label_of field'.labels c ≡ level → IsReached field'.reach c level → ⊥) → Ringed entry_costs field shelves entry_costs' field' shelves' level (i + 1)
   ringed-skip other = record {
     same_entry_costs = so_far.same_entry_costs;
-    same_level = so_far.same_level;
+    same = so_far.same;
     lowers = so_far.lowers;
-    done = λ j q below here label.
+    done = λ j q below here label reached.
         elim (cases_eq j i) [
           | inl same ↦
               let one = there q (subst (λ (n : ℕ). IsAt shelves (level % 71) n q) same here) in
               let stays = level-stays (entry_cost_in entry_costs) level field.labels shelves field'.labels shelves' so_far.lowers q (omega (arith, label)) in
-              absurd (other (ap (λ x. label_of field'.labels x) (sym one) ∙ stays ∙ label))
-          | inr less ↦ so_far.done j q (omega arith) here label
+              absurd (other (ap (λ x. label_of field'.labels x) (sym one) ∙ stays ∙ label)
+              (subst (λ (x : CPos). IsReached field'.reach x level) one
+              (subst (λ (r : Option Reach). IsReached r q level) (sym (ap (λ (f : Distances). f.reach) so_far.same)) reached)))
+          | inr less ↦ so_far.done j q (omega arith) here label reached
         ];
   }
 
   pub ringed-step :
       (entry_costs'' : Ground) (field'' : Distances) (shelves'' : Shelves) →
-      entry_costs'' ≡ entry_costs' → field''.level ≡ field'.level →
+      entry_costs'' ≡ entry_costs' → field'' ≡ record field' { labels = field''.labels } →
       Lowers (entry_cost_in entry_costs') level field'.labels shelves' field''.labels shelves'' →
       IsExpanded (entry_cost_in entry_costs') field''.labels level c →
       Ringed entry_costs field shelves entry_costs'' field'' shelves'' level (i + 1)
-  ringed-step entry_costs'' field'' shelves'' entry_costs_stay level_stays low done =
+  ringed-step entry_costs'' field'' shelves'' entry_costs_stay stays low done =
       let entry_cost : entry_cost_in entry_costs' ≡ entry_cost_in entry_costs = ap entry_cost_in so_far.same_entry_costs in
       let lower : Lowers (entry_cost_in entry_costs) level field'.labels shelves' field''.labels shelves'' =
       subst (λ (t : CPos → ℕ). Lowers t level field'.labels shelves' field''.labels shelves'') entry_cost low in
@@ -168,15 +172,15 @@ module _ (entry_costs : Ground) (field : Distances) (shelves : Shelves) (entry_c
       subst (λ (t : CPos → ℕ). IsExpanded t field''.labels level c) entry_cost done in
       record {
         same_entry_costs = entry_costs_stay ∙ so_far.same_entry_costs;
-        same_level = level_stays ∙ so_far.same_level;
+        same = stays ∙ ap (λ (f : Distances). record f { labels = field''.labels }) so_far.same;
         lowers = lowers-trans (entry_cost_in entry_costs) level field.labels shelves field'.labels shelves' field''.labels shelves'' so_far.lowers lower;
-        done = λ j q below here label.
+        done = λ j q below here label reached.
             elim (cases_eq j i) [
               | inl same ↦
                   let one = there q (subst (λ (n : ℕ). IsAt shelves (level % 71) n q) same here) in
                   subst (λ (x : CPos). IsExpanded (entry_cost_in entry_costs) field''.labels level x) (sym one) here_done
               | inr less ↦
                   expanded-stays (entry_cost_in entry_costs) level field'.labels shelves' field''.labels shelves'' lower q
-                  (so_far.done j q (omega arith) here label)
+                  (so_far.done j q (omega arith) here label reached)
             ];
       }

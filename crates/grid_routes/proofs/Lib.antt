@@ -13,6 +13,7 @@ pub mod Keeping
 pub mod Knowing
 pub mod Looking
 pub mod Lowering
+pub mod Reaching
 pub mod Shelves
 pub mod Shortest
 pub mod Spreading

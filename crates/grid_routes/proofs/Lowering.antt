@@ -285,7 +285,7 @@ offered entry_cost q p d step_cost level f s g t is some there from low back rel
 -- A neighbour to which no step is allowed: none leads there.
 pub offered-closed :
     (entry_cost : CPos → ℕ) (q p : CPos) (d level : ℕ) (f : Distances) (s : Shelves) (g : Distances) (t : Shelves) →
-    IsStepCostFrom entry_cost q d 0 → step_of q d ≡ Some p → g.level ≡ f.level → Lowers entry_cost level f.labels s g.labels t →
+    IsStepCostFrom entry_cost q d 0 → step_of q d ≡ Some p → g ≡ record f { labels = g.labels } → Lowers entry_cost level f.labels s g.labels t →
     IsOffered entry_cost q d level f s g t
 offered-closed entry_cost q p d level f s g t is there same lowers = record {
   same = same;
@@ -300,7 +300,7 @@ module _ (f : Distances) (s : Shelves) (g : Distances) (t : Shelves) (q p : CPos
   pub offered-tried :
       (entry_cost : CPos → ℕ) (d : ℕ) (allowed : Bool) →
       (allowed ≡ true → IsRelaxed f s g t p (level + step_cost)) →
-      (allowed ≡ false → (any : CPos → ℕ) (n : ℕ) → Lowers any n f.labels s g.labels t) → g.level ≡ f.level →
+      (allowed ≡ false → (any : CPos → ℕ) (n : ℕ) → Lowers any n f.labels s g.labels t) → g ≡ record f { labels = g.labels } →
       IsStepCostFrom entry_cost q d (cond allowed step_cost 0) → 0 < step_cost → step_of q d ≡ Some p → label_of f.labels q ≡ level →
       opposite_of d < 8 → step_of p (opposite_of d) ≡ Some q → IsOffered entry_cost q d level f s g t
   offered-tried entry_cost d true to closed same is some there from low back =

@@ -5,10 +5,10 @@ use Rattle.world_units.specs.Directions.{step_of}
 use Rattle.game_model.specs.Grid.{IsOn}
 use Rattle.grid_routes.specs.declared.field.TheConstants.{NONE}
 use Rattle.game_model.specs.Walks.{Land, IsStep, IsWalk, IsRouteOver, FollowsBest}
-use Rattle.grid_routes.specs.Labels.{Distances, label_of}
+use Rattle.grid_routes.specs.Labels.{Distances, IsFinalLabel, label_of}
 use Rattle.grid_routes.specs.Held.{Shelves}
 use Rattle.grid_routes.specs.Steps.{IsSearch, IsLead, IsLeastLead, IsOnward}
-use Rattle.grid_routes.proofs.Best.{best-is, distance, no-lead-goal}
+use Rattle.grid_routes.proofs.Best.{best-is, distance, entered-final, no-lead-goal}
 use Rattle.grid_routes.proofs.Shortest.{walk-fits}
 use Rattle.grid_routes.proofs.StepCostLemmas.{step-on}
 
@@ -31,7 +31,7 @@ away land f s search p cost is some = λ (there : p ≡ land.goal).
 
 pub onward :
     (land : Land) (f : Distances) (s : Shelves) → IsSearch land f s → (p q : CPos) (d n : ℕ) →
-    IsOn f.labels.width f.labels.height p → label_of f.labels p ≤ f.level → label_of f.labels p < NONE →
+    IsOn f.labels.width f.labels.height p → IsFinalLabel f p → label_of f.labels p < NONE →
     n ≡ label_of f.labels p → IsLeastLead land.entry_cost f.labels p n d → Some q ≡ step_of p d → IsOnward land f.labels p q
 onward land f s search p q d n on final less is least there =
     let least_here = subst (λ (m : ℕ). IsLeastLead land.entry_cost f.labels p m d) is least in
@@ -48,7 +48,7 @@ onward land f s search p q d n on final less is least there =
 
 pub leads-somewhere :
     (land : Land) (f : Distances) (s : Shelves) → IsSearch land f s → (p : CPos) (n : ℕ) →
-    IsOn f.labels.width f.labels.height p → label_of f.labels p ≤ f.level → label_of f.labels p < NONE →
+    IsOn f.labels.width f.labels.height p → IsFinalLabel f p → label_of f.labels p < NONE →
     0 < label_of f.labels p → n ≡ label_of f.labels p → ((d : ℕ) → IsLead land.entry_cost f.labels p n d → ⊥) → ⊥
 leads-somewhere land f s search p n on final less away is none =
     let none_here = subst (λ (m : ℕ). (d : ℕ) → IsLead land.entry_cost f.labels p m d → ⊥) is none in
@@ -63,33 +63,36 @@ pub record RouteSoFar (land : Land) (f : Distances) (from at : CPos) (cells : Li
   pub all : cells ≡ from ∷ passed
   pub sum : spent + label_of f.labels at ≡ label_of f.labels from
   pub on : IsOn f.labels.width f.labels.height at
+  pub final : IsFinalLabel f at
   pub walks :
       (others : List CPos) (m n : ℕ) → n ≡ spent + m → IsWalk land at others m → IsWalk land from (passed ++ others) n
   pub best : (others : List CPos) → FollowsBest land at others → FollowsBest land from (passed ++ others)
 
 pub route-first :
     (land : Land) (f : Distances) (from : CPos) (cells : List CPos) → cells ≡ from ∷ [] →
-    IsOn f.labels.width f.labels.height from → RouteSoFar land f from from cells
-route-first land f from cells all on = record {
+    IsOn f.labels.width f.labels.height from → IsFinalLabel f from → RouteSoFar land f from from cells
+route-first land f from cells all on final = record {
   passed = [];
   spent = 0;
   all = all;
   sum = omega arith;
   on = on;
+  final = final;
   walks = λ others m n is walk. subst (λ (k : ℕ). IsWalk land from others k) (omega (arith, is)) walk;
   best = λ others best. best;
 }
 
 pub route-step :
     (land : Land) (f : Distances) (s : Shelves) → IsSearch land f s → (from at q : CPos) (cells cells' : List CPos) →
-    RouteSoFar land f from at cells → IsOnward land f.labels at q → cells' ≡ cells ++ q ∷ [] →
+    label_of f.labels from < NONE → RouteSoFar land f from at cells → IsOnward land f.labels at q → cells' ≡ cells ++ q ∷ [] →
     RouteSoFar land f from q cells'
-route-step land f s search from at q cells cells' so_far onward more = record {
+route-step land f s search from at q cells cells' less so_far onward more = record {
   passed = so_far.passed ++ q ∷ [];
   spent = so_far.spent + onward.cost;
   all = more ∙ ap (λ xs. xs ++ q ∷ []) so_far.all;
   sum = omega (arith, so_far.sum, onward.label);
   on = step-on land.entry_cost f.labels.width f.labels.height search.fair at q onward.direction onward.cost onward.step;
+  final = entered-final land f s search at so_far.on so_far.final (omega (arith, so_far.sum, less)) q onward.direction onward.cost onward.step onward.label;
   walks = λ others m n is walk.
       rw (append_assoc so_far.passed (q ∷ []) others)
       (so_far.walks (q ∷ others) (onward.cost + m) n (omega (arith, is))
@@ -102,7 +105,7 @@ route-step land f s search from at q cells cells' so_far onward more = record {
 pub route-end :
     (land : Land) (f : Distances) (s : Shelves) → IsSearch land f s → (from at : CPos) (cells : List CPos) (cost : ℕ) →
     RouteSoFar land f from at cells → IsOn f.labels.width f.labels.height from →
-    label_of f.labels from ≤ f.level → label_of f.labels from < NONE → cost ≡ label_of f.labels from →
+    IsFinalLabel f from → label_of f.labels from < NONE → cost ≡ label_of f.labels from →
     label_of f.labels at ≤ 0 → IsRouteOver land from cost cells
 route-end land f s search from at cells cost so_far on final less is none =
     let there = zero-goal land f s search at (omega (arith, none)) in
@@ -126,7 +129,7 @@ goes-on land (q ∷ cells) p n some walk = omega arith
 pub route-fits :
     (land : Land) (f : Distances) (s : Shelves) → IsSearch land f s → (from at : CPos) (cells : List CPos) →
     RouteSoFar land f from at cells → IsOn f.labels.width f.labels.height from →
-    label_of f.labels from ≤ f.level → label_of f.labels from < NONE → 0 < label_of f.labels at →
+    IsFinalLabel f from → label_of f.labels from < NONE → 0 < label_of f.labels at →
     length cells < f.labels.width * f.labels.height
 route-fits land f s search from at cells so_far on final less some =
     let others = search.right.walks at (omega (arith, so_far.sum)) in

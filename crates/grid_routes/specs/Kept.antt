@@ -1,12 +1,13 @@
 -- What is kept from one question to the next: fields of distances over one ground.
-use Rattle.std.specs.Prelude.{◌≡◌, ℕ, ◌*◌, ◌<◌, ◌≤◌, All, IfSome, Bool, List, length}
-use Rattle.std.specs.Prelude.{slice_index_or, Some, None, ◌⊎◌, [], ◌∷◌, ◌++◌}
+use Rattle.std.specs.Prelude.{◌≡◌, ℕ, ◌*◌, ◌<◌, All, IfSome, Bool, List, length}
+use Rattle.std.specs.Prelude.{slice_index_or, Option, Some, None, ◌⊎◌, [], ◌∷◌, ◌++◌}
 use Rattle.world_units.specs.declared.cell.CPos.{CPos}
 use Rattle.game_model.specs.declared.terrain.Terrain.{Terrain}
 use Rattle.game_model.specs.Grid.{Grid, HasSize, IsOn}
 use Rattle.grid_routes.specs.EntryCosts.{land_over, entry_cost_in}
-use Rattle.grid_routes.specs.Labels.{Distances, begun, label_of}
+use Rattle.grid_routes.specs.Labels.{Distances, IsFinalLabel, begun}
 use Rattle.grid_routes.specs.declared.ask.Ask.{Ask}
+use Rattle.grid_routes.specs.declared.reach.Reach.{Reach}
 use Rattle.grid_routes.specs.declared.fields.Kept.{Kept}
 use Rattle.grid_routes.specs.declared.fields.Fields.{Fields}
 use Rattle.grid_routes.specs.declared.search.Search.{Search}
@@ -44,17 +45,17 @@ IsOwn search ask =
 
 -- A search to this goal has just begun with the field.
 abbrev pub IsBegun : CPos → Distances → Type 0
-IsBegun goal field = (before : Distances) × (field ≡ begun before goal)
+IsBegun goal field = (before : Distances) × (reach : Option Reach) × (field ≡ begun before goal reach)
 
 -- The field belongs to this, and its label of the cell is final.
 pub record IsFinal (ask : Ask) (p : CPos) (kept : Kept) : Type 0 where
   pub asked : kept.ask ≡ Some ask
-  pub final : label_of kept.field.labels p ≤ kept.field.level
+  pub final : IsFinalLabel kept.field p
 
 -- The cell is on the map, and its label is final.
 pub record IsSettled (search : Search) (p : CPos) : Type 0 where
   pub on : IsOn search.field.labels.width search.field.labels.height p
-  pub final : label_of search.field.labels p ≤ search.field.level
+  pub final : IsFinalLabel search.field p
 
 -- All fields have the size of the map and are over the ground of the search.
 pub record AreFields (w h : ℕ) (fields : Fields) : Type 0 where

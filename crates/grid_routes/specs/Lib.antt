@@ -15,3 +15,4 @@ pub mod Steps
 pub mod Spreading
 pub mod Routing
 pub mod Questions
+pub mod Reach

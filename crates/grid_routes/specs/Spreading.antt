@@ -1,5 +1,5 @@
 -- How a cell is expanded over the labels and the cells of the buckets as lists of their own.
-use Rattle.std.specs.Prelude.{◌≡◌, ℕ, ◌+◌, ◌*◌, ◌<◌, ◌≤◌, ◌&&◌, nat_lt, if◌then◌else◌, Bool, List, Option}
+use Rattle.std.specs.Prelude.{◌≡◌, ℕ, ◌+◌, ◌*◌, ◌<◌, ◌≤◌, ◌&&◌, nat_lt, if◌then◌else◌, Bool, List, Option, None}
 use Rattle.std.specs.Prelude.{slice_set}
 use Rattle.world_units.specs.declared.cell.CPos.{CPos}
 use Rattle.game_model.specs.Grid.{Grid, IsOn}
@@ -17,7 +17,7 @@ grid_of width height labels = record { width = width; height = height; cells = l
 
 -- The same as a field.
 abbrev pub field_of : (width height : ℕ) → List ℕ → Distances
-field_of width height labels = record { labels = grid_of width height labels; level = 0 }
+field_of width height labels = record { labels = grid_of width height labels; level = 0; reach = None }
 
 -- Whether a label is given to a cell that had another one.
 abbrev pub is_given : Bool → (label last : ℕ) → Bool

@@ -43,7 +43,7 @@ pub record Lowers (entry_cost : CPos → ℕ) (level : ℕ) (old : Grid ℕ) (be
 pub record IsRelaxed (old : Distances) (before : Shelves) (new : Distances) (after : Shelves)
     (p : CPos) (label : ℕ) : Type 0 where
   pub least : label_of new.labels p ≤ label
-  pub same : new.level ≡ old.level
+  pub same : new ≡ record old { labels = new.labels }
   -- What was at most this stays.
   pub stays :
       (c : CPos) → label_of old.labels c ≤ label →
@@ -56,7 +56,7 @@ pub record IsRelaxed (old : Distances) (before : Shelves) (new : Distances) (aft
 -- The neighbour of q in direction d was offered the walk that enters q.
 pub record IsOffered (entry_cost : CPos → ℕ) (q : CPos) (d level : ℕ) (old : Distances)
     (before : Shelves) (new : Distances) (after : Shelves) : Type 0 where
-  pub same : new.level ≡ old.level
+  pub same : new ≡ record old { labels = new.labels }
   pub lowers : Lowers entry_cost level old.labels before new.labels after
   pub done :
       (p : CPos) (k : ℕ) → step_of q d ≡ Some p →

@@ -1,7 +1,7 @@
 ghost use Rattle.std.specs.Prelude.{◌≡◌, ℕ, ◌+◌, ◌<◌, ◌≤◌, IsTrue, IsFalse, MatchOption};
 ghost use Rattle.game_model.specs.Grid.{IsOn};
 ghost use Rattle.game_model.specs.Walks.{IsBestDirection};
-ghost use Rattle.grid_routes.specs.Labels.{label_of};
+ghost use Rattle.grid_routes.specs.Labels.{IsFinalLabel};
 ghost use Rattle.grid_routes.specs.Steps.{IsGoing, IsLead, IsLeastLead};
 ghost use Rattle.grid_routes.specs.EntryCosts.{entry_cost_in};
 
@@ -13,7 +13,7 @@ use world_units::{CPos, DIRECTIONS, step};
 pub(crate) fn best_on(entry_costs: &EntryCosts, field: &Field, from: CPos, goal: CPos) -> Option<u8>
     requires going { IsGoing (record { entry_cost = entry_cost_in entry_costs.now; goal = goal }) field.now }
     requires on { IsOn field.now.labels.width field.now.labels.height from }
-    requires settled { label_of field.now.labels from ≤ field.now.level }
+    requires settled { IsFinalLabel field.now from }
     ensures { IsBestDirection (record { entry_cost = entry_cost_in entry_costs.now; goal = goal }) from result }
 {
     let distance = field.label(from);

@@ -1,14 +1,16 @@
-ghost use Rattle.std.specs.Prelude.{◌≡◌, ℕ, ◌%◌, IfOk, IfSome};
+ghost use Rattle.std.specs.Prelude.{◌≡◌, ℕ, ◌%◌, ◌<◌, ◌≤◌, IfOk, IfSome, IsTrue, IsFalse, None};
 ghost use Rattle.world_units.specs.declared.cell.CPos.{CPos};
 ghost use Rattle.game_model.specs.Grid.{IsOn, HasSize, is_on, place_of, with_cell};
 ghost use Rattle.grid_routes.specs.Beside.{IsPlaced};
-ghost use Rattle.grid_routes.specs.Labels.{IsFull, label_of, begun};
+ghost use Rattle.grid_routes.specs.Labels.{IsFinalLabel, IsFull, label_of, begun};
 ghost use Rattle.grid_routes.specs.Held.{HasRows};
+ghost use Rattle.grid_routes.specs.Reach.{IsReached};
 ghost use Rattle.grid_routes.specs.Spreading.{AreOffers, IsSpread};
 
 use crate::beside::Placed;
 use crate::buckets::Buckets;
 use crate::offers::Offers;
+use crate::reach::Reach;
 use base::NoMemory;
 use std::alloc::Global;
 use std::marker::Model;
@@ -26,6 +28,8 @@ pub(crate) struct Field {
     labels: Vec<u32>,
     /// Up to this the labels are final.
     level: u32,
+    /// How far the search goes, everywhere where there is none.
+    reach: Option<Reach>,
 }
 
 impl Model for Field {
@@ -37,6 +41,7 @@ impl Model for Field {
       labels =
           record { width = f.width; height = f.height; cells = f.labels.items };
       level = f.level;
+      reach = f.reach;
     } };
 
     ghost invariant = { λ f. IsFull (record {
@@ -59,6 +64,7 @@ impl Field {
             height: h,
             labels,
             level: NONE,
+            reach: None,
         })
     }
 
@@ -80,17 +86,19 @@ impl Field {
             height: h,
             labels,
             level: NONE,
+            reach: None,
         })
     }
 
-    /// Begins again, at another goal.
-    pub(crate) fn begin(&mut self, goal: CPos)
+    /// Begins again, at another goal, for a search that goes so far.
+    pub(crate) fn begin(&mut self, goal: CPos, reach: Option<Reach>)
         requires { IsOn self.old.labels.width self.old.labels.height goal }
-        ensures value { self.new ≡ begun self.old goal }
+        ensures value { self.new ≡ begun self.old goal reach }
         ensures full { IsFull self.old.labels }
     {
         self.labels.as_mut_slice().fill(NONE);
         self.level = 0;
+        self.reach = reach;
         self.lower(goal, 0);
     }
 
@@ -159,7 +167,7 @@ impl Field {
         requires here { IsPlaced self.old.labels.width self.old.labels.height q }
         requires straight_rows { HasRows buckets.old (offers.now.straight % 71) 8 }
         requires across_rows { HasRows buckets.old (offers.now.across % 71) 8 }
-        ensures level { self.new.level ≡ self.old.level }
+        ensures same { self.new ≡ record self.old { labels = self.new.labels } }
         ensures spread { (entry_cost : CPos → ℕ) (level : ℕ) →
             AreOffers entry_cost q.cell level offers.now →
             label_of self.old.labels q.cell ≡ level →
@@ -182,6 +190,28 @@ impl Field {
         ensures { self.new ≡ record self.old { level = level } }
     {
         self.level = level;
+    }
+
+    /// Whether the label of a cell is final.
+    pub(crate) fn is_final(&self, p: CPos) -> bool
+        ensures { IsTrue result → IsFinalLabel self.now p }
+    {
+        let label = self.label(p);
+        label <= self.level && self.reaches(p, label)
+    }
+
+    /// Whether the search goes on from a cell with this label. Only where it goes everywhere it
+    /// does so too where there is none.
+    #[inline(always)]
+    pub(crate) fn reaches(&self, p: CPos, label: u32) -> bool
+        ensures yes { IsTrue result → IsReached self.now.reach p label }
+        ensures everywhere { IsTrue result → NONE ≤ label → self.now.reach ≡ None }
+        ensures no { IsFalse result → label < NONE → IsReached self.now.reach p label → ⊥ }
+    {
+        match &self.reach {
+            Some(reach) => label < NONE && reach.has(p, label),
+            None => true,
+        }
     }
 
     /// The number of columns.

@@ -5,7 +5,7 @@ ghost use Rattle.game_model.specs.Grid.{IsOn, HasSize};
 ghost use Rattle.game_model.specs.Walks.{IsBestDirection};
 ghost use Rattle.grid_routes.specs.declared.fields.Kept.{Kept};
 ghost use Rattle.grid_routes.specs.EntryCosts.{IsCheap, land_over};
-ghost use Rattle.grid_routes.specs.Labels.{label_of};
+ghost use Rattle.grid_routes.specs.Labels.{IsFinalLabel};
 ghost use Rattle.grid_routes.specs.Asked.{asks_of, IsOrIn};
 ghost use Rattle.grid_routes.specs.Kept.{AreFields, AreForgotten, IsBegun, IsFinal, IsFor};
 ghost use Rattle.grid_routes.specs.Kept.{IsRoom, IsSameGround, IsWidened};
@@ -14,6 +14,7 @@ use crate::ask::Ask;
 use crate::best_direction::best_on;
 use crate::field::Field;
 use crate::index::{FIELDS, Index};
+use crate::reach::Reach;
 use crate::search::Search;
 use base::NoMemory;
 use game_model::{Blocks, Map};
@@ -80,7 +81,7 @@ impl Fields {
             self.old.search.entry_costs.terrain.height self.new }
         ensures ground { IsSameGround self.old self.new }
         ensures search { IsFor self.new.search ask.now }
-        ensures settled { label_of self.new.search.field.labels from ≤ self.new.search.field.level }
+        ensures settled { IsFinalLabel self.new.search.field from }
         ensures begun { IsFalse result → Contains (asks_of self.old.ask self.old.kept.items) ask.now }
         ensures asks { All (IsOrIn ask.now (asks_of self.old.ask self.old.kept.items))
             (asks_of self.new.ask self.new.kept.items) }
@@ -88,8 +89,8 @@ impl Fields {
         ensures asked { self.new.ask ≡ Some ask.now }
     {
         let goal = ask.goal;
-        let begun = self.turn_to(ask);
-        self.search.settle(from, goal);
+        let begun = self.turn_to(ask, Reach::around(from, ask));
+        self.search.settle(&ask.costs, from, goal);
         begun
     }
 
@@ -149,8 +150,8 @@ impl Fields {
         forget_all(&mut self.kept);
     }
 
-    /// Turns to a question: goes on with its field, or begins one.
-    fn turn_to(&mut self, ask: &Ask) -> bool
+    /// Turns to a question: goes on with its field, or begins one for a search that goes so far.
+    fn turn_to(&mut self, ask: &Ask, reach: Reach) -> bool
         requires fields { AreFields self.old.search.entry_costs.terrain.width
             self.old.search.entry_costs.terrain.height self.old }
         requires costs { IsCheap ask.now.costs }
@@ -175,7 +176,7 @@ impl Fields {
             let place = self.index.place(ask);
             self.make_room(place);
             let place = place.min(self.kept.len() - 1);
-            self.take_up(place, ask)
+            self.take_up(place, ask, reach)
         }
     }
 
@@ -208,8 +209,9 @@ impl Fields {
         self.ask = None;
     }
 
-    /// Goes on with the field at a place if it belongs to this, and begins it anew if not.
-    fn take_up(&mut self, place: usize, ask: &Ask) -> bool
+    /// Goes on with the field at a place if it belongs to this, and begins it anew if not, for a
+    /// search that goes so far.
+    fn take_up(&mut self, place: usize, ask: &Ask, reach: Reach) -> bool
         requires fields { AreFields self.old.search.entry_costs.terrain.width
             self.old.search.entry_costs.terrain.height self.old }
         requires place { place < length self.old.kept.items }
@@ -232,7 +234,8 @@ impl Fields {
     {
         let found = exchange(&mut self.kept, place, &mut self.search.field, None);
         let known = is_known(place, self.kept.len() - 1, &found, ask);
-        self.search.set_out(known, &ask.costs, ask.goal);
+        self.search
+            .set_out(known, &ask.costs, ask.goal, Some(reach));
         self.place = place;
         self.ask = Some(*ask);
         !known
@@ -270,7 +273,7 @@ fn place_if_final(kept: &[Kept], place: usize, ask: &Ask, from: CPos) -> Option<
 fn is_final(kept: &Kept, ask: &Ask, from: CPos) -> bool
     ensures { IsTrue result → IsFinal ask.now from kept.now }
 {
-    is_asked(&kept.ask, ask) && kept.field.label(from) <= kept.field.level()
+    is_asked(&kept.ask, ask) && kept.field.is_final(from)
 }
 
 /// Whether a field at a place below the last one belongs to this.

@@ -27,6 +27,7 @@ mod known_walk;
 mod known_walks;
 mod law;
 mod offers;
+mod reach;
 mod route;
 mod router;
 mod search;

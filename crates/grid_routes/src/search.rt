@@ -5,8 +5,9 @@ ghost use Rattle.game_model.specs.Grid.{IsOn, HasSize};
 ghost use Rattle.game_model.specs.Walks.{IsBestDirection};
 ghost use Rattle.grid_routes.specs.EntryCosts.{IsCheap, land_over, entry_cost_in};
 ghost use Rattle.grid_routes.specs.Beside.{IsPlaced};
-ghost use Rattle.grid_routes.specs.Labels.{IsFull, begun, label_of};
+ghost use Rattle.grid_routes.specs.Labels.{IsFinalLabel, IsFull, begun, label_of};
 ghost use Rattle.grid_routes.specs.Held.{HasRows, IsAt};
+ghost use Rattle.grid_routes.specs.Reach.{IsReached};
 ghost use Rattle.grid_routes.specs.Steps.{AreQueued, FitsTogether, HasLabel, IsClear, IsExpanded};
 ghost use Rattle.grid_routes.specs.Steps.{IsFilled, IsGoing, IsNext};
 ghost use Rattle.grid_routes.specs.Steps.{IsOnward, IsRoute, IsSearch, Lowers, rings_left};
@@ -17,6 +18,7 @@ use crate::buckets::{BUCKETS, Buckets};
 use crate::entry_costs::{ACROSS, EntryCosts, STRAIGHT};
 use crate::field::{Field, NONE};
 use crate::offers::{Offers, bucket_of, offer};
+use crate::reach::Reach;
 use crate::route::Route;
 use base::{List, NoMemory};
 use rule_traits::Costs;
@@ -47,8 +49,8 @@ impl Search {
         })
     }
 
-    /// Begins a search to another goal, over the same ground.
-    fn begin(&mut self, costs: &Costs, goal: CPos)
+    /// Begins a search to another goal, over the same ground, that goes so far.
+    fn begin(&mut self, costs: &Costs, goal: CPos, reach: Option<Reach>)
         requires room { self.old.buckets.room ≡
             self.old.entry_costs.terrain.width * self.old.entry_costs.terrain.height }
         requires size { HasSize self.old.entry_costs.terrain.width
@@ -64,11 +66,11 @@ impl Search {
             self.new.field.labels }
         ensures search { IsSearch (record { entry_cost = entry_cost_in self.new.entry_costs; goal = goal })
             self.new.field self.new.buckets }
-        ensures field { self.new.field ≡ begun self.old.field goal }
+        ensures field { self.new.field ≡ begun self.old.field goal reach }
     {
         self.entry_costs.turn_to(costs, goal);
         self.entry_costs.ground();
-        self.field.begin(goal);
+        self.field.begin(goal, reach);
         self.buckets.clear_all();
         self.buckets.push(0, goal);
     }
@@ -97,8 +99,14 @@ impl Search {
         self.buckets.lose();
     }
 
-    /// Takes up the search for a goal, or begins it.
-    pub(crate) fn set_out(&mut self, going: bool, costs: &Costs, goal: CPos)
+    /// Takes up the search for a goal, or begins one that goes so far.
+    pub(crate) fn set_out(
+        &mut self,
+        going: bool,
+        costs: &Costs,
+        goal: CPos,
+        reach: Option<Reach>,
+    )
         requires room { self.old.buckets.room ≡
             self.old.entry_costs.terrain.width * self.old.entry_costs.terrain.height }
         requires size { HasSize self.old.entry_costs.terrain.width
@@ -118,12 +126,12 @@ impl Search {
         ensures search { IsSearch (record { entry_cost = entry_cost_in self.new.entry_costs; goal = goal })
             self.new.field self.new.buckets }
         ensures resumed { IsTrue going → self.new.field ≡ self.old.field }
-        ensures anew { IsFalse going → self.new.field ≡ begun self.old.field goal }
+        ensures anew { IsFalse going → self.new.field ≡ begun self.old.field goal reach }
     {
         if going {
             self.resume(costs, goal);
         } else {
-            self.begin(costs, goal);
+            self.begin(costs, goal, reach);
         }
     }
 
@@ -134,7 +142,7 @@ impl Search {
         requires from { label_of self.old.field.labels q ≡ level }
         requires low { level < 2 ^ 31 }
         ensures entry_costs { self.new.entry_costs ≡ self.old.entry_costs }
-        ensures level { self.new.field.level ≡ self.old.field.level }
+        ensures same { self.new.field ≡ record self.old.field { labels = self.new.field.labels } }
         ensures lowers { Lowers (entry_cost_in self.old.entry_costs) level self.old.field.labels
             self.old.buckets self.new.field.labels self.new.buckets }
         ensures done { IsExpanded (entry_cost_in self.old.entry_costs) self.new.field.labels level q }
@@ -159,7 +167,7 @@ impl Search {
         requires from { label_of self.old.field.labels q.cell ≡ level }
         requires low { level < 2 ^ 31 }
         ensures entry_costs { self.new.entry_costs ≡ self.old.entry_costs }
-        ensures level { self.new.field.level ≡ self.old.field.level }
+        ensures same { self.new.field ≡ record self.old.field { labels = self.new.field.labels } }
         ensures lowers { Lowers (entry_cost_in self.old.entry_costs) level self.old.field.labels
             self.old.buckets self.new.field.labels self.new.buckets }
         ensures done { IsExpanded (entry_cost_in self.old.entry_costs) self.new.field.labels level
@@ -209,7 +217,7 @@ impl Search {
         requires straight { HasRows self.old.buckets ((level + 5 * entry_cost) % 71) 8 }
         requires across { HasRows self.old.buckets ((level + 7 * entry_cost) % 71) 8 }
         ensures entry_costs { self.new.entry_costs ≡ self.old.entry_costs }
-        ensures level { self.new.field.level ≡ self.old.field.level }
+        ensures same { self.new.field ≡ record self.old.field { labels = self.new.field.labels } }
         ensures lowers { Lowers (entry_cost_in self.old.entry_costs) level self.old.field.labels
             self.old.buckets self.new.field.labels self.new.buckets }
         ensures done { IsExpanded (entry_cost_in self.old.entry_costs) self.new.field.labels level
@@ -232,7 +240,7 @@ impl Search {
         requires from { label_of self.old.field.labels q.cell ≡ level }
         requires low { level < 2 ^ 31 }
         ensures entry_costs { self.new.entry_costs ≡ self.old.entry_costs }
-        ensures level { self.new.field.level ≡ self.old.field.level }
+        ensures same { self.new.field ≡ record self.old.field { labels = self.new.field.labels } }
         ensures lowers { Lowers (entry_cost_in self.old.entry_costs) level self.old.field.labels
             self.old.buckets self.new.field.labels self.new.buckets }
         ensures done { IsExpanded (entry_cost_in self.old.entry_costs) self.new.field.labels level
@@ -328,22 +336,22 @@ impl Search {
         );
     }
 
-    /// Expands the cells of this level.
+    /// Expands the cells of this level from which the search goes on.
     fn ring(&mut self, level: u32)
         requires full { IsFull self.old.field.labels }
         requires low { level < 2 ^ 31 }
         ensures entry_costs { self.new.entry_costs ≡ self.old.entry_costs }
-        ensures level { self.new.field.level ≡ self.old.field.level }
+        ensures same { self.new.field ≡ record self.old.field { labels = self.new.field.labels } }
         ensures lowers { Lowers (entry_cost_in self.old.entry_costs) level self.old.field.labels
             self.old.buckets self.new.field.labels self.new.buckets }
         ensures done { (i : ℕ) (q : CPos) → IsAt self.old.buckets (level % 71) i q →
-            label_of self.old.field.labels q ≡ level →
+            label_of self.old.field.labels q ≡ level → IsReached self.old.field.reach q level →
             IsExpanded (entry_cost_in self.old.entry_costs) self.new.field.labels level q }
     {
         let bucket = (level % BUCKETS) as usize;
         for i in 0..self.buckets.len(bucket) {
             let q = self.buckets.get(bucket, i);
-            if self.field.label(q) == level {
+            if self.field.label(q) == level && self.field.reaches(q, level) {
                 self.expand(q, level);
             }
         }
@@ -457,6 +465,7 @@ impl Search {
             self.new.field self.new.buckets }
         ensures size { HasSize self.old.field.labels.width self.old.field.labels.height
             self.new.field.labels }
+        ensures reach { self.new.field.reach ≡ self.old.field.reach }
         ensures fewer { rings_left self.new.field < rings_left self.old.field }
     {
         self.ring(label);
@@ -474,6 +483,7 @@ impl Search {
             self.new.field self.new.buckets }
         ensures size { HasSize self.old.field.labels.width self.old.field.labels.height
             self.new.field.labels }
+        ensures reach { self.new.field.reach ≡ self.old.field.reach }
         ensures fewer { rings_left self.new.field < rings_left self.old.field }
     {
         self.make_whole(goal);
@@ -483,8 +493,36 @@ impl Search {
         }
     }
 
-    /// Goes on until the label of a cell is final.
-    pub(crate) fn settle(&mut self, from: CPos, goal: CPos)
+    /// Goes on until the label of a cell is final, over all walks where one as cheap as hoped for is
+    /// not found.
+    pub(crate) fn settle(&mut self, costs: &Costs, from: CPos, goal: CPos)
+        requires search { IsSearch (record { entry_cost = entry_cost_in self.old.entry_costs; goal = goal })
+            self.old.field self.old.buckets }
+        requires turned { self.old.entry_costs ≡ record self.old.entry_costs { costs = costs.now; goal = goal } }
+        requires room { self.old.buckets.room ≡
+            self.old.entry_costs.terrain.width * self.old.entry_costs.terrain.height }
+        requires size { HasSize self.old.entry_costs.terrain.width
+            self.old.entry_costs.terrain.height
+            self.old.field.labels }
+        requires costs { IsCheap costs.now }
+        requires goal { IsOn self.old.entry_costs.terrain.width self.old.entry_costs.terrain.height
+            goal }
+        ensures entry_costs { self.new.entry_costs ≡ self.old.entry_costs }
+        ensures search { IsSearch (record { entry_cost = entry_cost_in self.new.entry_costs; goal = goal })
+            self.new.field self.new.buckets }
+        ensures size { HasSize self.old.field.labels.width self.old.field.labels.height
+            self.new.field.labels }
+        ensures settled { IsFinalLabel self.new.field from }
+    {
+        self.pass_label(from, goal);
+        if !self.field.is_final(from) {
+            self.begin(costs, goal, None);
+            self.pass_label(from, goal);
+        }
+    }
+
+    /// Goes on until the level is not below the label of a cell.
+    fn pass_label(&mut self, from: CPos, goal: CPos)
         requires search { IsSearch (record { entry_cost = entry_cost_in self.old.entry_costs; goal = goal })
             self.old.field self.old.buckets }
         ensures entry_costs { self.new.entry_costs ≡ self.old.entry_costs }
@@ -492,7 +530,8 @@ impl Search {
             self.new.field self.new.buckets }
         ensures size { HasSize self.old.field.labels.width self.old.field.labels.height
             self.new.field.labels }
-        ensures settled { label_of self.new.field.labels from ≤ self.new.field.level }
+        ensures reach { self.new.field.reach ≡ self.old.field.reach }
+        ensures passed { label_of self.new.field.labels from ≤ self.new.field.level }
     {
         while self.field.level() < self.field.label(from) {
             self.advance(goal);
@@ -505,7 +544,7 @@ impl Search {
         requires search { IsSearch (record { entry_cost = entry_cost_in self.now.entry_costs; goal = goal })
             self.now.field self.now.buckets }
         requires on { IsOn self.now.field.labels.width self.now.field.labels.height from }
-        requires settled { label_of self.now.field.labels from ≤ self.now.field.level }
+        requires settled { IsFinalLabel self.now.field from }
         requires empty { room.items ≡ [] }
         requires room { self.now.field.labels.width * self.now.field.labels.height
             ≤ vec_capacity room }
@@ -534,7 +573,7 @@ impl Search {
         requires search { IsSearch (record { entry_cost = entry_cost_in self.now.entry_costs; goal = goal })
             self.now.field self.now.buckets }
         requires on { IsOn self.now.field.labels.width self.now.field.labels.height at }
-        requires settled { label_of self.now.field.labels at ≤ self.now.field.level }
+        requires settled { IsFinalLabel self.now.field at }
         requires labelled { label_of self.now.field.labels at < NONE }
         requires away { 0 < label_of self.now.field.labels at }
         ensures { IsOnward (record { entry_cost = entry_cost_in self.now.entry_costs; goal = goal })

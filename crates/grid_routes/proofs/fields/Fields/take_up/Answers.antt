@@ -1,4 +1,4 @@
-use Rattle.std.proofs.Common.{refl, sym, subst, ◌∙◌, None, length-set}
+use Rattle.std.proofs.Common.{refl, sym, subst, ◌∙◌, Some, None, length-set}
 use Rattle.std.specs.List.{All}
 use Rattle.game_model.specs.Grid.{HasSize}
 use Rattle.grid_routes.specs.EntryCosts.{Ground}
@@ -72,7 +72,7 @@ returns-clause-begun c = λ kept.
 
 pub returns-clause-anew : goal.returns-clause-anew
 returns-clause-anew c = λ begun.
-    (c.exchange-found.new.field, c.set_out.ensures.anew (not-true c.is_known-known.result begun))
+    (c.exchange-found.new.field, Some c.args.reach, c.set_out.ensures.anew (not-true c.is_known-known.result begun))
 
 pub returns-clause-found : goal.returns-clause-found
 returns-clause-found c = λ kept d.

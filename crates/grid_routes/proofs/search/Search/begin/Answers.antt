@@ -12,4 +12,4 @@ returns-clause-search c =
     ground.terrain.width ground.terrain.height c.begin.ensures.full
     (fair-map ground.terrain ground.built c.args.costs.now c.args.goal ground.terrain.width ground.terrain.height
     (record { width = refl; height = refl }) c.requires.costs) c.requires.size c.push.ensures.whole c.clear_all.ensures.empty
-    c.clear_all.ensures.whole (c.clear_all.ensures.room ∙ c.requires.room) c.requires.goal)
+    c.clear_all.ensures.whole (c.clear_all.ensures.room ∙ c.requires.room) c.requires.goal c.args.reach)

@@ -1,7 +1,7 @@
 use Rattle.std.proofs.Common.{◌∙◌, arith}
 use Rattle.grid_routes.proofs.Expanding.{ringed-none, ringed-skip, ringed-step}
 use Rattle.grid_routes.proofs.search.Search.ring.Goals as goal
-use Rattle.grid_routes.proofs.search.Search.ring.Goals.{then-label-level, else-label-level}
+use Rattle.grid_routes.proofs.search.Search.ring.Goals.{then-label-level+then-reaches, else-label-level, else-label-level-via-then-label-level+else-reaches, else-label-level-via-else-label-level}
 
 pub loop-i-init : goal.loop-i-init
 loop-i-init c = ringed-none _ _ _ _
@@ -9,16 +9,21 @@ loop-i-init c = ringed-none _ _ _ _
 pub loop-i-preserved : goal.loop-i-preserved
 loop-i-preserved c =
     elim c.if-label-level.branch [
-      | then-label-level w ↦
+      | then-label-level+then-reaches w ↦
           rw w.self-is
           (ringed-step _ _ _ _ _ _ _ _ _ c.loop-i.invariant c.get-q.ensures.whole c.get-q.ensures.here _ _ _
-          w.expand.ensures.entry_costs w.expand.ensures.level w.expand.ensures.lowers w.expand.ensures.done)
+          w.expand.ensures.entry_costs w.expand.ensures.same w.expand.ensures.lowers w.expand.ensures.done)
       | else-label-level w ↦
           rw w.self-is
           (ringed-skip _ _ _ _ _ _ _ _ _ c.loop-i.invariant c.get-q.ensures.whole c.get-q.ensures.here
-          (λ same. w.if-label-level.false (c.label.ensures ∙ same)))
+          (λ same reached.
+              elim w.else-label-level.branch [
+                | else-label-level-via-then-label-level+else-reaches w' ↦
+                    w'.reaches.ensures.no w'.if-reaches.false (omega (arith, c.requires.low)) reached
+                | else-label-level-via-else-label-level w' ↦ w'.if-label-level.false (c.label.ensures ∙ same)
+              ]))
     ]
 
 pub returns-clause-done : goal.returns-clause-done
-returns-clause-done c = λ i q at label.
-    c.loop-i.invariant.done i q (omega (arith, at.within, c.len-i-end.ensures)) at label
+returns-clause-done c = λ i q at label reached.
+    c.loop-i.invariant.done i q (omega (arith, at.within, c.len-i-end.ensures)) at label reached

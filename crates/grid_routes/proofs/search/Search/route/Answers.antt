@@ -27,7 +27,7 @@ pub loop-goal-preserved : goal.loop-goal-preserved
 loop-goal-preserved c = (
   route-step (record { entry_cost = entry_cost_in c.args.self.now.entry_costs; goal = c.args.goal }) c.args.self.now.field c.args.self.now.buckets
       c.requires.search c.args.from c.loop-goal.at c.next-at.result c.loop-goal.cells.items
-      c.push_reserved-in-loop-goal.new.self.items c.loop-goal.invariant.0 c.next-at.ensures
+      c.push_reserved-in-loop-goal.new.self.items (omega arith) c.loop-goal.invariant.0 c.next-at.ensures
       c.push_reserved-in-loop-goal.ensures.items,
   omega (arith, c.loop-goal.invariant.1, c.push_reserved-in-loop-goal.ensures.capacity),
 )

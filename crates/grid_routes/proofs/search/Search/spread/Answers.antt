@@ -3,8 +3,8 @@ use Rattle.grid_routes.specs.EntryCosts.{entry_cost_in}
 use Rattle.grid_routes.proofs.Expanding.{offered-all, offered-eight}
 use Rattle.grid_routes.proofs.search.Search.spread.Goals as goal
 
-pub returns-clause-level : goal.returns-clause-level
-returns-clause-level c =
+pub returns-clause-same : goal.returns-clause-same
+returns-clause-same c =
     let entry_cost = entry_cost_in c.args.self.now.entry_costs in
     let step_costs = c.step_costs-step_costs.ensures in
     (offered-eight entry_cost c.args.q.cell c.args.level _ _ _ _ _ _ _ _ _ _ _ _ _ _ _ _ _ _
@@ -15,7 +15,7 @@ returns-clause-level c =
     (c.offer-5.ensures.offers entry_cost 4 (omega arith) step_costs.south c.below-south.ensures.beside)
     (c.offer-6.ensures.offers entry_cost 5 (omega arith) step_costs.south_west (c.left_of-south_west.ensures.below c.below-south.ensures.beside))
     (c.offer-7.ensures.offers entry_cost 6 (omega arith) step_costs.west c.left.ensures.beside)
-    (c.offer-8.ensures.offers entry_cost 7 (omega arith) step_costs.north_west (c.left_of-north_west.ensures.above c.above-north.ensures.beside))).same_level
+    (c.offer-8.ensures.offers entry_cost 7 (omega arith) step_costs.north_west (c.left_of-north_west.ensures.above c.above-north.ensures.beside))).same
 
 pub returns-clause-lowers : goal.returns-clause-lowers
 returns-clause-lowers c =
