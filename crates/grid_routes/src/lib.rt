@@ -9,9 +9,14 @@
 //! [`Router`] finds the least cost of all walks, and the least direction that begins such a walk.
 //! It searches from the goal, by rings of cells that are equally far (R. B. Dial, "Algorithm 360:
 //! Shortest-path forest with topological ordering", Communications of the ACM 12, 1969), and stops
-//! as soon as the answer is sure. What it found is kept, and a later question goes on from there.
-//! So are the next steps of the walk from a cell that was asked for: a question for one of these
-//! needs no field.
+//! as soon as the answer is sure. The first search to a goal is for the asking cell alone: it
+//! leaves out each cell over which a walk from there would cost more than a guess, by what the rest
+//! costs at least (P. E. Hart, N. J. Nilsson, B. Raphael, "A Formal Basis for the Heuristic
+//! Determination of Minimum Cost Paths", IEEE Transactions on Systems Science and Cybernetics 4,
+//! 1968). Where the guess is too low, or another cell asks that was left out, the search begins
+//! again, over all cells. What it found is kept, and a later question goes on from there. So are the
+//! next steps of the walk from a cell that was asked for: a question for one of these needs no
+//! field.
 #![tactic(auto)]
 
 mod ask;

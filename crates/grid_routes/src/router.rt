@@ -82,7 +82,8 @@ impl Router {
         })
     }
 
-    /// How many fields of distances were begun. It stays at the greatest `u64`.
+    /// How many fields of distances were begun; one that is begun again, since it has to go farther,
+    /// counts once. It stays at the greatest `u64`.
     pub fn computed(&self) -> u64
         ensures { result ≡ self.now.computed }
     {

@@ -100,13 +100,7 @@ impl Search {
     }
 
     /// Takes up the search for a goal, or begins one that goes so far.
-    pub(crate) fn set_out(
-        &mut self,
-        going: bool,
-        costs: &Costs,
-        goal: CPos,
-        reach: Option<Reach>,
-    )
+    pub(crate) fn set_out(&mut self, going: bool, costs: &Costs, goal: CPos, reach: Option<Reach>)
         requires room { self.old.buckets.room ≡
             self.old.entry_costs.terrain.width * self.old.entry_costs.terrain.height }
         requires size { HasSize self.old.entry_costs.terrain.width

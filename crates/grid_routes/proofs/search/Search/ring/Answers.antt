@@ -17,11 +17,11 @@ loop-i-preserved c =
           rw w.self-is
           (ringed-skip _ _ _ _ _ _ _ _ _ c.loop-i.invariant c.get-q.ensures.whole c.get-q.ensures.here
           (λ same reached.
-              elim w.else-label-level.branch [
-                | else-label-level-via-then-label-level+else-reaches w' ↦
-                    w'.reaches.ensures.no w'.if-reaches.false (omega (arith, c.requires.low)) reached
-                | else-label-level-via-else-label-level w' ↦ w'.if-label-level.false (c.label.ensures ∙ same)
-              ]))
+          elim w.else-label-level.branch [
+            | else-label-level-via-then-label-level+else-reaches w' ↦
+                w'.reaches.ensures.no w'.if-reaches.false (omega (arith, c.requires.low)) reached
+            | else-label-level-via-else-label-level w' ↦ w'.if-label-level.false (c.label.ensures ∙ same)
+          ]))
     ]
 
 pub returns-clause-done : goal.returns-clause-done
