@@ -1,6 +1,7 @@
 //! Each call that fails in turn, and the adapters over a writer, over real files and over sockets.
 ghost use Rattle.std.specs.Prelude.{◌<◌};
 
+use crate::sockets::{hand_back, link};
 use game_io::{
     Disk, DiskError, Failed, FailingCall, FileDisk, Gate, HoldGate, MAX_LINKS, MemDisk, MemNet,
     MemSink, MemSource, Net, Remains, Sink, Source, StdSink, StdSource, SureDisk, SureNet,
@@ -28,14 +29,20 @@ fn put_three(sink: &mut impl Sink) -> (u64, u64) {
     (failed, sink.faults())
 }
 
+/// Takes at most two bytes, and appends them to what was taken.
+fn take_two(source: &mut impl Source, taken: &mut Vec<u8>) -> Result<(), AllocError> {
+    let mut room = [0u8; 2];
+    match source.take(&mut room) {
+        Ok(count) => taken.extend_from_slice(&room[..count]),
+        Err(_) => Ok(()),
+    }
+}
+
 /// Takes two bytes at a time, five times.
 fn take_five(source: &mut impl Source, alloc: Global) -> Result<Vec<u8>, AllocError> {
     let mut taken = Vec::new(alloc);
-    let mut room = [0u8; 2];
     for _ in 0..5 {
-        if let Ok(count) = source.take(&mut room) {
-            taken.extend_from_slice(&room[..count])?;
-        }
+        take_two(source, &mut taken)?;
     }
     Ok(taken)
 }
@@ -229,9 +236,20 @@ fn real_files_are_read_and_written(rt: HostRuntime) -> Result<(), Fail> {
     Ok(())
 }
 
+/// The letter for what a take and a put of a link answered. A digit tells how many bytes were taken,
+/// `t` and `p` that the take failed, or the put.
+fn link_letter(taken: Result<usize, Failed>, put: Result<(), Failed>) -> char {
+    match (taken, put) {
+        (Ok(0), Ok(())) => '0',
+        (Ok(1), Ok(())) => '1',
+        (Ok(_), Ok(())) => '2',
+        (Err(_), Ok(())) => 't',
+        (_, Err(_)) => 'p',
+    }
+}
+
 /// A letter for a link that is used, and how many links there are then. It takes two bytes, puts
-/// `ab`, and hands the link back. A digit tells how many bytes were taken; `f`, `t` and `p` that the
-/// net failed, the take, or the put.
+/// `ab`, and hands the link back. `f` tells that the net failed, and `n` that it has no room.
 fn use_link<N: Net>(net: &mut N) -> (char, u32) {
     let number = net.links();
     if number >= MAX_LINKS {
@@ -244,21 +262,25 @@ fn use_link<N: Net>(net: &mut N) -> (char, u32) {
     let taken = input.take(&mut room);
     let put = output.put(b"ab");
     net.take_back(number, input, output);
-    let letter = match (taken, put) {
-        (Ok(0), Ok(())) => '0',
-        (Ok(1), Ok(())) => '1',
-        (Ok(_), Ok(())) => '2',
-        (Err(_), Ok(())) => 't',
-        (_, Err(_)) => 'p',
-    };
-    (letter, net.links())
+    (link_letter(taken, put), net.links())
 }
 
-/// A net with two links to come, of three bytes and of one, in which one call is to fail.
+/// One link more that is to come, of these bytes. None of its calls is to fail.
+fn add_link(net: &mut MemNet, alloc: Global, bytes: &[u8]) -> Result<(), AllocError> {
+    let bytes = bytes.to_vec(alloc)?;
+    Ok(net.add(bytes, Vec::new(alloc), Vec::new(alloc))?)
+}
+
+/// Two links that are to come, of three bytes and of one.
+fn add_two_links(net: &mut MemNet, alloc: Global) -> Result<(), AllocError> {
+    add_link(net, alloc, b"abc")?;
+    add_link(net, alloc, b"x")
+}
+
+/// A net with two links to come, in which one call is to fail.
 fn failing_net(alloc: Global, call: u32) -> Result<MemNet, AllocError> {
     let mut net = MemNet::new(alloc, failing(alloc, call, Remains::Old)?);
-    net.add(b"abc".to_vec(alloc)?, Vec::new(alloc), Vec::new(alloc))?;
-    net.add(b"x".to_vec(alloc)?, Vec::new(alloc), Vec::new(alloc))?;
+    add_two_links(&mut net, alloc)?;
     Ok(net)
 }
 
@@ -314,6 +336,19 @@ fn a_sure_net_gives_its_links(rt: HostRuntime) -> Result<(), Fail> {
     Ok(())
 }
 
+/// Listens at a port of the loopback, and answers its address where the port was free.
+fn listen_at_port<N: Net>(
+    alloc: Global,
+    net: &mut N,
+    port: u32,
+) -> Result<Option<String>, AllocError> {
+    let at = format!(in alloc; "127.0.0.1:{port}")?;
+    if net.listen(&at).is_err() {
+        return Ok(None);
+    }
+    Ok(Some(at))
+}
+
 /// Listens at the first port of the loopback that is free, from this one on, and answers its address.
 pub(crate) fn listen_somewhere<N: Net>(
     alloc: Global,
@@ -324,8 +359,7 @@ pub(crate) fn listen_somewhere<N: Net>(
 {
     for step in 0..200 {
         let port = 20_000 + (first + step) % 20_000;
-        let at = format!(in alloc; "127.0.0.1:{port}")?;
-        if net.listen(&at).is_ok() {
+        if let Some(at) = listen_at_port(alloc, net, port)? {
             return Ok(at);
         }
     }
@@ -339,21 +373,18 @@ fn links_over_tcp(rt: HostRuntime) -> Result<(), Fail> {
     let first = process::id(rt.process()) % 20_000;
     let at = listen_somewhere(rt.alloc(), &mut host, first)?;
     assert_eq!(rt; (host.links(), guest.links()), (0, 0));
-    let Ok((mut guest_in, mut guest_out)) = guest.dial(&at) else {
-        return Err(Fail::new("no link is dialled"));
-    };
-    let Ok((mut host_in, mut host_out)) = host.accept() else {
-        return Err(Fail::new("no link is accepted"));
-    };
+    let (mut host_in, mut host_out, mut guest_in, mut guest_out) = link(
+        &mut host, &mut guest, &at,
+    )?;
     assert_eq!(rt; guest_out.put(b"ping"), Ok(()));
     assert_eq!(rt; host_out.put(b"pong!"), Ok(()));
     let mut room = [0u8; 8];
     assert_eq!(rt; (host_in.take(&mut room), room), (Ok(4), *b"ping\0\0\0\0"));
     assert_eq!(rt; (guest_in.take(&mut room), room), (Ok(5), *b"pong!\0\0\0"));
     assert_eq!(rt; (host.links(), guest.links()), (1, 1));
-    guest.take_back(0, guest_in, guest_out);
+    hand_back(&mut guest, 0, guest_in, guest_out);
     assert_eq!(rt; host_in.take(&mut room), Ok(0));
-    host.take_back(0, host_in, host_out);
+    hand_back(&mut host, 0, host_in, host_out);
     assert_eq!(rt; (host.link_faults(0), guest.link_faults(0)), (0, 0));
     Ok(())
 }

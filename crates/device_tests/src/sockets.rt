@@ -3,6 +3,7 @@
 use crate::devices::listen_somewhere;
 use game_io::{MAX_LINKS, Net, Sink, Source, Tcp, TcpNet, TransportNet};
 use std::net::{Net as Sockets, SocketAddr, TcpListener, TcpStream};
+use std::process::Abort;
 use std::sync::Arc;
 use std::sync::atomic::{AtomicBool, AtomicU64, Ordering};
 use std::test::Fail;
@@ -25,8 +26,33 @@ fn dial_one<N: Net>(net: &mut N, at: &str) -> Option<(N::In, N::Out)> {
     net.dial(at).ok()
 }
 
+/// Whether no link is accepted.
+fn accepts_none<N: Net>(net: &mut N) -> bool {
+    accept_one(net).is_none()
+}
+
+/// Whether no link to an address is dialled.
+fn dials_none<N: Net>(net: &mut N, at: &str) -> bool {
+    dial_one(net, at).is_none()
+}
+
+/// The halves of a link at the side that accepts it, and at the one that dials it.
+pub(crate) fn link<H: Net, G: Net>(
+    host: &mut H,
+    guest: &mut G,
+    at: &str,
+) -> Result<(H::In, H::Out, G::In, G::Out), Fail> {
+    let Some((guest_in, guest_out)) = dial_one(guest, at) else {
+        return Err(Fail::new("no link is dialled"));
+    };
+    let Some((host_in, host_out)) = accept_one(host) else {
+        return Err(Fail::new("no link is accepted"));
+    };
+    Ok((host_in, host_out, guest_in, guest_out))
+}
+
 /// Hands a link back.
-fn hand_back<N: Net>(net: &mut N, i: u32, input: N::In, output: N::Out) {
+pub(crate) fn hand_back<N: Net>(net: &mut N, i: u32, input: N::In, output: N::Out) {
     if i < net.links() {
         net.take_back(i, input, output);
     }
@@ -61,12 +87,7 @@ fn what_was_said_last_is_read_by_one_that_goes_on_sending(rt: HostRuntime) -> Re
     let mut guest = TcpNet::new(&rt);
     let first = process::id(rt.process()).wrapping_add(5_000) % 20_000;
     let at = listen_somewhere(rt.alloc(), &mut host, first)?;
-    let Some((guest_in, guest_out)) = dial_one(&mut guest, &at) else {
-        return Err(Fail::new("no link is dialled"));
-    };
-    let Some((host_in, mut host_out)) = accept_one(&mut host) else {
-        return Err(Fail::new("no link is accepted"));
-    };
+    let (host_in, mut host_out, guest_in, guest_out) = link(&mut host, &mut guest, &at)?;
     assert_eq!(rt; host_out.put(b"last"), Ok(()));
     let (read, ()) = thread::join(
         &rt,
@@ -77,43 +98,68 @@ fn what_was_said_last_is_read_by_one_that_goes_on_sending(rt: HostRuntime) -> Re
     Ok(())
 }
 
+/// Waits in vain at a net to which no link has come, and then for one that comes.
+fn wait_for_link<N: Net, R: Abort>(
+    rt: &R,
+    host: &mut N,
+    guest: &mut N,
+    at: &str,
+) -> Result<(N::In, N::Out, N::In, N::Out), Fail> {
+    assert!(rt; host.listens_at().is_some() && host.came_from().is_none());
+    host.limit_wait(0);
+    assert!(rt; accepts_none(host));
+    host.limit_wait(60);
+    let halves = link(host, guest, at)?;
+    assert!(rt; host.came_from().is_some());
+    Ok(halves)
+}
+
+/// Waits in vain at a net to which a link has come. It gives a link that has ended.
+fn wait_for_ended<N: Net, R: Abort>(rt: &R, host: &mut N) -> Result<(N::In, N::Out), Fail> {
+    host.limit_wait(0);
+    let Some((mut ended_in, mut ended_out)) = accept_one(host) else {
+        return Err(Fail::new("no ended link is given"));
+    };
+    let mut room = [0u8; 4];
+    assert_eq!(rt; ended_in.take(&mut room), Ok(0));
+    assert_eq!(rt; ended_out.put(b"any"), Ok(()));
+    Ok((ended_in, ended_out))
+}
+
+/// Stops a net that gave two links and waited in vain. It gives one more, and doesn't wait for it.
+fn stop_listening<N: Net, R: Abort>(rt: &R, host: &mut N) {
+    host.stop_listening();
+    assert!(rt; host.listens_at().is_none());
+    // Once it has waited in vain it waits no more.
+    host.limit_wait(60);
+    assert!(rt; !accepts_none(host));
+    assert_eq!(rt; (host.links(), host.faults()), (3, 1));
+}
+
+/// Takes links from a net in all these ways, and hands them back.
+fn take_in_turn<N: Net, R: Abort>(
+    rt: &R,
+    host: &mut N,
+    guest: &mut N,
+    at: &str,
+) -> Result<(), Fail> {
+    let (host_in, host_out, guest_in, guest_out) = wait_for_link(rt, host, guest, at)?;
+    let (ended_in, ended_out) = wait_for_ended(rt, host)?;
+    stop_listening(rt, host);
+    hand_back(guest, 0, guest_in, guest_out);
+    hand_back(host, 0, host_in, host_out);
+    hand_back(host, 1, ended_in, ended_out);
+    assert_eq!(rt; (host.link_faults(0), host.link_faults(1)), (0, 0));
+    Ok(())
+}
+
 #[test]
 fn a_limited_wait_gives_links_that_have_ended(rt: HostRuntime) -> Result<(), Fail> {
     let mut host = TcpNet::new(&rt);
     let mut guest = TcpNet::new(&rt);
     let first = process::id(rt.process()).wrapping_add(10_000) % 20_000;
     let at = listen_somewhere(rt.alloc(), &mut host, first)?;
-    assert!(rt; host.listens_at().is_some() && host.came_from().is_none());
-    host.limit_wait(0);
-    assert!(rt; accept_one(&mut host).is_none());
-    let Some((guest_in, guest_out)) = dial_one(&mut guest, &at) else {
-        return Err(Fail::new("no link is dialled"));
-    };
-    host.limit_wait(60);
-    let Some((host_in, host_out)) = accept_one(&mut host) else {
-        return Err(Fail::new("no link is accepted"));
-    };
-    assert!(rt; host.came_from().is_some());
-    host.limit_wait(0);
-    let Some((mut ended_in, mut ended_out)) = accept_one(&mut host) else {
-        return Err(Fail::new("no ended link is given"));
-    };
-    let mut room = [0u8; 4];
-    assert_eq!(rt;
-        (ended_in.take(&mut room), ended_out.put(b"any")),
-        (Ok(0), Ok(()))
-    );
-    host.stop_listening();
-    assert!(rt; host.listens_at().is_none());
-    // Once it has waited in vain it waits no more.
-    host.limit_wait(60);
-    assert!(rt; accept_one(&mut host).is_some());
-    assert_eq!(rt; (host.links(), host.faults()), (3, 1));
-    hand_back(&mut guest, 0, guest_in, guest_out);
-    hand_back(&mut host, 0, host_in, host_out);
-    hand_back(&mut host, 1, ended_in, ended_out);
-    assert_eq!(rt; (host.link_faults(0), host.link_faults(1)), (0, 0));
-    Ok(())
+    take_in_turn(&rt, &mut host, &mut guest, &at)
 }
 
 #[test]
@@ -124,7 +170,7 @@ fn a_stop_ends_the_wait(rt: HostRuntime) -> Result<(), Fail> {
     let _at = listen_somewhere(rt.alloc(), &mut host, first)?;
     let (none, ()) = thread::join(
         &rt,
-        || accept_one(&mut host).is_none(),
+        || accepts_none(&mut host),
         || stop.store(true, Ordering::SeqCst),
     );
     assert!(rt; none);
@@ -139,12 +185,7 @@ fn a_cut_ends_a_link_that_waits(rt: HostRuntime) -> Result<(), Fail> {
     let mut guest = TcpNet::new(&rt);
     let first = process::id(rt.process()).wrapping_add(5_000) % 20_000;
     let at = listen_somewhere(rt.alloc(), &mut host, first)?;
-    let Some((guest_in, guest_out)) = dial_one(&mut guest, &at) else {
-        return Err(Fail::new("no link is dialled"));
-    };
-    let Some((mut host_in, mut host_out)) = accept_one(&mut host) else {
-        return Err(Fail::new("no link is accepted"));
-    };
+    let (mut host_in, mut host_out, guest_in, guest_out) = link(&mut host, &mut guest, &at)?;
     let mut room = [0u8; 4];
     let (failed, ()) = thread::join(
         &rt,
@@ -211,7 +252,7 @@ fn a_dial_is_never_joined_to_itself(rt: HostRuntime) {
     };
     let mut net = TcpNet::new(&joining);
     // A port from which systems dial, where nobody listens.
-    assert!(rt; dial_one(&mut net, "127.0.0.1:45678").is_none());
+    assert!(rt; dials_none(&mut net, "127.0.0.1:45678"));
     // Two tries: at 10 and at 20 seconds.
     assert_eq!(rt; joining.connects.load(Ordering::SeqCst), 2);
     assert_eq!(rt; (net.links(), net.faults()), (0, 1));
@@ -225,8 +266,8 @@ fn a_name_that_is_not_resolved_is_dialled_once(rt: HostRuntime) {
         connects: AtomicU64::new(0),
     };
     let mut net = TcpNet::new(&joining);
-    assert!(rt; dial_one(&mut net, "no address").is_none());
-    assert!(rt; dial_one(&mut net, "a name:1").is_none());
+    assert!(rt; dials_none(&mut net, "no address"));
+    assert!(rt; dials_none(&mut net, "a name:1"));
     assert_eq!(rt; joining.connects.load(Ordering::SeqCst), 0);
     assert_eq!(rt; joining.reads.load(Ordering::SeqCst), 0);
 }
