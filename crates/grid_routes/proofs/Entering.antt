@@ -194,14 +194,6 @@ surface-read :
 unfolding value_in
 surface-read g p on = rw (is_on-true g.width g.height p on) refl
 
--- The number of a cell at its place.
-pub placed-read :
-    (w h : ℕ) (g : Grid ℕ) (k : Placed) → HasSize w h g → IsPlaced w h k → get_or g.cells k.at ROCK ≡ value_in ROCK g k.cell
-placed-read w h g k size there =
-    let on : IsOn g.width g.height k.cell = record { column = rw size.width there.on.column; row = rw size.height there.on.row } in
-    let at : k.at ≡ place_of g.width k.cell = there.at ∙ ap (λ n. place_of n k.cell) (sym size.width) in
-    rw at (sym (surface-read g k.cell on))
-
 -- The number of a neighbour.
 pub number-some :
     (w h : ℕ) (g : Grid ℕ) (q : CPos) (d : ℕ) (k : Placed) → HasSize w h g → IsBeside w h q d (Some k) →

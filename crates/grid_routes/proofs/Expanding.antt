@@ -1,5 +1,5 @@
 -- What a cell's and a ring's expansion has done so far.
-use Rattle.std.proofs.Common.{◌≡◌, ℕ, ◌+◌, ◌*◌, ◌%◌, ◌<◌, ◌≤◌, inl, inr, Option, Some, refl, ap, sym, ◌∙◌, arith, subst}
+use Rattle.std.proofs.Common.{◌≡◌, ℕ, ◌+◌, ◌*◌, ◌%◌, ◌<◌, ◌≤◌, inl, inr, Some, refl, ap, sym, ◌∙◌, arith, subst}
 use Rattle.std.proofs.lemmas.Bool.{cases_eq}
 use Rattle.world_units.specs.declared.cell.CPos.{CPos}
 use Rattle.world_units.specs.Directions.{opposite_of, step_of}
@@ -8,7 +8,6 @@ use Rattle.game_model.specs.Walks.{IsStep}
 use Rattle.grid_routes.specs.EntryCosts.{Ground, entry_cost_in}
 use Rattle.grid_routes.specs.Labels.{Distances, IsFull, label_of}
 use Rattle.grid_routes.specs.Held.{Shelves, IsAt, IsWhole}
-use Rattle.grid_routes.specs.declared.reach.Reach.{Reach}
 use Rattle.grid_routes.specs.Reach.{IsReached}
 use Rattle.grid_routes.specs.Steps.{Lowers, IsExpanded, IsOffered}
 use Rattle.grid_routes.proofs.Directions.{step-back, opposite-back, opposite-low}
@@ -141,8 +140,8 @@ module _ (entry_costs : Ground) (field : Distances) (shelves : Shelves) (entry_c
       let low : level % 71 < 71 = omega arith in
       only-one shelves' (level % 71) i q c whole low (so_far.lowers.kept (level % 71) i q here) at
 
-  pub ringed-skip : (label_of field'.labels c ≡ level → IsReached field'.reach c level → ⊥) → Ringed entry_costs field shelves entry_costs' field' shelves' level (i + 1)
-  ringed-skip other = record {
+  pub ringed-skip : (label_of field'.labels c ≡ level → IsReached field.reach c level → IsExpanded (entry_cost_in entry_costs') field'.labels level c) → Ringed entry_costs field shelves entry_costs' field' shelves' level (i + 1)
+  ringed-skip expanded = record {
     same_entry_costs = so_far.same_entry_costs;
     same = so_far.same;
     lowers = so_far.lowers;
@@ -151,9 +150,10 @@ module _ (entry_costs : Ground) (field : Distances) (shelves : Shelves) (entry_c
           | inl same ↦
               let one = there q (subst (λ (n : ℕ). IsAt shelves (level % 71) n q) same here) in
               let stays = level-stays (entry_cost_in entry_costs) level field.labels shelves field'.labels shelves' so_far.lowers q (omega (arith, label)) in
-              absurd (other (ap (λ x. label_of field'.labels x) (sym one) ∙ stays ∙ label)
-              (subst (λ (x : CPos). IsReached field'.reach x level) one
-              (subst (λ (r : Option Reach). IsReached r q level) (sym (ap (λ (f : Distances). f.reach) so_far.same)) reached)))
+              let here_done = expanded (ap (λ x. label_of field'.labels x) (sym one) ∙ stays ∙ label)
+              (subst (λ (x : CPos). IsReached field.reach x level) one reached) in
+              subst (λ (x : CPos). IsExpanded (entry_cost_in entry_costs) field'.labels level x) (sym one)
+              (subst (λ (t : CPos → ℕ). IsExpanded t field'.labels level c) (ap entry_cost_in so_far.same_entry_costs) here_done)
           | inr less ↦ so_far.done j q (omega arith) here label reached
         ];
   }

@@ -129,10 +129,10 @@ impl Buckets {
             IsSpread entry_cost q.cell level (grid_of width height labels.old) self.old
             (grid_of width height labels.new) self.new }
     {
-        let sides = bucket_of(offers.straight);
-        let corners = bucket_of(offers.across);
-        let mut straight = self.lens[sides];
-        let mut across = self.lens[corners];
+        let straight_bucket = bucket_of(offers.straight);
+        let across_bucket = bucket_of(offers.across);
+        let mut straight = self.lens[straight_bucket];
+        let mut across = self.lens[across_bucket];
         let cells = self.cells.as_mut_slice();
         offer_all(
             labels,
@@ -144,8 +144,8 @@ impl Buckets {
             width,
             height,
         );
-        self.lens[sides] = straight;
-        self.lens[corners] = across;
+        self.lens[straight_bucket] = straight;
+        self.lens[across_bucket] = across;
     }
 
     /// How many cells a bucket holds.

@@ -173,17 +173,6 @@ impl EntryCosts {
         self.surface.has_size(width, height)
     }
 
-    /// What it costs to enter a cell at its place on the map, 0 where it can't be entered.
-    #[inline(always)]
-    pub(crate) fn entry_cost_at(&self, q: Placed, width: u8, height: u8) -> u8
-        requires size { HasSize width height self.now.terrain }
-        requires here { IsPlaced width height q }
-        ensures value { result ≡ entry_cost_in self.now q.cell }
-        ensures cheap { result ≤ 10 }
-    {
-        charge(&self.charges, self.surface.at_placed(q, width, height))
-    }
-
     /// Across which corners the cell at a place of the map, of this entry cost, can be entered.
     #[inline(always)]
     pub(crate) fn corners(&self, q: Placed, entry_cost: u32, width: u8, height: u8) -> Corners

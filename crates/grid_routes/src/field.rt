@@ -10,7 +10,7 @@ ghost use Rattle.grid_routes.specs.Spreading.{AreOffers, IsSpread};
 use crate::beside::Placed;
 use crate::buckets::Buckets;
 use crate::offers::Offers;
-use crate::reach::Reach;
+use crate::reach::{Reach, goes_on};
 use base::NoMemory;
 use std::alloc::Global;
 use std::marker::Model;
@@ -200,18 +200,20 @@ impl Field {
         label <= self.level && self.reaches(p, label)
     }
 
-    /// Whether the search goes on from a cell with this label. Only where it goes everywhere it
-    /// does so too where there is none.
-    #[inline(always)]
+    /// Whether the search goes on from a cell with this label. From one without a label only a
+    /// search that goes everywhere does.
     pub(crate) fn reaches(&self, p: CPos, label: u32) -> bool
         ensures yes { IsTrue result → IsReached self.now.reach p label }
         ensures everywhere { IsTrue result → NONE ≤ label → self.now.reach ≡ None }
-        ensures no { IsFalse result → label < NONE → IsReached self.now.reach p label → ⊥ }
     {
-        match &self.reach {
-            Some(reach) => label < NONE && reach.has(p, label),
-            None => true,
-        }
+        goes_on(&self.reach, p, label)
+    }
+
+    /// How far the search goes, everywhere where there is none.
+    pub(crate) fn reach(&self) -> Option<Reach>
+        ensures { result ≡ self.now.reach }
+    {
+        self.reach
     }
 
     /// The number of columns.

@@ -1,8 +1,16 @@
-ghost use Rattle.std.specs.Prelude.{◌≡◌, ◌+◌, ◌≤◌, IsTrue, IsFalse};
-ghost use Rattle.grid_routes.specs.Reach.{least_cost_between};
+ghost use Rattle.std.specs.Prelude.{◌≡◌, ◌+◌, ◌<◌, ◌≤◌, IsTrue, IsFalse, None};
+ghost use Rattle.grid_routes.specs.Reach.{IsReached, least_cost_between};
 
 use crate::ask::Ask;
+use crate::entry_costs::{ACROSS, STRAIGHT};
+use crate::field::NONE;
 use world_units::CPos;
+
+/// A walk is guessed to cost more than a straight one over the same ground: by one part in so many ..
+const PARTS: u32 = 8;
+
+/// .. and by so many straight steps beside.
+const DETOUR: u32 = 8;
 
 /// How far a search goes that is for one cell alone: on from no cell over which a walk from that one
 /// would cost more than so much.
@@ -25,10 +33,11 @@ impl Reach {
         } else {
             costs.water
         };
-        let straight = least_cost(from, ask.goal).saturating_mul(u32::from(usual));
+        let straight = least_cost(from, ask.goal);
+        let guess = straight + straight / PARTS + DETOUR * STRAIGHT;
         Reach {
             toward: from,
-            most: straight.saturating_add(straight / 20 + 40),
+            most: guess.saturating_mul(u32::from(usual)),
         }
     }
 
@@ -42,13 +51,27 @@ impl Reach {
     }
 }
 
+/// Whether a search that goes so far, everywhere where there is no reach, goes on from a cell with
+/// this label. From one without a label only a search that goes everywhere does.
+#[inline(always)]
+pub(crate) fn goes_on(reach: &Option<Reach>, p: CPos, label: u32) -> bool
+    ensures yes { IsTrue result → IsReached reach.now p label }
+    ensures everywhere { IsTrue result → NONE ≤ label → reach.now ≡ None }
+    ensures no { IsFalse result → label < NONE → IsReached reach.now p label → ⊥ }
+{
+    match reach {
+        Some(reach) => label < NONE && reach.has(p, label),
+        None => true,
+    }
+}
+
 /// What a walk between two cells costs at least, 0 to 1,785.
 #[inline(always)]
-fn least_cost(p: CPos, q: CPos) -> u32
+pub(crate) fn least_cost(p: CPos, q: CPos) -> u32
     ensures value { result ≡ least_cost_between p q }
     ensures low { result ≤ 1_785 }
 {
     let columns = u32::from(p.x.abs_diff(q.x));
     let rows = u32::from(p.y.abs_diff(q.y));
-    2 * (columns + rows) + 3 * columns.max(rows)
+    (ACROSS - STRAIGHT) * (columns + rows) + (2 * STRAIGHT - ACROSS) * columns.max(rows)
 }

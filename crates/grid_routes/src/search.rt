@@ -18,7 +18,7 @@ use crate::buckets::{BUCKETS, Buckets};
 use crate::entry_costs::{ACROSS, EntryCosts, STRAIGHT};
 use crate::field::{Field, NONE};
 use crate::offers::{Offers, bucket_of, offer};
-use crate::reach::Reach;
+use crate::reach::{Reach, goes_on, least_cost};
 use crate::route::Route;
 use base::{List, NoMemory};
 use rule_traits::Costs;
@@ -129,12 +129,15 @@ impl Search {
         }
     }
 
-    /// Offers each neighbour of a cell of this level the walk that enters the cell.
+    /// Offers each neighbour of a cell of this level and entry cost the walk that enters the cell.
     #[inline(always)]
-    fn expand(&mut self, q: CPos, level: u32)
+    fn expand(&mut self, q: CPos, entry_cost: u32, level: u32)
         requires full { IsFull self.old.field.labels }
         requires from { label_of self.old.field.labels q ≡ level }
         requires low { level < 2 ^ 31 }
+        requires entry_cost { entry_cost ≡ entry_cost_in self.old.entry_costs q }
+        requires some { 0 < entry_cost }
+        requires cheap { entry_cost ≤ 10 }
         ensures entry_costs { self.new.entry_costs ≡ self.old.entry_costs }
         ensures same { self.new.field ≡ record self.old.field { labels = self.new.field.labels } }
         ensures lowers { Lowers (entry_cost_in self.old.entry_costs) level self.old.field.labels
@@ -144,36 +147,13 @@ impl Search {
         let (width, height) = (self.field.width(), self.field.height());
         let at = self.field.place(q);
         let here = Placed { cell: q, at };
-        if is_inside(here, width, height) && self.entry_costs.has_size(width, height) {
-            self.expand_inside(here, level, width, height);
-        } else if self.entry_costs.entry_cost(q) > 0 {
+        if is_inside(here, width, height)
+            && self.entry_costs.has_size(width, height)
+            && self.has_rows(level, entry_cost)
+        {
+            self.spread_inside(here, entry_cost, level, width, height);
+        } else {
             self.spread(here, level, width, height);
-        }
-    }
-
-    /// The same, for a cell at its place, where the entry costs have this size too.
-    #[inline(always)]
-    fn expand_inside(&mut self, q: Placed, level: u32, width: u8, height: u8)
-        requires full { IsFull self.old.field.labels }
-        requires size { HasSize width height self.old.field.labels }
-        requires terrain { HasSize width height self.old.entry_costs.terrain }
-        requires here { IsPlaced width height q }
-        requires from { label_of self.old.field.labels q.cell ≡ level }
-        requires low { level < 2 ^ 31 }
-        ensures entry_costs { self.new.entry_costs ≡ self.old.entry_costs }
-        ensures same { self.new.field ≡ record self.old.field { labels = self.new.field.labels } }
-        ensures lowers { Lowers (entry_cost_in self.old.entry_costs) level self.old.field.labels
-            self.old.buckets self.new.field.labels self.new.buckets }
-        ensures done { IsExpanded (entry_cost_in self.old.entry_costs) self.new.field.labels level
-            q.cell }
-    {
-        let entry_cost = u32::from(self.entry_costs.entry_cost_at(q, width, height));
-        if entry_cost > 0 {
-            if self.has_rows(level, entry_cost) {
-                self.spread_inside(q, entry_cost, level, width, height);
-            } else {
-                self.spread(q, level, width, height);
-            }
         }
     }
 
@@ -330,7 +310,8 @@ impl Search {
         );
     }
 
-    /// Expands the cells of this level from which the search goes on.
+    /// Expands the cells of this level from which the search goes on. One that can't be entered has
+    /// nothing to offer.
     fn ring(&mut self, level: u32)
         requires full { IsFull self.old.field.labels }
         requires low { level < 2 ^ 31 }
@@ -343,10 +324,13 @@ impl Search {
             IsExpanded (entry_cost_in self.old.entry_costs) self.new.field.labels level q }
     {
         let bucket = (level % BUCKETS) as usize;
+        let reach = self.field.reach();
         for i in 0..self.buckets.len(bucket) {
             let q = self.buckets.get(bucket, i);
-            if self.field.label(q) == level && self.field.reaches(q, level) {
-                self.expand(q, level);
+            let label = self.field.label(q);
+            let entry_cost = u32::from(self.entry_costs.entry_cost(q));
+            if label == level && entry_cost > 0 && goes_on(&reach, q, level) {
+                self.expand(q, entry_cost, level);
             }
         }
     }
@@ -487,8 +471,8 @@ impl Search {
         }
     }
 
-    /// Goes on until the label of a cell is final, over all walks where one as cheap as hoped for is
-    /// not found.
+    /// Goes on until the label of a cell is final. Where it can't be, or isn't, within the search's
+    /// reach, the search begins again, over all cells.
     pub(crate) fn settle(&mut self, costs: &Costs, from: CPos, goal: CPos)
         requires search { IsSearch (record { entry_cost = entry_cost_in self.old.entry_costs; goal = goal })
             self.old.field self.old.buckets }
@@ -508,6 +492,9 @@ impl Search {
             self.new.field.labels }
         ensures settled { IsFinalLabel self.new.field from }
     {
+        if !self.field.reaches(from, least_cost(from, goal)) {
+            self.begin(costs, goal, None);
+        }
         self.pass_label(from, goal);
         if !self.field.is_final(from) {
             self.begin(costs, goal, None);

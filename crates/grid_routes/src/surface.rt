@@ -86,16 +86,6 @@ impl Surface {
         self.width == width && self.height == height
     }
 
-    /// The number of a cell at its place on the map.
-    #[inline(always)]
-    pub(crate) fn at_placed(&self, q: Placed, width: u8, height: u8) -> u8
-        requires size { HasSize width height self.now }
-        requires here { IsPlaced width height q }
-        ensures { result ≡ value_in ROCK self.now q.cell }
-    {
-        self.numbers[q.at]
-    }
-
     /// The numbers of a cell's neighbours that share a side with it.
     #[inline(always)]
     pub(crate) fn around(&self, q: CPos) -> Around

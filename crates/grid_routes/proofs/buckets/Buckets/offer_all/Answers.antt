@@ -17,8 +17,8 @@ returns-clause-spread c = λ entry_cost level are from.
     let whole : IsWhole s = c.self.invariant.0 in
     let lent = c.as_mut_slice-cells.ensures in
     let long : inside.cells.len ≡ length inside.cells.items = sym lent.len ∙ ap length lent.value in
-    let sides = c.bucket_of-sides.ensures in
-    let corners = c.bucket_of-corners.ensures in
+    let sides = c.bucket_of-straight_bucket.ensures in
+    let corners = c.bucket_of-across_bucket.ensures in
     let near : c.index.result.now ≡ get_or lens (c.args.offers.now.straight % 71) 0 =
     c.index.ensures ∙ ap (λ b. get_or lens b c.index.result.now) sides
     ∙ get_or_default lens (c.args.offers.now.straight % 71) c.index.result.now 0 (omega (arith, whole.lens)) in
