@@ -6,11 +6,17 @@ use crate::entry_costs::{ACROSS, STRAIGHT};
 use crate::field::NONE;
 use world_units::CPos;
 
-/// A walk is guessed to cost more than a straight one over the same ground: by one part in so many ..
+/// A walk is guessed to cost more than a straight one over its usual ground by one part in so many ..
 const PARTS: u32 = 8;
 
-/// .. and by so many straight steps beside.
-const DETOUR: u32 = 8;
+/// .. and by so many straight steps.
+const STEPS: u32 = 8;
+
+/// Roads that are cheaper than that ground make up for most detours: then it is one part in so many ..
+const PARTS_BY_ROAD: u32 = 40;
+
+/// .. and so many straight steps.
+const STEPS_BY_ROAD: u32 = 5;
 
 /// How far a search goes that is for one cell alone: on from no cell over which a walk from that one
 /// would cost more than so much.
@@ -23,9 +29,8 @@ pub(crate) struct Reach {
 }
 
 impl Reach {
-    /// For a walk from a cell to a goal that costs a little more than a straight one over clear
-    /// ground, or over water where clear ground can't be entered. Any guess gives the same answers; a
-    /// bad one takes more time.
+    /// For a walk from a cell to a goal over clear ground, or over water where clear ground can't be
+    /// entered. Any guess gives the same answers; a bad one takes more time.
     pub(crate) fn around(from: CPos, ask: &Ask) -> Reach {
         let costs = &ask.costs;
         let usual = if costs.clear > 0 {
@@ -34,10 +39,14 @@ impl Reach {
             costs.water
         };
         let straight = least_cost(from, ask.goal);
-        let guess = straight + straight / PARTS + DETOUR * STRAIGHT;
+        let more = if costs.road > 0 && costs.road < usual {
+            straight / PARTS_BY_ROAD + STEPS_BY_ROAD * STRAIGHT
+        } else {
+            straight / PARTS + STEPS * STRAIGHT
+        };
         Reach {
             toward: from,
-            most: guess.saturating_mul(u32::from(usual)),
+            most: (straight + more).saturating_mul(u32::from(usual)),
         }
     }
 
