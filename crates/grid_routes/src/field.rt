@@ -205,6 +205,7 @@ impl Field {
     pub(crate) fn reaches(&self, p: CPos, label: u32) -> bool
         ensures yes { IsTrue result → IsReached self.now.reach p label }
         ensures everywhere { IsTrue result → NONE ≤ label → self.now.reach ≡ None }
+        ensures no { IsFalse result → label < NONE → IsReached self.now.reach p label → ⊥ }
     {
         goes_on(&self.reach, p, label)
     }

@@ -18,7 +18,7 @@ use map_grid::read_map;
 use rule_traits::{Rules, SkippedList, type_rules};
 use std::alloc::Global;
 use yaml_lines::{Forest, parse, print};
-use yaml_merge::resolve;
+use yaml_merge::{resolve, resolve_file};
 
 /// The forests of all files.
 fn parse_files<'a>(
@@ -119,13 +119,24 @@ pub fn read_typed<'a>(
     type_forest(alloc, names, &forest)
 }
 
+/// The forest of a file that is read alone, resolved.
+fn resolve_alone<'a>(alloc: Global, name: &'a str, forest: Forest) -> Result<Forest, Stop<'a>>
+    ensures { ReturnsStep result trees_of
+        (merge_step (name.now ∷ []) (resolved_files (trees_of forest ∷ []))) }
+{
+    match resolve_file(alloc, forest) {
+        Ok(resolved) => Ok(resolved),
+        Err(fault) => Err(merge_stop(&[name], &fault)),
+    }
+}
+
 /// The resolved forest of a map's file, which is read alone.
 #[tactic(auto, unfolding(crate::specs::RuleFiles::resolved_rules))]
 pub(crate) fn map_forest<'a>(alloc: Global, name: &'a str, bytes: &[u8]) -> Result<Forest, Stop<'a>>
     ensures { ReturnsStep result trees_of (resolved_rules (name.now ∷ []) (bytes.now ∷ [])) }
 {
     match parse(alloc, 0, bytes) {
-        Ok(forest) => resolve_forests(alloc, &[name], &[forest]),
+        Ok(forest) => resolve_alone(alloc, name, forest),
         Err(fault) => Err(line_stop(&[name], &fault)),
     }
 }

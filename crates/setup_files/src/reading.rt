@@ -17,7 +17,7 @@ use map_grid::read_map;
 use rule_traits::{Rules, type_rules};
 use std::alloc::Global;
 use yaml_lines::{Forest, parse};
-use yaml_merge::resolve;
+use yaml_merge::{resolve, resolve_file};
 
 /// The forests of files.
 fn parse_files(alloc: Global, part: Part, contents: &[Vec<u8>]) -> Result<Vec<Forest>, SetupFault>
@@ -58,13 +58,23 @@ pub(crate) fn rules_forest(alloc: Global, contents: &[Vec<u8>]) -> Result<Forest
     resolve_forests(alloc, Part::Rules, forests.as_slice())
 }
 
+/// The forest of a file that is read alone, resolved.
+fn resolve_alone(alloc: Global, part: Part, forest: Forest) -> Result<Forest, SetupFault>
+    ensures { Gives result trees_of (merge_step part (resolved_files (trees_of forest ∷ []))) }
+{
+    match resolve_file(alloc, forest) {
+        Ok(resolved) => Ok(resolved),
+        Err(fault) => Err(merging_fault(part, fault)),
+    }
+}
+
 /// The resolved forest of a map, which is read as its own only file.
 #[tactic(auto, unfolding(crate::specs::Reading::resolved_of))]
 pub(crate) fn map_forest(alloc: Global, bytes: &[u8]) -> Result<Forest, SetupFault>
     ensures { Gives result trees_of (resolved_of part.Map (bytes.now ∷ [])) }
 {
     match parse(alloc, 0, bytes) {
-        Ok(forest) => resolve_forests(alloc, Part::Map, &[forest]),
+        Ok(forest) => resolve_alone(alloc, Part::Map, forest),
         Err(fault) => Err(lines_fault(Part::Map, fault)),
     }
 }

@@ -7,12 +7,12 @@ use Rattle.yaml_lines.specs.declared.forest.Forest.TheViews.{out-Node}
 use Rattle.yaml_lines.specs.declared.TheConstants.{MAX_LEVELS}
 use Rattle.yaml_lines.specs.Trees.{Trees, none, more, trees_of, before, trees_of_nodes}
 use Rattle.yaml_merge.specs.declared.resolved.Resolved.{Resolved}
-use Rattle.yaml_merge.specs.declared.TheConstants.{MAX_LIST_NODES}
+use Rattle.yaml_merge.specs.declared.TheConstants.{MAX_FOREST_NODES, MAX_LIST_NODES}
 use Rattle.yaml_merge.specs.Kept.{Gives}
-use Rattle.yaml_merge.specs.Laws.{IsPlain}
+use Rattle.yaml_merge.specs.Laws.{AreSmall, IsPlain, IsPlainTop}
 use Rattle.yaml_merge.specs.Merging.{count}
 use Rattle.yaml_merge.specs.Resolving.{inherits, removes, resolved_list, added}
-use Rattle.yaml_merge.specs.Settled.{IsSettled, IsDistinct}
+use Rattle.yaml_merge.specs.Settled.{IsSettled, IsSettledTop, IsDistinct}
 use Rattle.yaml_merge.proofs.NodeSteps.{added_last, more_nodes, nodes_from}
 use Rattle.yaml_merge.proofs.SettledSteps.{none_apart}
 use Rattle.yaml_merge.proofs.StaysSteps.{list_stays}
@@ -39,6 +39,32 @@ pub plain_settled : (list : Trees) → IsPlain list → IsDistinct list → IsSe
 plain_settled none p d = tt
 plain_settled (more key value place children rest) (i, r, c, p) (l, b, d) =
     (l, i, r, plain_settled children c b, plain_settled rest p d)
+
+-- The same of the nodes of a top level, and that they are not too many.
+pub record TopsSoFar (left all : Trees) (total : ℕ) : Type 0 where
+  pub plain : IsPlainTop left → IsPlainTop all
+  pub small : AreSmall left → AreSmall all
+  pub total_is : total + count left ≡ count all
+  pub few : total ≤ MAX_FOREST_NODES
+
+pub tops_next : (nodes : List Node) (at : ℕ) (node : Node) (all : Trees) (total next below : ℕ) → at < length nodes → node ≡ get_or nodes at node →
+    removes (out-Node node).key ≡ false → IsPlain (trees_of (out-Node node).children) →
+    below ≡ count (trees_of (out-Node node).children) → below ≤ MAX_LIST_NODES → next ≡ suc total + below → next ≤ MAX_FOREST_NODES →
+    TopsSoFar (trees_of_nodes (drop at nodes)) all total → TopsSoFar (trees_of_nodes (drop (at + 1) nodes)) all next
+tops_next nodes at node all total next below h n r p b low t few s =
+    let from = nodes_from nodes at node h n in
+    let counted = ap count from in
+    record {
+      plain = λ rest. s.plain (subst IsPlainTop (sym from) (r, p, rest));
+      small = λ rest. s.small (subst AreSmall (sym from) (omega (arith, b, low), rest));
+      total_is = omega (arith, s.total_is, counted, b, t);
+      few = few;
+    }
+
+pub plain_settled_top : (list : Trees) → IsPlainTop list → IsDistinct list → IsSettledTop list
+plain_settled_top none p d = tt
+plain_settled_top (more key value place children rest) (r, c, p) (l, b, d) =
+    (l, r, plain_settled children c b, plain_settled_top rest p d)
 
 -- A plain list resolves to itself.
 pub plain_gives : (tops : Trees) (kept : List (Option Resolved)) (height : ℕ) (list made : Trees) → IsDistinct list → IsPlain list →

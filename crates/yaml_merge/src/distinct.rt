@@ -91,7 +91,7 @@ pub fn are_distinct(alloc: Global, hashers: &Hashers, nodes: &[Node]) -> Result<
 
 /// Whether each key stands once in the list, and in each list below it.
 #[cycle(distinct)]
-fn is_distinct(alloc: Global, hashers: &Hashers, list: &Forest) -> Result<bool, NoMemory>
+pub fn is_distinct(alloc: Global, hashers: &Hashers, list: &Forest) -> Result<bool, NoMemory>
     ensures { IfOk result (λ distinct. distinct ≡ true → IsDistinct (trees_of list.now)) }
 {
     let nodes = list.nodes.as_slice();

@@ -27,6 +27,13 @@ impl Hashers {
         }
         Hashers { begun }
     }
+
+    /// The hashers for the keys of one file.
+    pub fn of_one(file: &Forest) -> Hashers {
+        let mut begun = DefaultHasher::new();
+        hash_keys(&mut begun, file);
+        Hashers { begun }
+    }
 }
 
 /// Hashes the keys of a list and of all lists below it.

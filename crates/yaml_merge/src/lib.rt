@@ -21,6 +21,7 @@ mod removing;
 mod resolved;
 mod resolving;
 mod scene;
+mod settled;
 mod sizes;
 mod steps;
 mod stop;
@@ -29,6 +30,7 @@ mod walked;
 pub use fault::MergeFault;
 pub use files::resolve;
 pub use laws::{plain_is_merged, removals_remove, settled_stays, values_win};
+pub use settled::resolve_file;
 
 /// The most names of a path of parents, the top-level node's own name among them.
 pub const MAX_PATH: usize = 64;

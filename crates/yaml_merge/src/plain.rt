@@ -13,7 +13,7 @@ use std::alloc::Global;
 use yaml_lines::{Forest, Node};
 
 /// How many nodes a list has at all depths. `None` where something in it is inherited or removed.
-fn plain_count(list: &Forest) -> Option<usize>
+pub fn plain_count(list: &Forest) -> Option<usize>
     ensures plain { IfSome result (λ total. IsPlain (trees_of list.now)) }
     ensures count { IfSome result (λ total. total ≡ count (trees_of list.now)) }
 {
