@@ -43,17 +43,3 @@ impl FaultCount {
         self.count = self.count.saturating_add(1);
     }
 }
-
-#[cfg(test)]
-mod tests {
-    use super::*;
-
-    #[test]
-    fn counts(rt: HostRuntime) {
-        let mut faults = FaultCount::new();
-        assert_eq!(rt; faults.get(), 0);
-        faults.raise();
-        faults.raise();
-        assert_eq!(rt; faults.get(), 2);
-    }
-}

@@ -73,21 +73,3 @@ impl<T: Drop> List<T> {
         self.held.is_empty()
     }
 }
-
-#[cfg(test)]
-mod tests {
-    use super::*;
-    use std::test::Fail;
-
-    #[test]
-    fn keeps_its_elements(rt: HostRuntime) -> Result<(), Fail> {
-        let mut list: List<u16> = List::new(rt.alloc());
-        list.push(7)?;
-        list.push(9)?;
-        assert_eq!(rt; (list.len(), list.is_empty()), (2, false));
-        let held = list.into_vec();
-        let list = List::from_vec(held);
-        assert_eq!(rt; list.as_slice(), [7, 9].as_slice());
-        Ok(())
-    }
-}

@@ -23,29 +23,3 @@ pub fn read_number(word: &[u8]) -> Option<u64>
     }
     Some(value)
 }
-
-#[cfg(test)]
-mod tests {
-    use super::*;
-
-    /// Words, and the numbers that they write.
-    static WORDS: [(&[u8], Option<u64>); 10] = [
-        (b"", None),
-        (b"0", Some(0)),
-        (b"007", Some(7)),
-        (b"9999999999", Some(9_999_999_999)),
-        (b"0000000000", Some(0)),
-        (b"00000000000", None),
-        (b"+1", None),
-        (b"1 ", None),
-        (b"1/", None),
-        (b"1:", None),
-    ];
-
-    #[test]
-    fn reads_numbers(rt: HostRuntime) {
-        for (word, number) in WORDS.iter() {
-            assert_eq!(rt; read_number(word), *number);
-        }
-    }
-}

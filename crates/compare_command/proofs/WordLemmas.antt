@@ -278,3 +278,11 @@ last_added (Ok done) old mid new count first last =
     simp append_assoc refl in
     last ∙ ap (λ (text : List ℕ). text ++ end_line) first ∙ all
 last_added (Err fault) old mid new count first last = tt
+
+-- The mark of a queued order was added after its word.
+pub queued_added :
+    {T E : Type 0} (result : Result T E) (old mid new word : List ℕ) → mid ≡ old ++ word →
+    OnOk result (new ≡ mid ++ codes "+") → OnOk result (new ≡ old ++ queued_word word true)
+queued_added (Ok done) old mid new word first last =
+    last ∙ ap (λ (text : List ℕ). text ++ codes "+") first ∙ append_assoc old word (codes "+")
+queued_added (Err fault) old mid new word first last = tt

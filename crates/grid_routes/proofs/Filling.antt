@@ -1,5 +1,6 @@
 -- Buckets that are filled from the labels, cell by cell.
-use Rattle.std.proofs.Common.{◌≡◌, ℕ, ◌+◌, ◌*◌, ◌%◌, ◌<◌, ◌≤◌, inl, inr, Bool, true, false, cond, length, refl, ap, sym, ◌∙◌, arith, subst}
+use Rattle.std.proofs.Common.{◌≡◌, ℕ, ◌+◌, ◌*◌, ◌%◌, ◌<◌, inl, inr, Bool, true, false, cond, length, refl, ap, sym, ◌∙◌, arith, subst}
+use Rattle.std.specs.Prelude.{◌≤◌, ◌⊎◌}
 use Rattle.std.proofs.lemmas.Bool.{cases_eq}
 use Rattle.world_units.specs.declared.cell.CPos.{CPos}
 use Rattle.game_model.specs.Grid.{Grid, IsOn, is_on}
@@ -54,6 +55,33 @@ fill-push field s p label full whole room on is filled =
                 ]
           ];
     }
+
+-- A cell that belongs into no bucket.
+pub fill-past :
+    (field : Distances) (s : Shelves) (p : CPos) (level label : ℕ) → level ≡ field.level → label ≡ label_of field.labels p →
+    ((level ≤ label) × (NONE ≤ label)) ⊎ (label < level) → IsFilled field s p.y p.x → IsFilled field s p.y (p.x + 1)
+fill-past field s p level label at is out filled = record {
+  whole = filled.whole;
+  few = λ b. omega (arith, filled.few b);
+  above = filled.above;
+  before = λ c row below from to.
+      elim (one-or-not c p) [
+        | inl same ↦
+            let above : field.level ≤ label_of field.labels p = subst (λ (x : CPos). field.level ≤ label_of field.labels x) same from in
+            let below : label_of field.labels p < NONE = subst (λ (x : CPos). label_of field.labels x < NONE) same to in
+            elim out [
+              | inl high ↦ absurd (omega (arith, is, below, high.1))
+              | inr low ↦ absurd (omega (arith, at, is, above, low))
+            ]
+        | inr other ↦
+            elim (cases_eq c.x p.x) [
+              | inl column ↦
+                  let made : ℕ → ℕ → CPos = λ x y. record { x = x; y = y } in
+                  absurd (other (ap (λ n. made n c.y) column ∙ ap (λ n. made p.x n) row))
+              | inr less ↦ filled.before c row (omega arith) from to
+            ]
+      ];
+}
 
 pub fill-row :
     (field : Distances) (s : Shelves) (y x : ℕ) → field.labels.width ≤ x → x ≤ field.labels.width →

@@ -1,12 +1,11 @@
 ghost use Rattle.std.specs.Prelude.{◌≡◌, ◌≤◌, length, None};
 
 use crate::host_desk::HostDesk;
-use crate::match_standing::Given;
 use crate::moments::rest;
-use crate::typed::{LINE_END, LINE_ROOM, MAX_CLIENTS, kick_text};
 use arrayvec::ArrayVec;
 use base::FaultCount;
 use game_io::{Failed, Source};
+use host_standing::{Given, LINE_END, LINE_ROOM, MAX_CLIENTS, kick_text};
 use std::sync::Wait;
 use std::time::Clock;
 

@@ -1,13 +1,10 @@
 //! What the devices of a host share.
 
-use crate::awake_time::AwakeTime;
-use crate::log_line::LogLine;
-use crate::match_standing::{Given, InputEnd, MatchStanding, Said};
 use crate::moments::millis_since;
-use crate::typed::Typed;
 use base::NoMemory;
 use crossbeam_queue::ArrayQueue;
 use game_io::MatchEvent;
+use host_standing::{AwakeTime, Given, InputEnd, LogLine, MatchStanding, Said, Typed};
 use std::alloc::{AllocError, Global};
 use std::sync::atomic::{AtomicBool, AtomicU64, Ordering};
 use std::sync::{Arc, Mutex, Wait};

@@ -4,23 +4,16 @@
 //! flags. [`HostWatch`] is told what happens and notes it there; [`HostConsole`] gives what was typed,
 //! and the kicks of the clock, a line at a time. Three threads of the host work beside the match, none
 //! of which it waits for: [`read_typed`] reads standard input, [`write_log`] writes the log, and
-//! [`cut_late_links`] ends the links that hold up a match that is over. What a typed line says is
-//! proved (`specs/Typed.antt`), that a stop of the host's process counts half a second in its clocks at
-//! most, and the clauses of `Source`, `Watch` and `Net`; when a clock acts, and what is logged, no
-//! clause says. The crate stands on `game_io` and `crossbeam_queue`.
+//! [`cut_late_links`] ends the links that hold up a match that is over. The clauses of `Source`, `Watch`
+//! and `Net` are proved. The crate stands on `game_io`, on `host_standing` for what acts when and what
+//! is said, and on `crossbeam_queue`.
 #![tactic(auto)]
 
-mod awake_time;
 mod host_console;
 mod host_desk;
 mod host_watch;
-mod log_line;
 mod log_writer;
-mod match_standing;
 mod moments;
-#[cfg(test)]
-mod tests;
-mod typed;
 mod typed_line;
 mod typed_reader;
 mod waits;

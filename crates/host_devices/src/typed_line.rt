@@ -1,5 +1,5 @@
-use crate::typed::{LINE_ROOM, Typed, what_is_typed};
 use arrayvec::ArrayVec;
+use host_standing::{LINE_ROOM, Typed, what_is_typed};
 
 /// The bytes of a line of the console so far: as much of it as says something.
 #[derive(Drop)]

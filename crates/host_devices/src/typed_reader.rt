@@ -1,10 +1,9 @@
 //! The thread that reads standard input.
 
 use crate::host_desk::HostDesk;
-use crate::match_standing::{InputEnd, Said};
 use crate::moments::rest;
-use crate::typed::{LINE_END, Typed};
 use crate::typed_line::TypedLine;
+use host_standing::{InputEnd, LINE_END, Said, Typed};
 use std::io::{ErrorKind, Input, Read};
 use std::sync::Wait;
 use std::time::Clock;

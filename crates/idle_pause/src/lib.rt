@@ -8,6 +8,3 @@
 mod pause;
 
 pub use pause::{NAP_MICROS, Pause, SPINS_BEFORE_SLEEP};
-
-#[cfg(test)]
-mod tests;

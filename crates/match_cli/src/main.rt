@@ -33,8 +33,10 @@ fn arguments_of(rt: &HostRuntime) -> io::Result<Vec<String>> {
 fn words_of(rt: &HostRuntime) -> Result<Vec<String>, AllocError> {
     match arguments_of(rt) {
         Ok(words) => Ok(words),
-        Err(error) if error.kind() == ErrorKind::OutOfMemory => Err(AllocError),
-        Err(_) => Ok(Vec::new(rt.alloc())),
+        Err(error) => match error.kind() {
+            ErrorKind::OutOfMemory => Err(AllocError),
+            _ => Ok(Vec::new(rt.alloc())),
+        },
     }
 }
 
@@ -108,12 +110,15 @@ fn main(rt: HostRuntime) -> ExitCode {
         return ExitCode::from(OUT_OF_MEMORY);
     };
     // Nobody waits for these threads, and the process ends without them.
-    if is_serve(&words)
-        && (thread::spawn(&rt, move || read_typed(&rt, &typing)).is_err()
-            || thread::spawn(&rt, move || write_log(&rt, &logging)).is_err()
-            || thread::spawn(&rt, move || cut_late_links(&rt, &cutting)).is_err())
-    {
-        return ExitCode::from(OUT_OF_MEMORY);
+    if is_serve(&words) {
+        let reads = thread::spawn(&rt, move || read_typed(&rt, &typing)).is_ok();
+        let writes = thread::spawn(&rt, move || write_log(&rt, &logging)).is_ok();
+        let cuts = thread::spawn(&rt, move || cut_late_links(&rt, &cutting)).is_ok();
+        if !(reads && writes && cuts) {
+            return ExitCode::from(OUT_OF_MEMORY);
+        }
+    } else {
+        drop((typing, logging, cutting));
     }
     // Only a clock cuts links: the sockets of others need no limits of time.
     let tcp = match options.patience {

@@ -79,32 +79,3 @@ impl Bits {
         copy_words(self.words.as_mut_slice(), other.words.as_slice());
     }
 }
-
-#[cfg(test)]
-mod tests {
-    use super::*;
-    use std::test::Fail;
-
-    #[test]
-    fn keeps_its_flags(rt: HostRuntime) -> Result<(), Fail> {
-        let mut list = Bits::clear(rt.alloc(), 130)?;
-        let mut other = Bits::clear(rt.alloc(), 130)?;
-        list.set(0, true);
-        list.set(63, true);
-        list.set(64, true);
-        list.set(129, true);
-        list.set(0, false);
-        assert_eq!(rt;
-            (list.get(0), list.get(63), list.get(64)),
-            (false, true, true)
-        );
-        assert_eq!(rt;
-            (list.get(65), list.get(128), list.get(129)),
-            (false, false, true)
-        );
-        assert!(rt; !list.is_same(&other));
-        other.copy_from(&list);
-        assert!(rt; list.is_same(&other));
-        Ok(())
-    }
-}

@@ -78,26 +78,3 @@ impl Nibbles {
         copy_words(self.words.as_mut_slice(), other.words.as_slice());
     }
 }
-
-#[cfg(test)]
-mod tests {
-    use super::*;
-    use std::test::Fail;
-
-    #[test]
-    fn keeps_its_numbers(rt: HostRuntime) -> Result<(), Fail> {
-        let mut list = Nibbles::zeros(rt.alloc(), 35)?;
-        let mut other = Nibbles::zeros(rt.alloc(), 35)?;
-        list.set(0, 15);
-        list.set(15, 9);
-        list.set(16, 7);
-        list.set(34, 12);
-        list.set(0, 3);
-        assert_eq!(rt; (list.get(0), list.get(1), list.get(15)), (3, 0, 9));
-        assert_eq!(rt; (list.get(16), list.get(33), list.get(34)), (7, 0, 12));
-        assert!(rt; !list.is_same(&other));
-        other.copy_from(&list);
-        assert!(rt; list.is_same(&other));
-        Ok(())
-    }
-}

@@ -25,8 +25,6 @@ mod recording;
 mod replay_stepper;
 mod replayed;
 mod rerun;
-#[cfg(test)]
-mod tests;
 mod text;
 
 pub use difference::Difference;

@@ -1,6 +1,6 @@
 -- One node of a list whose nodes are taken in order.
 use Rattle.std.proofs.Common.{◌≡◌, ℕ, ◌+◌, ◌<◌, true, false, List, length, drop, get_or, sym, ap}
-use Rattle.std.proofs.Common.{◌∙◌, Result, Ok, Err}
+use Rattle.std.proofs.Common.{◌∙◌, Result, Ok, Err, inl, inr}
 use Rattle.std.proofs.lemmas.Bool.{cond-true, cond-false}
 use Rattle.std.proofs.lemmas.List.{drop_more}
 use Rattle.std.proofs.lemmas.Slice.Eq.{bytes_eq-Decides}
@@ -13,7 +13,7 @@ use Rattle.yaml_lines.specs.declared.place.Place.{Place}
 use Rattle.yaml_lines.specs.Trees.{Trees, trees_of, before, trees_of_nodes}
 use Rattle.yaml_lines.proofs.TreeSteps.{trees_out, before_out}
 use Rattle.rule_traits.specs.declared.fault.RuleFault.{RuleFault}
-use Rattle.rule_traits.specs.Typed.{each, step_at, has_field}
+use Rattle.rule_traits.specs.Typed.{each, step_at, has_field, IsRuleFault}
 
 -- What a step takes: what was made so far, and a node's key, value, place and children.
 abbrev pub Step : Type 0 → Type 0
@@ -44,6 +44,15 @@ pub each_fault : {S : Type 0} (step : Step S) (nodes : List Node) (at : ℕ) (no
 each_fault {S} step nodes at node made fault all h n t e =
     let rest : S → Result S RuleFault = λ made. each step made (trees_of_nodes (drop (at + 1) nodes)) in
     sym e ∙ each_at step nodes at node made h n ∙ ap (λ o. o >>= rest) t
+
+-- A node at which a call of the step fails, with its fault or out of memory.
+pub each_stops : {S : Type 0} (step : Step S) (nodes : List Node) (at : ℕ) (node : Node) (made : S) (fault : RuleFault) (all : Result S RuleFault) →
+    at < length nodes → node ≡ get_or nodes at node → IsRuleFault fault (step_at step made node) →
+    each step made (trees_of_nodes (drop at nodes)) ≡ all → IsRuleFault fault all
+each_stops step nodes at node made fault all h n f e = elim f [
+  | inl memory ↦ inl memory
+  | inr told ↦ inr (each_fault step nodes at node made fault all h n told e)
+]
 
 pub each_out : {S : Type 0} (step : Step S) (made : S) (list : Forest) → each step made (trees_of list) ≡ each step made (trees_of_nodes (out-Forest list).nodes.items)
 each_out step made list = ap (each step made) (trees_out list)

@@ -1,8 +1,10 @@
 -- An order changes at most the actor to which it is given, and leaves kinds and cells.
 use Rattle.std.proofs.Common.{◌≡◌, ℕ, ◌+◌, Bool, true, false, List, [], ◌∷◌, map, Option, Some, None, inl, inr, refl, sym, ap, ap₂, subst, ◌∙◌}
-use Rattle.std.specs.Prelude.{◌==◌, if◌then◌else◌, is_some, ◌⊎◌, ◌&&◌, ◌||◌, ◌*◌}
+use Rattle.std.specs.Prelude.{◌==◌, if◌then◌else◌, is_some, ◌⊎◌, ◌&&◌, ◌||◌, ◌*◌, ◌-◌, slice_get, slice_set}
 use Rattle.std.specs.List.{range_with_len}
+use Rattle.std.proofs.lemmas.Bool.{cond-true}
 use Rattle.std.proofs.lemmas.Bool.Decides.{eqb_tells}
+use Rattle.std.proofs.lemmas.Option.{get_or_from_slice_get}
 use Rattle.twister.specs.Place.{Place}
 use Rattle.world_units.specs.declared.cell.CPos.{CPos}
 use Rattle.world_units.specs.Cells.{same_cell}
@@ -185,6 +187,17 @@ order_scene setup w new table after built router dice client order is ready same
     (mid_from_valid setup 0 w.tick w.drawn next (order_valid setup 0 w.tick w.drawn w client order ready)) wide high (same_sight router)
     (change_blocks setup (subject_of order) w.actors next.actors (order_change setup w client order))
     (is.thrown ∙ sym (order_dice setup w client order)))
+
+-- A donation that fits, by the cash that is read and written.
+pub donation_is :
+    (w : World) (client to amount left more : ℕ) (paid got : List ℕ) → donation_fits w client to amount ≡ true →
+    slice_get w.cash client ≡ Some left → slice_get w.cash to ≡ Some more →
+    paid ≡ slice_set w.cash client (left - amount) → got ≡ slice_set paid to (more + amount) →
+    record w { cash = got } ≡ (if donation_fits w client to amount then after_donation w client to amount else w)
+donation_is w client to amount left more paid got fits here there pays gets =
+    let gives = pays ∙ ap (λ (n : ℕ). slice_set w.cash client (n - amount)) (sym (get_or_from_slice_get w.cash client left 0 here)) in
+    let takes = gets ∙ ap₂ (λ (cash : List ℕ) (n : ℕ). slice_set cash to (n + amount)) gives (sym (get_or_from_slice_get w.cash to more 0 there)) in
+    ap (λ (cash : List ℕ). record w { cash = cash }) takes ∙ sym (cond-true _ _ _ fits)
 
 -- An order that fits, and one that does not.
 pub order_is :

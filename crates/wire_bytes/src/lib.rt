@@ -8,8 +8,6 @@
 mod cursor;
 mod law;
 mod short;
-#[cfg(test)]
-mod tests;
 mod write;
 
 pub use cursor::Cursor;

@@ -1,8 +1,9 @@
-use Rattle.std.proofs.Common.{◌∙◌, ap, sym, subst}
+use Rattle.std.proofs.Common.{◌≡◌, ap, sym, subst}
 use Rattle.game_model.specs.declared.world.World.{World}
 use Rattle.game_model.specs.Setup.{Setup}
 use Rattle.game_model.specs.World.{world_with}
 use Rattle.game_orders.specs.declared.order.Order.TheVariants as order
+use Rattle.game_tick.specs.Orders.{changed_if, harvesting, own_of}
 use Rattle.actor_table.specs.Table.{Table}
 use Rattle.tick_core.specs.Live.{Standing}
 use Rattle.tick_core.specs.Ordered.{IsReady}
@@ -16,6 +17,10 @@ invariant_of-self c =
     let w : World = world_with s.head s.table.actors s.ore in
     let ready : IsReady setup w w =
     subst (λ (x : Standing). IsReady x.setup x.world x.world) (sym c.self.view_is) c.requires.ready in
-    let done = rw (c.deref.ensures, c.deref-2.ensures) at c.order_harvest.ensures in
+    let after : Table =
+    record s.table {
+      actors = changed_if setup.rules s.table.actors (harvesting setup c.args.cell c.args.queued) (own_of s.table.actors c.args.client c.args.id);
+    } in
+    let done : c.order_harvest.new.t ≡ after = rw (c.deref.ensures, c.deref-2.ensures) at c.order_harvest.ensures in
     order_scene setup w _ s.table c.order_harvest.new.t s.blocks s.router s.dice c.args.client (order.Harvest c.args.id c.args.cell c.args.queued) c.self.invariant ready
-    (ap (λ (t : Table). world_with s.head t.actors s.ore) done) (ap (λ (t : Table). t.width) done) (ap (λ (t : Table). t.height) done)
+    (ap (λ (t : Table). world_with s.head t.actors s.ore) {y = after} done) (ap (λ (t : Table). t.width) {y = after} done) (ap (λ (t : Table). t.height) {y = after} done)
