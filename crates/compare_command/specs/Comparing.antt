@@ -9,7 +9,7 @@ use Rattle.game_model.specs.Setup.{Setup}
 use Rattle.game_save.specs.ReadSave.{read_save_of}
 use Rattle.replay_commands.specs.Refusals.{read_step}
 use Rattle.replay_file.specs.Reading.{read_of}
-use Rattle.save_commands.specs.Refusals.{read_save_step}
+use Rattle.replay_commands.specs.SaveRefusals.{read_save_step}
 use Rattle.compare_command.specs.Difference.{Difference}
 use Rattle.compare_command.specs.Found.{FoundState}
 use Rattle.compare_command.specs.Lines.{last_lines, lines_of}

@@ -14,9 +14,8 @@ use crate::saves::compare_saves;
 use base::NoMemory;
 use command_answers::{Answer, DONE, MARK_DIFFERS, Stop, begins_save};
 use game_save::Saved;
-use replay_commands::read_replay_file;
+use replay_commands::{read_replay_file, read_save_file};
 use replay_file::Replay;
-use save_commands::read_save_file;
 use std::alloc::Global;
 use tick_core::GameMaker;
 

@@ -38,7 +38,8 @@ use Rattle.replay_commands.specs.Replays.{game_rerun, mark_status, migrated_repl
 use Rattle.replay_run.specs.declared.replayed.Replayed.{Replayed}
 use Rattle.replay_run.specs.Rerun.{replayed_from}
 use Rattle.game_save.specs.ReadSave.{read_save_of}
-use Rattle.save_commands.specs.Refusals.{of_match, read_save_step, with_frames}
+use Rattle.save_commands.specs.Refusals.{of_match, with_frames}
+use Rattle.replay_commands.specs.SaveRefusals.{read_save_step}
 use Rattle.save_commands.specs.Saves.{resumed_rerun, save_bytes_at, saved_reply}
 use Rattle.tick_core.specs.Game.{GameState}
 use Rattle.match_commands.specs.Compared.{compared_step, first_step}

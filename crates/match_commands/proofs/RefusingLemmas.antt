@@ -25,7 +25,8 @@ use Rattle.command_answers.specs.Contents.{Contents}
 use Rattle.command_answers.specs.Reply.{Reply, done}
 use Rattle.command_answers.specs.Step.{Step}
 use Rattle.replay_commands.specs.Refusals.{read_step}
-use Rattle.save_commands.specs.Refusals.{read_save_step, of_match, with_frames}
+use Rattle.save_commands.specs.Refusals.{of_match, with_frames}
+use Rattle.replay_commands.specs.SaveRefusals.{read_save_step}
 use Rattle.save_commands.specs.Saves.{continued_reply, save_bytes_at, saved_reply}
 use Rattle.view_command.specs.Views.{client_step, no_such_client, view_text}
 use Rattle.match_commands.specs.Refusing.{Accepts, AcceptsSave, AcceptsScript, IsOtherMatch, IsRefusedWhere, other_match, too_few}

@@ -26,7 +26,8 @@ use Rattle.replay_run.specs.declared.difference.Difference as mark
 use Rattle.replay_run.specs.Rerun.{difference_of, replayed_from}
 use Rattle.replay_commands.specs.Refusals.{read_step}
 use Rattle.game_save.specs.ReadSave.{read_save_of}
-use Rattle.save_commands.specs.Refusals.{of_match, read_save_step, with_frames}
+use Rattle.save_commands.specs.Refusals.{of_match, with_frames}
+use Rattle.replay_commands.specs.SaveRefusals.{read_save_step}
 use Rattle.save_commands.specs.Saves.{resumed_rerun}
 use Rattle.match_commands.specs.Compared.{first_step}
 use Rattle.match_commands.specs.Worlds.{told_worlds}

@@ -13,7 +13,7 @@ use Rattle.command_answers.specs.Reply.{Reply, refusal}
 use Rattle.command_answers.specs.Step.{Step}
 use Rattle.replay_commands.specs.Refusals.{read_step}
 use Rattle.rule_commands.specs.Setups.{setup_step}
-use Rattle.save_commands.specs.Refusals.{read_save_step}
+use Rattle.replay_commands.specs.SaveRefusals.{read_save_step}
 use Rattle.rule_commands.specs.Numbers.{numbered_setup_step}
 
 -- The files of a command on a replay are accepted: they are what the match stands on and this

@@ -2,3 +2,4 @@ pub mod Matches
 pub mod Records
 pub mod Refusals
 pub mod Replays
+pub mod SaveRefusals

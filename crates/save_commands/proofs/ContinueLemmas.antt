@@ -11,6 +11,7 @@ use Rattle.game_save.specs.declared.save_fault.SaveFault.{SaveFault}
 use Rattle.game_save.specs.declared.saved.Saved.{Saved}
 use Rattle.game_save.specs.ReadSave.{read_save_of}
 use Rattle.replay_commands.specs.Refusals.{read_step}
+use Rattle.replay_commands.specs.SaveRefusals.{read_save_step}
 use Rattle.replay_commands.specs.Replays.{game_first_hash, game_rerun, replay_reply, replayed_reply}
 use Rattle.replay_file.specs.declared.replay.Replay.{Replay}
 use Rattle.replay_file.specs.declared.replay_fault.ReplayFault.{ReplayFault}
@@ -21,7 +22,7 @@ use Rattle.replay_run.specs.Rerun.{Rerun, frame_count, hash_in, marks_before, re
 use Rattle.replay_run.specs.Rerun.{replayed_late, rerun_over, resumed_at}
 use Rattle.tick_core.specs.Game.{GameState, game_after, game_hash, game_summary}
 use Rattle.save_commands.specs.Continuing.{GoesOn}
-use Rattle.save_commands.specs.Refusals.{of_match, read_save_step, with_frames}
+use Rattle.save_commands.specs.Refusals.{of_match, with_frames}
 use Rattle.save_commands.specs.Saves.{continue_step, continued_reply, game_at, saved_at}
 use Rattle.save_commands.proofs.GameLemmas.{game_kept, resumed_is}
 

@@ -11,13 +11,14 @@ use Rattle.game_save.specs.declared.saved.Saved.{Saved}
 use Rattle.game_save.specs.ReadSave.{read_save_of}
 use Rattle.game_save.specs.SaveBytes.{save_bytes}
 use Rattle.replay_commands.specs.Refusals.{read_step}
+use Rattle.replay_commands.specs.SaveRefusals.{read_save_step}
 use Rattle.replay_commands.specs.Replays.{game_first_hash, replayed_reply, written}
 use Rattle.replay_file.specs.declared.replay.Replay.{Replay}
 use Rattle.replay_file.specs.Reading.{read_of}
 use Rattle.replay_run.specs.Playing.{played}
 use Rattle.replay_run.specs.Rerun.{Rerun, rerun_over, replayed_from}
 use Rattle.tick_core.specs.Game.{GameState, game_after, game_hash, game_start, game_summary}
-use Rattle.save_commands.specs.Refusals.{of_match, read_save_step, with_frames}
+use Rattle.save_commands.specs.Refusals.{of_match, with_frames}
 
 -- ---- `save`
 

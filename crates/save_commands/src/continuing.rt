@@ -8,11 +8,10 @@ ghost use Rattle.replay_run.specs.Rerun.{frame_count};
 ghost use Rattle.save_commands.specs.Saves.{continue_step, continued_reply};
 
 use crate::fitting::{check_frames, check_match};
-use crate::refusal::read_save_file;
 use base::NoMemory;
 use command_answers::{Answer, Stop};
 use game_save::Saved;
-use replay_commands::{MarkedGame, read_replay_file, replayed_answer};
+use replay_commands::{MarkedGame, read_replay_file, read_save_file, replayed_answer};
 use replay_file::Replay;
 use replay_run::run_replay_from;
 use std::alloc::Global;

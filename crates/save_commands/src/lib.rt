@@ -8,18 +8,13 @@
 //!
 //! What was saved goes on as the match did: `save_answer` promises of the save that it writes what
 //! `continue` answers of it (`Continues` in `specs/Continuing.antt`).
-//!
-//! A command beside these that reads a save's file reads it by [`read_save_file`], so that it is
-//! refused everywhere with the same line.
 #![tactic(auto)]
 
 mod continuing;
 mod fitting;
 mod game_world;
-mod refusal;
 mod saves;
 mod text;
 
 pub use continuing::continue_answer;
-pub use refusal::read_save_file;
 pub use saves::save_answer;

@@ -2,7 +2,7 @@ ghost use Rattle.std.specs.Prelude.{◌≡◌, IfOk};
 ghost use Rattle.command_answers.specs.Stop.{ReturnsStep};
 ghost use Rattle.game_model.specs.ValidWorld.{IsSavedWorld};
 ghost use Rattle.game_save.specs.ReadSave.{read_save_of};
-ghost use Rattle.save_commands.specs.Refusals.{IsSaveStop, read_save_step};
+ghost use Rattle.replay_commands.specs.SaveRefusals.{IsSaveStop, read_save_step};
 
 use command_answers::Stop;
 use game_save::{SaveFault, Saved, read_save};
