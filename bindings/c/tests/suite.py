@@ -1,9 +1,9 @@
-"""The C library beside the program: its header, its names, and what programs in C make of it."""
-import os, random, re, shutil, subprocess, tempfile, time
+"""The C library beside the program: its header, its names, and what programs in C, C++ and Python make of it."""
+import os, random, re, subprocess, sys, tempfile, time
 from concurrent.futures import ThreadPoolExecutor
 
 import recorded
-from drills import random_drill
+from drills import Drill, random_drill
 from harness import PATIENCE, TOP, free_address, lacking
 from made import made_drill
 
@@ -165,30 +165,111 @@ class Library:
 
     # ---- Over TCP ----
 
-    def of_joined(self, joined, name, frames, before=''):
-        """A client in C beside a bot of the program, both of the program's server: one hash."""
+    def of_client(self, name, client, frames):
+        """A client beside a bot of the program, both of the program's server: one hash. `client` gives its command at an
+        address."""
         address = free_address()
         files = ['--map', *SAMPLE]
         words = ([self.program, 'serve', '--at', address, '--clients', '2', '--lag', '3', '--seed', '5', *files],
-                 [self.program, 'play', '--at', address, '--bot', '--frames', str(frames), *files],
-                 [*before.split(), joined, address.rsplit(':', 1)[1], str(frames), *SAMPLE])
+                 [self.program, 'play', '--at', address, '--bot', '--frames', str(frames), *files], client(address))
         with ThreadPoolExecutor(3) as pool:
             ends = list(pool.map(call, words))
         found = re.search(rb'server (frames \d+ hash \w+)', ends[0][1])
         same = found and ends[2][:2] == (0, found[1] + b'\n') and found[1].startswith(b'frames %d ' % frames)
-        self.tally.check(f'a client of serve{name}', same, ends)
+        self.tally.check(name, same, ends)
+
+    def of_joined(self, joined, name, frames, before=''):
+        def client(address):
+            return [*before.split(), joined, address.rsplit(':', 1)[1], str(frames), *SAMPLE]
+        self.of_client(f'a client of serve{name}', client, frames)
+
+    # ---- In C++ and Python ----
+
+    def of_wrapped(self):
+        """A match of two bots by lockstep.hpp, also without exceptions."""
+        want = self.two_bots(60, SAMPLE, 7)
+        for cc in ('g++ -std=c++17 -O1', 'g++ -std=c++20 -O2 -fno-exceptions -fno-rtti', 'clang++ -std=c++17 -O1'):
+            if lacking(cc.split()[0]):
+                self.tally.skip(f'wrapped: {cc}', f'no {cc.split()[0]}')
+                continue
+            to = f'{self.folder}/wrapped'
+            status, _, said = call(f'{cc} {STRICT} {HERE}/wrapped.cpp -o {to} {LIBRARY}')
+            if self.tally.check(f'wrapped: builds by {cc}', status == 0, said):
+                self.answers(f'wrapped: two bots by {cc}', [to, '60', '7', *SAMPLE], want)
+
+    def of_python(self):
+        """Matches by lockstep.py, what it raises, and a player of its own rule at a server."""
+        self.of_records()
+        wrapped = [sys.executable, f'{HERE}/wrapped.py']
+        self.answers('python: two bots', [*wrapped, 'bots', '60', '7', *SAMPLE], self.two_bots(60, SAMPLE, 7))
+        self.answers('python: what raises', [*wrapped, 'faults', *SAMPLE], b'')
+        for number in range(5):
+            drill, script = Drill(number, 0, 12, (16, 16)), f'{self.folder}/orders.script'
+            lines = [f'{client} {" ; ".join(drill.order() for _ in range(drill.random.randrange(5)))}'.rstrip()
+                     for _ in range(40) for client in range(drill.clients) if drill.random.randrange(9)]
+            with open(script, 'w') as it:
+                it.write(f'script {drill.clients} {number}\n' + ''.join(f'{line}\n' for line in lines))
+            found = call([self.program, 'local', '--script', script, '--map', *SAMPLE])[1]
+            want = re.search(rb'local frames \d+ hash \w+', found)
+            self.answers(f'python: orders {number}', [*wrapped, 'script', script, *SAMPLE], want and want[0] + b'\n')
+        rules = f'{self.folder}/faulty.yaml'
+        with open(rules, 'w') as it:
+            it.write('jeep:\n\tHealth:\n\t\tHP: none\n')
+        want = call([self.program, 'check', '--map', SAMPLE[0], SAMPLE[1], rules])
+        self.tally.check('python: a fault to find', want[0] == 3, want)
+        self.answers('python: a fault', [*wrapped, 'check', *SAMPLE, rules], want[1])
+        player = [sys.executable, f'{TOP}/bindings/python/player.py']
+        self.of_client('a client of serve in Python', lambda address: [*player, address, '80', '--map', *SAMPLE], 80)
+
+    def of_records(self):
+        """The records, numbers, causes and calls of lockstep.py are those of the header."""
+        with open(HEADER, encoding='utf-8') as it:
+            header = it.read()
+        told = recorded.load(f'{TOP}/bindings/python/lockstep.py', 'lockstep')
+        fields = [(kind, name) for kind, record in told.RECORDS.items() for name, _ in record._fields_]
+        shown = ''.join(f'  SHOW({kind}, {name})\n' for kind, name in fields)
+        shown += ''.join(f'  printf("{kind} %zu\\n", sizeof(lockstep_{kind}));\n' for kind in told.RECORDS)
+        source, to = f'{self.folder}/records.c', f'{self.folder}/records'
+        with open(source, 'w') as it:
+            it.write(f'#include "{HEADER}"\n#include <stdio.h>\n#define SHOW(kind, name) printf(#kind " " #name " %zu %zu\\n", '
+                     'offsetof(lockstep_##kind, name), sizeof(((lockstep_##kind *)0)->name));\n'
+                     f'int main(void) {{\n{shown}  for (uint32_t it = 0; it < 64; it++) puts(lockstep_cause(it));\n}}\n')
+        want = ''
+        for kind, name in fields:
+            place = getattr(told.RECORDS[kind], name)
+            want += f'{kind} {name} {place.offset} {place.size}\n'
+        want += ''.join(f'{kind} {told.ctypes.sizeof(record)}\n' for kind, record in told.RECORDS.items())
+        want += ''.join(f'{told.CAUSES.get(it, "?")}\n' for it in range(64))
+        status, _, said = call(f'gcc -std=c99 {STRICT} {source} -o {to}')
+        if self.tally.check('python: its records as C', status == 0, said):
+            self.answers('python: its records', [to], want.encode())
+        of_header = dict(re.findall(r'\bLOCKSTEP_(\w+)(?: =)? (\d+)', header))
+        numbers = {it.name: it.value for group in (told.Code, told.Traits) for it in group}
+        numbers.update((it, getattr(told, it)) for it in told.__all__ if it.isupper())
+        # What the methods of a setup say instead.
+        beside = {'RULES', 'MAP'}
+        self.tally.same('python: its numbers', {it: int(of_header[it]) for it in of_header if it not in beside}, numbers)
+        calls = set(re.findall(r'^(?:uint32_t|void) lockstep_(\w+)\(', header, re.MULTILINE))
+        self.tally.same('python: its calls', sorted(told.CALLS), sorted(calls))
 
     # ---- The page and the demo ----
 
-    def of_page(self):
-        """The least program of the page, in C and in C++; what it prints is what the page shows."""
+    def page_program(self, first, source):
+        """Writes the program of the page that begins with a line."""
         with open(f'{TOP}/docs/EMBEDDING.md', encoding='utf-8') as it:
             lines = it.read().split('\n')
-        begin = lines.index('    #include <lockstep.h>')
+        begin = lines.index(f'    {first}')
         end = next(at for at in range(begin, len(lines)) if lines[at] and not lines[at].startswith('    '))
-        source, to = f'{self.folder}/least.c', f'{self.folder}/least'
         with open(source, 'w') as it:
             it.write('\n'.join(line[4:] for line in lines[begin:end]))
+
+    def of_page(self):
+        """The least program of the page, in C and in C++, and that in Python; they print what the program does."""
+        self.page_program('import lockstep', f'{self.folder}/least.py')
+        self.answers('the page: in Python', [sys.executable, f'{self.folder}/least.py'], self.crossing(), folder=TOP,
+                     env={**os.environ, 'PYTHONPATH': f'{TOP}/bindings/python'})
+        source, to = f'{self.folder}/least.c', f'{self.folder}/least'
+        self.page_program('#include <lockstep.h>', source)
         for cc in ('gcc -std=c99', 'gcc -x c++ -std=c++17'):
             status, _, said = call([*cc.split(), *STRICT.split(), f'-I{TOP}/bindings/c', source, '-x', 'none', '-o', to, LIBRARY])
             if self.tally.check(f'the page: {cc}', status == 0, said):
@@ -261,6 +342,8 @@ def run_parts(it):
     small = it.build('groups', '-O2 -DSTACK=81920', sources=['groups'], libraries='-pthread')
     if small:
         it.of_groups(small, ', 64 KB of stack for a call', 100)
+    it.of_wrapped()
+    it.of_python()
     it.of_demo()
     timed('plain', begun)
     begun = time.monotonic()
