@@ -11,6 +11,7 @@
 
 #include "lockstep.h"
 
+#include <cstddef>
 #include <string>
 #include <string_view>
 #include <utility>
@@ -23,6 +24,7 @@ class Bytes {
 public:
   Bytes(const uint8_t *data, size_t size) noexcept
       : data_(size ? data : LOCKSTEP_NIL(const uint8_t)), size_(size) {}
+  Bytes(std::nullptr_t, size_t) = delete; /* {0, 1} are no bytes */
   Bytes(const std::vector<uint8_t> &it) noexcept : Bytes(it.data(), it.size()) {}
   Bytes(std::string_view it) noexcept
       : Bytes(reinterpret_cast<const uint8_t *>(it.data()), it.size()) {}

@@ -11,7 +11,7 @@ docs/EMBEDDING.md says what each part is for, bindings/c/lockstep.h what each ca
 its numbers are; the names here are those there, without `lockstep_`. Records are copies: no later call changes them.
 
 Answers. What can go either way is given: a packet or None, or an `Answer`. A call that can't be made raises, and has changed
-nothing: `BadBytes`, `BadArgument`, `Closed`, `Fault`, `Refused`, or MemoryError.
+nothing: an `Error`, MemoryError, or for a value of another type what Python raises.
 
 Threads. A call holds the interpreter's lock, so that calls never overlap, and takes no time but its own: none waits.
 
@@ -20,6 +20,7 @@ repository; else the `liblockstep.so.1` that the system's loader finds.
 """
 import ctypes
 import enum
+import operator
 import os
 from ctypes import POINTER, Structure, byref, c_size_t, c_uint8, c_uint32, c_uint64, c_void_p
 from typing import Iterable, List, NamedTuple, Optional, Tuple, Union
@@ -180,6 +181,7 @@ class _Record(Structure):
 
 def _number(value: int) -> int:
     """A number that the library can be told: ctypes would cut it."""
+    value = operator.index(value)
     if not 0 <= value < 1 << 32:
         raise BadArgument(f'the number {value}', Code.BAD_ARGUMENT)
     return value
@@ -362,14 +364,23 @@ class Play:
     another takes its place."""
 
     def __init__(self, given: bytes = b'\x01\x00'):
-        self._bytes = bytearray(given)
+        self._bytes = bytearray(_bytes(given)[0])
+        if len(self._bytes) < 2 or self._bytes[0] != 1 or self._bytes[1] > MAX_ORDERS:
+            raise BadBytes('the bytes of a play', Code.BAD_BYTES)
 
     def __bytes__(self):
         return bytes(self._bytes)
 
+    def __copy__(self):
+        return Play(self)
+
+    def __bool__(self):
+        # A play without orders is no departure.
+        return True
+
     def __len__(self):
         """How many orders there are."""
-        return self._bytes[1] if len(self._bytes) > 1 else 0
+        return self._bytes[1]
 
     def __repr__(self):
         return f'Play({bytes(self)!r})'
@@ -377,9 +388,10 @@ class Play:
     def _add(self, tag: int, *fields: Tuple[int, int]) -> 'Play':
         order = bytes([tag])
         for value, size in fields:
+            value = operator.index(value)
             if not 0 <= value < 1 << 8 * size:
                 raise BadArgument(f'the number {value} in an order', Code.BAD_ARGUMENT)
-            order += int(value).to_bytes(size, 'little')
+            order += value.to_bytes(size, 'little')
         if len(self) >= MAX_ORDERS:
             raise BadArgument(f'{MAX_ORDERS} orders and one', Code.BAD_ARGUMENT)
         self._bytes += order
@@ -428,6 +440,9 @@ class _Held:
     def close(self):
         """Frees what it holds. It may be closed before what was made from it, and again."""
         _LIBRARY.lockstep_free(self._at)
+
+    def __reduce_ex__(self, _):
+        raise TypeError(f'a {type(self).__name__} is not copied')
 
     def __enter__(self):
         return self

@@ -107,6 +107,8 @@ def main():
     words.add_argument('--map')
     words.add_argument('rules', nargs='*')
     words = words.parse_intermixed_args()
+    if not 0 <= words.frames <= 262144:
+        sys.exit('player.py: a match has 0 to 262,144 frames')
     host, _, port = words.address.rpartition(':')
     setup = lockstep.Setup.of_files(words.rules, words.map)
     kinds = setup.kinds()
