@@ -3,9 +3,10 @@
  *
  * What each call does, its codes and its units are said in lockstep.h; a method has the name of its
  * call. It returns the call's code: where that is LOCKSTEP_OK, what was read has taken the place of
- * what was there, else it is not to be used. Nothing is thrown but what a vector or a string throws
- * where memory ends; then no object has changed. A moved object leaves an empty one behind, to
- * which each call answers LOCKSTEP_WRONG_OBJECT. */
+ * what was there, else it is not to be used. Nothing is thrown but by Grid::at off the map, and
+ * what a vector or a string throws where memory ends; then no object has changed. A moved object
+ * leaves an empty one behind, which `create` makes anew, and to which all else answers
+ * LOCKSTEP_WRONG_OBJECT. */
 #ifndef LOCKSTEP_HPP
 #define LOCKSTEP_HPP
 
@@ -86,7 +87,9 @@ struct Grid {
   uint32_t width = 0;
   std::vector<uint8_t> cells;
 
-  uint8_t at(uint32_t x, uint32_t y) const { return cells.at(size_t(y) * width + x); }
+  uint8_t at(uint32_t x, uint32_t y) const {
+    return cells.at(x < width ? size_t(y) * width + x : cells.size());
+  }
 };
 
 /* A way: what it costs, and its cells from the first to the last. */

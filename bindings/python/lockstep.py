@@ -13,7 +13,8 @@ its numbers are; the names here are those there, without `lockstep_`. Records ar
 Answers. What can go either way is given: a packet or None, or an `Answer`. A call that can't be made raises, and has changed
 nothing: an `Error`, MemoryError, or for a value of another type what Python raises.
 
-Threads. A call holds the interpreter's lock, so that calls never overlap, and takes no time but its own: none waits.
+Threads. A call holds the interpreter's lock, so that calls never overlap; none waits. In a build of Python without that lock
+only one thread at a time may use a setup and what was made from it.
 
 The library is the file that the variable LOCKSTEP_LIBRARY names; else the one that bindings/c/build has made in this
 repository; else the `liblockstep.so.1` that the system's loader finds.
@@ -118,6 +119,9 @@ class Refused(Error):
     def __init__(self, call: str, why: int):
         super().__init__(call, Code.REFUSED)
         self.why = why
+
+    def __str__(self):
+        return f'{super().__str__()}, {self.why}'
 
 
 class Fault(Error):
