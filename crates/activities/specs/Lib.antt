@@ -1,2 +1,1 @@
 pub mod Activity
-pub mod ActivityLemmas

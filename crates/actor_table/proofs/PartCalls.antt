@@ -7,7 +7,7 @@ use Rattle.game_model.specs.declared.actor.Body.{Body}
 use Rattle.game_model.specs.Grid.{Grid}
 use Rattle.game_model.specs.World.{actor_of}
 use Rattle.game_model.specs.ActorChanges.{changed_at, with_body}
-use Rattle.game_model.specs.FoundLemmas.{IdsRise, changed_as}
+use Rattle.game_model.proofs.FoundLemmas.{IdsRise, changed_as}
 use Rattle.actor_table.specs.Kinds.{MovesId, owner_and_kind_of}
 use Rattle.actor_table.specs.Search.{IsAt}
 use Rattle.actor_table.specs.Table.{IsTied}

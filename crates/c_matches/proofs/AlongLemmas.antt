@@ -19,9 +19,9 @@ use Rattle.order_packets.specs.declared.up.Up.TheVariants.{Hello, Orders, Sync, 
 use Rattle.game_model.specs.declared.world.World.{World}
 use Rattle.game_model.specs.World.{start_of}
 use Rattle.game_tick.specs.Keeps.{TickKeeps}
-use Rattle.game_tick.specs.KeepsLemmas.{tick_keeps}
+use Rattle.game_tick.proofs.KeepsLemmas.{tick_keeps}
 use Rattle.replay_file.specs.declared.limits.TheConstants.{GREATEST_TAG}
-use Rattle.replay_file.specs.EntriesLemmas.{entries_again, entries_known}
+use Rattle.replay_file.proofs.EntriesLemmas.{entries_again, entries_known}
 use Rattle.replay_file.specs.PartBytes.{FitsEntry, entries_bytes}
 use Rattle.replay_file.specs.PartReading.{entries_after}
 use Rattle.replay_file.specs.PartRules.{EntryFollows, StayDeparted}

@@ -9,11 +9,11 @@ use Rattle.order_packets.specs.declared.down.Down.{Down}
 use Rattle.order_packets.specs.declared.down.Down.TheVariants.{Welcome, Refused, Entry}
 use Rattle.order_packets.specs.declared.up.Up.{Up}
 use Rattle.peer_core.specs.Faithful.{IsFaithful}
-use Rattle.peer_core.specs.FaithfulLemmas.{fresh_faithful, deliver_faithful, seal_faithful, tick_faithful}
+use Rattle.peer_core.proofs.FaithfulLemmas.{fresh_faithful, deliver_faithful, seal_faithful, tick_faithful}
 use Rattle.peer_core.specs.Peer.{delivered_peer}
 use Rattle.server_core.specs.Server.{after_drop}
 use Rattle.server_core.specs.Served.{IsServed}
-use Rattle.server_core.specs.ServedLemmas.{fresh_is_served, packet_is_served, drop_is_served, tick_is_served}
+use Rattle.server_core.proofs.ServedLemmas.{fresh_is_served, packet_is_served, drop_is_served, tick_is_served}
 use Rattle.setup_files.specs.declared.making.Made.{Made}
 use Rattle.tick_core.specs.Game.{GameState, game_start, game_after}
 use Rattle.c_matches.specs.Histories.{PeerCall, Deliver, Seal, Tick, peer_after, peer_after_all, IsAgreed, PeersAgree}

@@ -2,12 +2,12 @@
 use Rattle.std.proofs.Common.{arith, ◌≡◌, ◌≢◌, ◌≤◌, ℕ, zero, suc, List, [], ◌∷◌, ◌++◌, length, drop, Option, None, Some, Ok, refl, ap, subst}
 use Rattle.std.proofs.lemmas.List.{length-append}
 use Rattle.wire_bytes.specs.Field.{field_bytes}
-use Rattle.wire_bytes.specs.FieldLemmas.{field_length}
+use Rattle.wire_bytes.proofs.FieldLemmas.{field_length}
 use Rattle.game_orders.specs.declared.entry.Entry.TheVariants.{Play, Leave}
 use Rattle.game_orders.specs.OrderBytes.{orders_bytes}
 use Rattle.game_orders.specs.declared.order.Order.{Order}
 use Rattle.game_orders.specs.declared.limits.TheConstants.{MAX_ORDERS}
-use Rattle.game_orders.specs.OrdersLemmas.{orders_are_short}
+use Rattle.game_orders.proofs.OrdersLemmas.{orders_are_short}
 use Rattle.replay_file.specs.PartBytes.{entry_bytes}
 use Rattle.order_packets.specs.declared.down.Down.{Down}
 use Rattle.order_packets.specs.declared.down.Down.TheVariants.{Welcome, Refused, Entry}

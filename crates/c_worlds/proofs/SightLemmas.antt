@@ -11,7 +11,7 @@ use Rattle.game_orders.specs.Order.{flag_number}
 use Rattle.game_model.specs.declared.actor.Actor.{Actor}
 use Rattle.game_model.specs.Grid.{place_of}
 use Rattle.shroud.specs.Grids.{cell_at, flag_of, grid_of, grids_of, no_grid}
-use Rattle.shroud.specs.GridsLemmas.{cell_again, flag_is, same_grids}
+use Rattle.shroud.proofs.GridsLemmas.{cell_again, flag_is, same_grids}
 use Rattle.shroud.specs.ShroudState.{ShroudState, shrouded, updated}
 use Rattle.shroud.specs.Sights.{is_seen}
 use Rattle.tick_core.specs.Game.{GameState}

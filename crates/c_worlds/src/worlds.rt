@@ -16,7 +16,7 @@ use wire_bytes::Cursor;
 
 /// The frame that the bytes spell, and nothing after it: an entry of each client, of which `gone` says
 /// who has departed before.
-#[tactic(auto, unfolding(crate::specs::Worlds::whole), using(replay_file::specs::EntriesLemmas::stay_length))]
+#[tactic(auto, unfolding(crate::specs::Worlds::whole), using(replay_file::proofs::EntriesLemmas::stay_length))]
 pub fn read_frame(gone: &[bool], bytes: &[u8]) -> Option<Frame>
     requires { length gone.now ≤ MAX_CLIENTS }
     ensures frame { result ≡ frame_at gone.now bytes.now }

@@ -14,7 +14,7 @@ use Rattle.game_model.specs.World.{actor_of, living_of}
 use Rattle.game_model.specs.Kinds.{kind_of, range_in}
 use Rattle.game_tick.specs.Acts.{popped}
 use Rattle.game_tick.specs.Attacking.{after_attack, hit_by, points_of, reloading}
-use Rattle.game_model.specs.FoundLemmas.{found_id}
+use Rattle.game_model.proofs.FoundLemmas.{found_id}
 use Rattle.actor_table.specs.Table.{Table}
 use Rattle.motion.specs.Steps.{gone_by_id}
 use Rattle.combat.specs.Attacks.{IsFought}

@@ -9,7 +9,7 @@ use Rattle.command_answers.specs.Step.{Step}
 use Rattle.command_answers.specs.WantedFiles.{Wanted, WantedFiles, and_then, in_order}
 use Rattle.command_answers.specs.Contents.{Contents, content_of, contents_of, read_optional, IsFirstThere, IsWithinLimit, AreContents}
 use Rattle.command_answers.specs.Stop.{IsReadStop, IsOpaqueStop}
-use Rattle.command_answers.specs.OptionLemmas.{map_some, map_none}
+use Rattle.command_answers.proofs.OptionLemmas.{map_some, map_none}
 use Rattle.command_answers.proofs.FilesLemmas.{there_more, opaque_more, opaque_later}
 
 -- The contents of some files and then of the last one, which those may decide of.

@@ -6,7 +6,7 @@ use Rattle.command_answers.specs.Reply.{Reply}
 use Rattle.command_answers.specs.WantedFiles.{Wanted, rule_file}
 use Rattle.command_answers.specs.Contents.{content_of, read_after, IsFirstThere, AreWithinLimits, IsUnread}
 use Rattle.command_answers.specs.declared.files.TheConstants.{MAX_RULE_BYTES}
-use Rattle.command_answers.specs.ListLemmas.{left_is}
+use Rattle.command_answers.proofs.ListLemmas.{left_is}
 
 -- Some files were read, and some are left.
 pub record SoFar (files : Option Files) (all left : List Wanted) (got : List (List ℕ)) : Type 0 where

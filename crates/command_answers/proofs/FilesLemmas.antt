@@ -11,7 +11,7 @@ use Rattle.command_answers.specs.Step.{Step}
 use Rattle.command_answers.specs.WantedFiles.{Wanted, and_then, in_order, rule_file, rules_and_map}
 use Rattle.command_answers.specs.Contents.{Contents, content_of, contents_of, read_after, read_optional, IsFirstThere, AreWithinLimits, IsWithinLimit, AreContents, IsUnread}
 use Rattle.command_answers.specs.Stop.{IsReadStop, IsOpaqueStop}
-use Rattle.command_answers.specs.OptionLemmas.{map_some, map_none}
+use Rattle.command_answers.proofs.OptionLemmas.{map_some, map_none}
 
 -- ---- all were read
 

@@ -2,3 +2,8 @@ pub mod ContentsLemmas
 pub mod FilesLemmas
 pub mod AfterLemmas
 pub mod PlayedLemmas
+pub mod CausesLemmas
+pub mod ListLemmas
+pub mod OptionLemmas
+pub mod OutcomeLemmas
+pub mod WritingLemmas

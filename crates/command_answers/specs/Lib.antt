@@ -12,8 +12,3 @@ pub mod Given
 pub mod Stop
 pub mod Writing
 pub mod ScriptStop
-pub mod OptionLemmas
-pub mod ListLemmas
-pub mod CausesLemmas
-pub mod OutcomeLemmas
-pub mod WritingLemmas

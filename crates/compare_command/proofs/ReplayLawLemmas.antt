@@ -13,7 +13,7 @@ use Rattle.replay_file.specs.declared.part.Part.TheVariants.{Frame, Mark}
 use Rattle.replay_file.specs.declared.replay.Replay.{Replay}
 use Rattle.replay_file.specs.Frames.{frames_of, marks_after}
 use Rattle.replay_file.specs.RuleLaws.{IsFrameOf}
-use Rattle.replay_file.specs.ValidLemmas.{valid_obeys}
+use Rattle.replay_file.proofs.ValidLemmas.{valid_obeys}
 use Rattle.replay_file.specs.ValidReplay.{IsValidReplay}
 use Rattle.replay_run.specs.Rerun.{frame_count, frame_in}
 use Rattle.compare_command.specs.declared.subject.Subject.TheVariants.{Frames, Seed, Clients}

@@ -12,7 +12,7 @@ use Rattle.std.proofs.lemmas.Slice.Eq.{bytes_eq-Decides}
 use Rattle.world_units.specs.declared.cell.CPos.{CPos}
 use Rattle.activities.specs.declared.activity.Activity.TheVariants.{Move, Attack, Harvest, Deliver}
 use Rattle.drill.specs.Text.{end_line}
-use Rattle.drill_words.specs.ReadLemmas.{decimal_all}
+use Rattle.drill_words.proofs.ReadLemmas.{decimal_all}
 use Rattle.drill_words.specs.Text.{order_words, queued_word, spaced}
 use Rattle.game_orders.specs.declared.order.Order.{Order}
 use Rattle.game_orders.specs.declared.order.Order.TheVariants as order

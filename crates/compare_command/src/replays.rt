@@ -24,7 +24,7 @@ use replay_file::Replay;
 use replay_run::frame_count;
 
 /// Finds the differences of two valid replays.
-#[tactic(auto, using(crate::proofs::FoundLemmas::found_steps, replay_run::specs::RerunLemmas::few_in_all))]
+#[tactic(auto, using(crate::proofs::FoundLemmas::found_steps, replay_run::proofs::RerunLemmas::few_in_all))]
 pub(crate) fn compare_replays(found: &mut Found, r: &Replay, s: &Replay) -> Result<(), NoMemory>
     requires first { IsValidReplay r.now }
     requires second { IsValidReplay s.now }

@@ -1,1 +1,4 @@
 pub mod SendingLemmas
+pub mod ReadingLemmas
+pub mod ReceiverLemmas
+pub mod WindowLemmas

@@ -1,11 +1,8 @@
 pub mod Grams
 pub mod Reading
-pub mod ReadingLemmas
 pub mod Window
-pub mod WindowLemmas
 pub mod Sender
 pub mod Receiver
-pub mod ReceiverLemmas
 pub mod PostState
 pub mod PlannedPost
 pub mod Turning

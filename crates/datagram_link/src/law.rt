@@ -5,7 +5,7 @@ ghost use Rattle.datagram_link.specs.Reading.{gram_of};
 
 /// A law of datagrams: what is spelled so is read, as this datagram and no other. The call does
 /// nothing.
-#[tactic(auto, using(crate::specs::ReadingLemmas::datagram_again))]
+#[tactic(auto, using(crate::proofs::ReadingLemmas::datagram_again))]
 pub fn datagrams_are_read_back()
     ensures { (datagram : Datagram) → FitsDatagram datagram →
         gram_of (datagram_bytes datagram) ≡ Ok datagram }

@@ -9,9 +9,9 @@ use Rattle.datagram_schedule.specs.Exchange.{after_exchange}
 use Rattle.datagram_schedule.specs.Schedule.{Schedule, nothing_scheduled, outcome_of, after_event}
 use Rattle.datagram_schedule.specs.Schedule.{scheduled}
 use Rattle.datagram_schedule.specs.Follows.{Follows}
-use Rattle.datagram_schedule.specs.NumberLemmas.{order_is}
-use Rattle.datagram_schedule.specs.SendingLemmas.{counts, follows_start}
-use Rattle.datagram_schedule.specs.FollowsLemmas.{follows_event, ready_is}
+use Rattle.datagram_schedule.proofs.NumberLemmas.{order_is}
+use Rattle.datagram_schedule.proofs.SendingLemmas.{counts, follows_start}
+use Rattle.datagram_schedule.proofs.FollowsLemmas.{follows_event, ready_is}
 use Rattle.drill_words.specs.declared.drill_fault.DrillFault.{DrillFault}
 use Rattle.drill_words.specs.declared.drill_fault.DrillFault.TheVariants.{NoMemory}
 use Rattle.drill_words.specs.KeptLine.{KeptLine, kept_lines}

@@ -3,12 +3,12 @@ use Rattle.std.proofs.Common.{◌≡◌, ℕ, ◌≤◌, List, [], ◌++◌, len
 use Rattle.std.proofs.Common.{◌∙◌, arith}
 use Rattle.std.specs.Prelude.{Option, Result, Ok, Err, IsErrOf}
 use Rattle.base.specs.Cause.{Increased}
-use Rattle.base.specs.Written.{prefix_of, nothing_yet}
+use Rattle.base.proofs.WrittenLemmas.{prefix_of, nothing_yet}
 use Rattle.game_io.specs.SinkState.{SinkState}
 use Rattle.frame_core.specs.Match.{agreed_world}
 use Rattle.peer_core.specs.Peer.{PeerState}
 use Rattle.peer_core.specs.Faithful.{IsFaithful}
-use Rattle.server_core.specs.ServedLemmas.{agreed_alarm}
+use Rattle.server_core.proofs.ServedLemmas.{agreed_alarm}
 use Rattle.server_core.specs.Server.{ServerState}
 use Rattle.drill_words.specs.declared.event.Event.{Event}
 use Rattle.drill.specs.declared.drilled.Drilled.{Drilled}

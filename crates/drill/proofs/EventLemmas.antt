@@ -22,15 +22,15 @@ use Rattle.peer_core.specs.Receipt.{receipt_of}
 use Rattle.peer_core.specs.declared.report.Report.{Report}
 use Rattle.peer_core.specs.declared.seal_fault.SealFault.{SealFault}
 use Rattle.peer_core.specs.declared.delivered.Delivered.TheVariants.{Kept, Repeat}
-use Rattle.peer_core.specs.DeliveryLemmas.{delivery_agreed}
+use Rattle.peer_core.proofs.DeliveryLemmas.{delivery_agreed}
 use Rattle.peer_core.specs.Arrived.{ready_by, kept_at, with_arrived}
 use Rattle.peer_core.specs.Delivery.{delivery_of, after_delivery}
 use Rattle.peer_core.specs.Peer.{PeerState, seal_answer, sealed_after, sealed_peer, delivered_peer}
 use Rattle.peer_core.specs.Peer.{ticked_peer, report_of}
 use Rattle.peer_core.specs.Faithful.{IsFaithful}
-use Rattle.peer_core.specs.FaithfulLemmas.{seal_faithful, deliver_faithful, tick_faithful}
+use Rattle.peer_core.proofs.FaithfulLemmas.{seal_faithful, deliver_faithful, tick_faithful}
 use Rattle.server_core.specs.declared.up_answer.UpAnswer.{UpAnswer}
-use Rattle.server_core.specs.ServedLemmas.{packet_grows, drop_grows, tick_is_served}
+use Rattle.server_core.proofs.ServedLemmas.{packet_grows, drop_grows, tick_is_served}
 use Rattle.server_core.specs.Server.{ServerState, packet_answer, columns_after_drop}
 use Rattle.server_core.specs.Server.{columns_after_packet, reports_after_packet, after_packet}
 use Rattle.server_core.specs.Server.{after_drop, after_tick}

@@ -10,7 +10,7 @@ use Rattle.order_packets.specs.declared.up.Up.{Up as Packet}
 use Rattle.order_packets.specs.declared.up.Up.TheVariants as packet
 use Rattle.server_core.specs.Board.{reports_of, report_at, report_answer, own_after_report}
 use Rattle.server_core.specs.Board.{reports_after_report, KeepsFirst}
-use Rattle.server_core.specs.BoardLemmas.{keeps_first}
+use Rattle.server_core.proofs.BoardLemmas.{keeps_first}
 use Rattle.server_core.specs.Server.{reports_after_packet}
 use Rattle.drill_words.specs.declared.event.Event.{Event}
 use Rattle.drill_words.specs.declared.event.Event.TheVariants.{Seal, Up, Down, Tick, TickServer}

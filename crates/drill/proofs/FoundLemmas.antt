@@ -8,14 +8,14 @@ use Rattle.std.proofs.lemmas.Bool.Decides.{Decides-eqb}
 use Rattle.game_orders.specs.declared.entry.Entry.{Entry}
 use Rattle.frame_core.specs.Column.{Column, column_of, entry_at}
 use Rattle.frame_core.specs.Grows.{Grows}
-use Rattle.frame_core.specs.GrowsLemmas.{Grows-refl, Grows-column, stands_grows}
+use Rattle.frame_core.proofs.GrowsLemmas.{Grows-refl, Grows-column, stands_grows}
 use Rattle.frame_core.specs.Match.{Match}
 use Rattle.peer_core.specs.declared.arrived.Arrived.{Arrived as ArrivedEntry}
 use Rattle.peer_core.specs.Arrived.{is_of, kept_at, with_arrived}
-use Rattle.peer_core.specs.ArrivedLemmas.{all_with_arrived}
+use Rattle.peer_core.proofs.ArrivedLemmas.{all_with_arrived}
 use Rattle.peer_core.specs.Faithful.{Stands}
-use Rattle.peer_core.specs.FaithfulLemmas.{kept_agrees}
-use Rattle.server_core.specs.ServedLemmas.{packet_grows, drop_grows}
+use Rattle.peer_core.proofs.FaithfulLemmas.{kept_agrees}
+use Rattle.server_core.proofs.ServedLemmas.{packet_grows, drop_grows}
 use Rattle.drill_words.specs.declared.event.Event.{Event}
 use Rattle.drill_words.specs.declared.event.Event.TheVariants.{Seal, Up, Down, Tick, TickServer}
 use Rattle.drill_words.specs.declared.event.Event.TheVariants.{DropClient, Report, Forge, Bye}

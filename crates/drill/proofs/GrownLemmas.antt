@@ -12,19 +12,19 @@ use Rattle.frame_core.specs.Ready.{inputs_of, ready_at}
 use Rattle.frame_core.specs.Input.{ready_of}
 use Rattle.frame_core.specs.Tick.{ticked_after}
 use Rattle.frame_core.specs.Agreed.{AreReady}
-use Rattle.frame_core.specs.AgreedLemmas.{ready_all, AreReady-grow, frames_stay, no_frames_ready}
-use Rattle.frame_core.specs.AgreedLemmas.{one_more_ready, ticked_ready}
+use Rattle.frame_core.proofs.AgreedLemmas.{ready_all, AreReady-grow, frames_stay, no_frames_ready}
+use Rattle.frame_core.proofs.AgreedLemmas.{one_more_ready, ticked_ready}
 use Rattle.frame_core.specs.Grows.{GrowsTo, Grows}
-use Rattle.frame_core.specs.GrowsLemmas.{Grows-refl}
+use Rattle.frame_core.proofs.GrowsLemmas.{Grows-refl}
 use Rattle.frame_core.specs.Match.{Match}
 use Rattle.order_packets.specs.declared.up.Up.{Up as Packet}
 use Rattle.order_packets.specs.declared.up.Up.TheVariants as packet
 use Rattle.peer_core.specs.declared.arrived.Arrived.{Arrived as ArrivedEntry}
 use Rattle.peer_core.specs.Arrived.{each_of, ready_by}
 use Rattle.peer_core.specs.Faithful.{Stands}
-use Rattle.peer_core.specs.FaithfulLemmas.{ready_agrees}
+use Rattle.peer_core.proofs.FaithfulLemmas.{ready_agrees}
 use Rattle.server_core.specs.Server.{columns_after_packet}
-use Rattle.server_core.specs.ServedLemmas.{drop_grows}
+use Rattle.server_core.proofs.ServedLemmas.{drop_grows}
 use Rattle.drill_words.specs.declared.event.Event.{Event}
 use Rattle.drill_words.specs.declared.event.Event.TheVariants.{Seal, Up, Down, Tick, TickServer}
 use Rattle.drill_words.specs.declared.event.Event.TheVariants.{DropClient, Report, Forge, Bye}

@@ -14,7 +14,7 @@ use Rattle.drill_words.specs.declared.limits.TheConstants.{MAX_EVENTS}
 use Rattle.drill_words.specs.Drill.{IsDrill, read_of}
 use Rattle.drill_words.specs.Event.{event_fits, event_in_range, cell_in_range, order_in_range}
 use Rattle.drill_words.specs.Text.{drill_text}
-use Rattle.drill_words.specs.TextLemmas.{drill_text-back}
+use Rattle.drill_words.proofs.TextLemmas.{drill_text-back}
 use Rattle.drill.specs.declared.made_limits.TheConstants.{MADE_CLIENTS, MADE_ROUNDS, DEPARTURE_ROUND, DRAWN_ACTORS, DRAWN_SIDE, DRAWN_KINDS, DRAWN_CASH, LOSS_CHOICES, ORDER_CHOICES}
 use Rattle.drill.specs.Drawing.{Drawing, below}
 use Rattle.drill.specs.MadeOrders.{drawn_actor, drawn_cell, drawn_move, drawn_harvest, drawn_produce, drawn_donate, drawn_attack, just, orders_by, drawn_orders}

@@ -7,8 +7,8 @@ use Rattle.game_orders.specs.declared.entry.Entry.{Entry}
 use Rattle.frame_core.specs.Column.{Column, no_column}
 use Rattle.peer_core.specs.Peer.{PeerState, fresh_peer}
 use Rattle.peer_core.specs.Faithful.{IsFaithful}
-use Rattle.peer_core.specs.FaithfulLemmas.{fresh_faithful}
-use Rattle.server_core.specs.ServedLemmas.{fresh_is_served}
+use Rattle.peer_core.proofs.FaithfulLemmas.{fresh_faithful}
+use Rattle.server_core.proofs.ServedLemmas.{fresh_is_served}
 use Rattle.frame_core.specs.Match.{Match}
 use Rattle.drill.specs.Record.{nothing_reached, opening}
 use Rattle.drill.specs.RunningMatch.{reached_of, progress_of, AreNumbered, IsWhole, IsSound}

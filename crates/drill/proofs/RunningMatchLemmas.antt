@@ -9,8 +9,8 @@ use Rattle.peer_core.specs.Peer.{PeerState}
 use Rattle.frame_core.specs.Column.{Column, IsWithinFrames}
 use Rattle.frame_core.specs.Grows.{Grows}
 use Rattle.peer_core.specs.Faithful.{IsFaithful}
-use Rattle.peer_core.specs.FaithfulLemmas.{grow_faithful}
-use Rattle.server_core.specs.ServedLemmas.{grow_is_served}
+use Rattle.peer_core.proofs.FaithfulLemmas.{grow_faithful}
+use Rattle.server_core.proofs.ServedLemmas.{grow_is_served}
 use Rattle.server_core.specs.Server.{ServerState}
 use Rattle.frame_core.specs.Match.{Match}
 use Rattle.drill.specs.Record.{nothing_reached, peer_at}

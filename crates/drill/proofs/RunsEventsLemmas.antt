@@ -5,8 +5,9 @@ use Rattle.std.proofs.Common.{refl, sym, ap, ap₂, subst, ◌∙◌, arith, app
 use Rattle.std.specs.Prelude.{Option, None, Some, Result, Ok, Err, OnOk, OnErr, slice_get}
 use Rattle.std.specs.List.{AllByRecursion, list_all}
 use Rattle.std.proofs.lemmas.Bool.{and_parts}
-use Rattle.base.specs.Written.{Wrote, WrotePrefix, WroteUpTo, nothing_yet, one_more, prefix_of}
-use Rattle.base.specs.Written.{prefix_put}
+use Rattle.base.specs.Written.{Wrote, WrotePrefix, WroteUpTo}
+use Rattle.base.proofs.WrittenLemmas.{nothing_yet, one_more, prefix_of}
+use Rattle.base.proofs.WrittenLemmas.{prefix_put}
 use Rattle.game_orders.specs.declared.entry.Entry.{Entry}
 use Rattle.frame_core.specs.declared.summary.Summary.{Summary}
 use Rattle.frame_core.specs.Column.{Column}

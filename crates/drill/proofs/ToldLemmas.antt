@@ -3,7 +3,7 @@ use Rattle.std.proofs.Common.{◌≡◌, ℕ, true, suc, ◌<◌, List, length}
 use Rattle.std.proofs.Common.{ap, subst, ◌∙◌, sym, inl, inr}
 use Rattle.std.specs.Prelude.{◌⊎◌, Option, slice_set}
 use Rattle.frame_core.specs.Column.{Column, no_column, left_column, column_of}
-use Rattle.frame_core.specs.GrowsLemmas.{Grows-column}
+use Rattle.frame_core.proofs.GrowsLemmas.{Grows-column}
 use Rattle.frame_core.specs.Match.{Match}
 use Rattle.order_packets.specs.declared.up.Up.TheVariants as packet
 use Rattle.drill_words.specs.declared.event.Event.{Event}

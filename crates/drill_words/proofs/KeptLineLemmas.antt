@@ -9,7 +9,7 @@ use Rattle.base.specs.Lines.{lines_of}
 use Rattle.drill_words.proofs.WordsLemmas.{prefix_len-yes, prefix_len-no, words_of-first, words_of-none}
 use Rattle.drill_words.specs.Words.{is_blank, is_of_word, words_of}
 use Rattle.drill_words.specs.KeptLine.{KeptLine, is_of_line, is_comment, is_kept, kept_from}
-use Rattle.drill_words.specs.SpacedLemmas.{lines_of-other, kept_from-kept}
+use Rattle.drill_words.proofs.SpacedLemmas.{lines_of-other, kept_from-kept}
 
 -- A text that begins with a line feed, and one that doesn't.
 lines_of-feed : (byte : ℕ) (text : List ℕ) → eqb byte 10 ≡ true → lines_of (byte ∷ text) ≡ [] ∷ lines_of text

@@ -5,3 +5,8 @@ pub mod OrderListLemmas
 pub mod DrillLemmas
 pub mod ScriptLemmas
 pub mod EventListLemmas
+pub mod EventLineLemmas
+pub mod ReadLemmas
+pub mod ScriptTextLemmas
+pub mod SpacedLemmas
+pub mod TextLemmas

@@ -8,7 +8,7 @@ use Rattle.std.proofs.lemmas.Bool.{and_parts, and_from, leb-true, le-leb, lt-ltb
 use Rattle.base.specs.Numbers.{number_of, value_of}
 use Rattle.base.specs.declared.numbers.TheConstants.{MAX_DIGITS}
 use Rattle.drill_words.specs.Words.{is_blank, is_of_word, words_of, ends_word}
-use Rattle.drill_words.specs.SpacedLemmas.{not_blank}
+use Rattle.drill_words.proofs.SpacedLemmas.{not_blank}
 use Rattle.drill_words.proofs.WordsLemmas.{prefix_len-yes, prefix_len-no, words_of-first}
 
 digit_not_blank : (byte : ℕ) → is_ascii_digit byte ≡ true → is_blank byte ≡ false

@@ -11,7 +11,7 @@ use Rattle.drill_words.specs.declared.word_fault.WordFault.{WordFault}
 use Rattle.drill_words.specs.declared.word_fault.WordFault.TheVariants.{BadWord, TooManyOrders}
 use Rattle.base.specs.Steps.{◌>>=◌}
 use Rattle.drill_words.specs.Read.{Read}
-use Rattle.drill_words.specs.EventLineLemmas.{orders_at-done, orders_at-some}
+use Rattle.drill_words.proofs.EventLineLemmas.{orders_at-done, orders_at-some}
 use Rattle.drill_words.specs.OrderList.{order_word_at, order_at, further_orders, orders_from}
 
 -- What is read after some orders, with these before it.

@@ -11,7 +11,7 @@ use Rattle.std.proofs.lemmas.Slice.Eq.{bytes_eq-Decides}
 use Rattle.base.specs.Lines.{has_bytes}
 use Rattle.drill_words.specs.Words.{is_blank, is_of_word, words_of}
 use Rattle.drill_words.specs.Read.{none_left}
-use Rattle.drill_words.specs.SpacedLemmas.{parts-word}
+use Rattle.drill_words.proofs.SpacedLemmas.{parts-word}
 
 -- One more element of the prefix passes the test.
 pub prefix_len-yes : (p : ℕ → Bool) (byte : ℕ) (line : List ℕ) → p byte ≡ true → prefix_len p (byte ∷ line) ≡ suc (prefix_len p line)

@@ -15,8 +15,3 @@ pub mod Scripts
 pub mod ScriptLine
 pub mod Script
 pub mod Text
-pub mod ReadLemmas
-pub mod SpacedLemmas
-pub mod EventLineLemmas
-pub mod TextLemmas
-pub mod ScriptTextLemmas

@@ -4,3 +4,7 @@ pub mod PlayListLemmas
 pub mod ReadyLemmas
 pub mod PutLemmas
 pub mod InputSteps
+pub mod AgreedLemmas
+pub mod FoldLemmas
+pub mod GrowsLemmas
+pub mod InputLemmas

@@ -10,7 +10,7 @@ use Rattle.game_orders.specs.declared.entry.Entry.{Entry}
 use Rattle.game_orders.specs.declared.entry.Entry.TheVariants.{Play, Leave}
 use Rattle.game_orders.specs.declared.limits.TheConstants.{MAX_FRAMES}
 use Rattle.game_orders.specs.Entry.{is_play, same_entry}
-use Rattle.game_orders.specs.EntryLemmas.{entry_decides}
+use Rattle.game_orders.proofs.EntryLemmas.{entry_decides}
 use Rattle.frame_core.specs.Column.{Column, length_of, entry_from, entry_at, put_by, put_answer}
 use Rattle.frame_core.specs.Column.{with_entry, after_answer, put_column, no_column, column_of}
 use Rattle.frame_core.specs.Column.{left_column}
@@ -20,8 +20,8 @@ use Rattle.frame_core.specs.declared.put.Put.TheVariants.{Full}
 use Rattle.frame_core.specs.Put.{PutMeans}
 use Rattle.frame_core.proofs.ReadyLemmas.{none_past}
 use Rattle.frame_core.specs.Grows.{Grows}
-use Rattle.frame_core.specs.GrowsLemmas.{past_departure, Grows-refl, Grows-set, put_grows}
-use Rattle.frame_core.specs.GrowsLemmas.{left_grows}
+use Rattle.frame_core.proofs.GrowsLemmas.{past_departure, Grows-refl, Grows-set, put_grows}
+use Rattle.frame_core.proofs.GrowsLemmas.{left_grows}
 
 -- What stands in no column at n is no play.
 open_past : (found : Option (List Order)) (left : Bool) → entry_from found left ≡ None → found ≡ None

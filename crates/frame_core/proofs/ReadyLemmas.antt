@@ -8,7 +8,7 @@ use Rattle.frame_core.specs.Column.{Column, entry_from, has_at, column_of}
 use Rattle.frame_core.specs.declared.input.Input.{Input}
 use Rattle.frame_core.specs.declared.ready.Ready.{Ready}
 use Rattle.frame_core.specs.Input.{input_of, MeansInput}
-use Rattle.frame_core.specs.InputLemmas.{ready_means}
+use Rattle.frame_core.proofs.InputLemmas.{ready_means}
 use Rattle.frame_core.specs.Ready.{inputs_at, ready_at, HasPlayed, HasLeftBy, HasNothing}
 use Rattle.frame_core.specs.Ready.{MeansReadyAt}
 

@@ -3,14 +3,10 @@ pub mod Put
 pub mod StoredPlays
 pub mod PlayList
 pub mod Input
-pub mod InputLemmas
 pub mod Ready
 pub mod Fold
-pub mod FoldLemmas
 pub mod World
 pub mod Match
 pub mod Tick
 pub mod Grows
-pub mod GrowsLemmas
 pub mod Agreed
-pub mod AgreedLemmas

@@ -17,7 +17,7 @@ use Rattle.frame_table.specs.Passes.{kept_mark, kept_view, given_view, joined_ma
 use Rattle.frame_table.specs.Rule.{IsKept}
 use Rattle.frame_table.specs.Steps.{Slot, holding, published_as, released, MayPublish, MayBecome, HasMet, Meets}
 use Rattle.frame_table.specs.Calls.{plan_of, view_of, IsPassOf, HasLocked, GaveBack, Acted, Unchanged}
-use Rattle.frame_table.specs.PassesLemmas.{handed, joined_at, joined_held, joined_length, given_length, first_length}
+use Rattle.frame_table.proofs.PassesLemmas.{handed, joined_at, joined_held, joined_length, given_length, first_length}
 use Rattle.frame_table.proofs.KeptPasses.{meets, both_grow}
 
 -- a call with a pass leaves a pass

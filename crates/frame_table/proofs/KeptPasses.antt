@@ -7,7 +7,7 @@ use Rattle.atomic_table.specs.Table.{keeps, opening, step, Allows, Splits, Joins
 use Rattle.atomic_table.proofs.Lists.{at_set, at_snoc, at_map, set_again}
 use Rattle.frame_core.specs.Column.{Column, no_column}
 use Rattle.frame_core.specs.Grows.{GrowsTo}
-use Rattle.frame_core.specs.GrowsLemmas.{GrowsTo-refl}
+use Rattle.frame_core.proofs.GrowsLemmas.{GrowsTo-refl}
 use Rattle.frame_table.specs.declared.planned.Planned.{Planned}
 use Rattle.frame_table.specs.declared.planned.Planned.TheVariants.{Free, Plays}
 use Rattle.frame_table.specs.declared.view.View.{View}
@@ -17,7 +17,7 @@ use Rattle.frame_table.specs.Rule.{planned_of, Keeps, IsKept, Fits, Follows}
 use Rattle.frame_table.specs.Steps.{Slot, Meets}
 use Rattle.frame_table.specs.Passes.{kept_mark, given_mark, kept_view, given_view, size_of, longer, shorter, joined_mark, joined_view, spent_view, first_mark, first_view, is_free}
 use Rattle.frame_table.proofs.Lists.{map_set, map_snoc, index_some}
-use Rattle.frame_table.specs.PassesLemmas.{handed, joined_at, joined_length, given_length, first_at, first_length}
+use Rattle.frame_table.proofs.PassesLemmas.{handed, joined_at, joined_length, given_length, first_at, first_length}
 use Rattle.frame_table.proofs.SplitJoin.{kept_split, kept_joined, agree, lt_true, lt_false}
 
 module _ (plan : List Planned) (id : ℕ) (v : View) where

@@ -9,3 +9,4 @@ pub mod Calls
 pub mod Becoming
 pub mod Looking
 pub mod Copied
+pub mod PassesLemmas

@@ -10,13 +10,13 @@ use Rattle.frame_core.specs.declared.ready.Ready.TheVariants.{Yes, NotYet, Over}
 use Rattle.std.specs.Prelude.{slice_get}
 use Rattle.frame_core.specs.declared.ready.Ready.{Ready}
 use Rattle.frame_core.specs.Input.{ready_of, ready_from, MeansInput}
-use Rattle.frame_core.specs.InputLemmas.{ready_means}
+use Rattle.frame_core.proofs.InputLemmas.{ready_means}
 use Rattle.frame_table.specs.declared.seen.Seen.{Seen}
 use Rattle.frame_table.specs.declared.view.View.{View}
 use Rattle.frame_table.specs.declared.view.Mark.{Mark}
 use Rattle.frame_table.specs.Part.{Part, part_of, no_mark, OthersStay}
 use Rattle.frame_core.specs.Grows.{GrowsTo}
-use Rattle.frame_core.specs.GrowsLemmas.{GrowsTo-refl}
+use Rattle.frame_core.proofs.GrowsLemmas.{GrowsTo-refl}
 use Rattle.frame_table.specs.Steps.{IsFurther, loaded, IsWithinPlan}
 use Rattle.frame_table.specs.Calls.{input_seen, inputs_seen, ready_seen, IsLater, IsLaterPart, LookedSoFar, SawPlay, SawLeave, SawNothing, MeansReadySeen}
 

@@ -7,7 +7,7 @@ use Rattle.atomic_table.proofs.Lists.{at_set, at_snoc}
 use Rattle.game_orders.specs.declared.order.Order.{Order}
 use Rattle.frame_core.specs.Column.{Column, length_of}
 use Rattle.frame_core.specs.Grows.{GrowsTo}
-use Rattle.frame_core.specs.GrowsLemmas.{GrowsTo-refl}
+use Rattle.frame_core.proofs.GrowsLemmas.{GrowsTo-refl}
 use Rattle.frame_table.specs.declared.seen.Seen.{Seen}
 use Rattle.frame_table.specs.declared.planned.Planned.{Planned}
 use Rattle.frame_table.specs.declared.planned.Planned.TheVariants.{Free}

@@ -2,6 +2,5 @@ pub mod Part
 pub mod Word
 pub mod Rule
 pub mod Passes
-pub mod PassesLemmas
 pub mod Steps
 pub mod Calls

@@ -1,2 +1,5 @@
 pub mod TilesLemmas
 pub mod OreLemmas
+pub mod FoundLemmas
+pub mod LivingLemmas
+pub mod StartLemmas

@@ -13,6 +13,3 @@ pub mod ValidMap
 pub mod ValidWorld
 pub mod NearestActor
 pub mod Buildings
-pub mod StartLemmas
-pub mod FoundLemmas
-pub mod LivingLemmas

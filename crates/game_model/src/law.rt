@@ -7,7 +7,7 @@ ghost use Rattle.game_model.specs.Setup.{Setup};
 
 /// A law of opening worlds: that of valid rules, and of a map that keeps what it keeps for them, is
 /// valid after no frames.
-#[tactic(auto, using(crate::specs::StartLemmas::start_valid))]
+#[tactic(auto, using(crate::proofs::StartLemmas::start_valid))]
 pub fn starts_valid()
     ensures { (setup : Setup) (seed clients : ℕ) → IsSetup setup → 1 ≤ clients →
         clients ≤ MAX_CLIENTS → IsValidWorld setup 0 (start_of setup seed clients) }

@@ -1,9 +1,5 @@
 pub mod Order
-pub mod OrderLemmas
 pub mod Entry
 pub mod HeldOrders
-pub mod EntryLemmas
 pub mod OrderBytes
 pub mod OrderReading
-pub mod OrderBytesLemmas
-pub mod OrdersLemmas

@@ -5,7 +5,7 @@ use crate::order::Order;
 use crate::orders::Orders;
 
 /// How many bytes an order's spelling has, at most 10, those of an Attack.
-#[tactic(auto, using(crate::specs::OrdersLemmas::length_steps))]
+#[tactic(auto, using(crate::proofs::OrdersLemmas::length_steps))]
 fn order_length(o: &Order) -> usize
     ensures value { result ≡ length (order_bytes o.now) }
     ensures limit { result ≤ 10 }
@@ -22,7 +22,7 @@ fn order_length(o: &Order) -> usize
 
 /// How many bytes the spelling of the orders of one client for one frame has, at most
 /// 161: a byte, and 10 for each of [`crate::MAX_ORDERS`] orders.
-#[tactic(auto, using(crate::specs::OrdersLemmas::length_steps), unfolding(crate::specs::OrderBytes::orders_bytes))]
+#[tactic(auto, using(crate::proofs::OrdersLemmas::length_steps), unfolding(crate::specs::OrderBytes::orders_bytes))]
 pub fn orders_length(orders: &Orders) -> usize
     ensures value { result ≡ length (orders_bytes orders.now) }
     ensures limit { result ≤ 161 }

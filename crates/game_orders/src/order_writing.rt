@@ -35,7 +35,7 @@ fn append_flag(out: &mut Vec<u8>, flag: bool) -> Result<(), NoMemory>
 }
 
 /// Appends an actor's number, a cell and a flag.
-#[tactic(auto, using(wire_bytes::specs::WriteLemmas::written))]
+#[tactic(auto, using(wire_bytes::proofs::WriteLemmas::written))]
 fn append_way(out: &mut Vec<u8>, actor: u32, cell: CPos, queued: bool) -> Result<(), NoMemory>
     ensures ok { OnOk result (out.new.items ≡ out.old.items ++ way_bytes actor cell queued) }
     ensures err { OnErr result (Extends out.old.items out.new.items) }
@@ -47,7 +47,7 @@ fn append_way(out: &mut Vec<u8>, actor: u32, cell: CPos, queued: bool) -> Result
 }
 
 /// Appends an order's fields.
-#[tactic(auto, using(wire_bytes::specs::WriteLemmas::written))]
+#[tactic(auto, using(wire_bytes::proofs::WriteLemmas::written))]
 fn append_fields(out: &mut Vec<u8>, o: &Order) -> Result<(), NoMemory>
     ensures ok { OnOk result (out.new.items ≡ out.old.items ++ fields_bytes o.now) }
     ensures err { OnErr result (Extends out.old.items out.new.items) }
@@ -86,7 +86,7 @@ fn append_fields(out: &mut Vec<u8>, o: &Order) -> Result<(), NoMemory>
 }
 
 /// Appends an order's tag and its fields.
-#[tactic(auto, using(wire_bytes::specs::WriteLemmas::written), unfolding(crate::specs::OrderBytes::order_bytes))]
+#[tactic(auto, using(wire_bytes::proofs::WriteLemmas::written), unfolding(crate::specs::OrderBytes::order_bytes))]
 fn append_order(out: &mut Vec<u8>, o: &Order) -> Result<(), NoMemory>
     ensures ok { OnOk result (out.new.items ≡ out.old.items ++ order_bytes o.now) }
     ensures err { OnErr result (Extends out.old.items out.new.items) }

@@ -10,7 +10,7 @@ use crate::orders_fault::OrdersFault;
 use wire_bytes::Cursor;
 
 /// Reads so many orders, at most [`MAX_ORDERS`], one after the other.
-#[tactic(auto, using(crate::specs::OrdersLemmas::reading_steps))]
+#[tactic(auto, using(crate::proofs::OrdersLemmas::reading_steps))]
 fn read_each(c: &mut Cursor<'_>, count: u8) -> Result<Orders, OrdersFault>
     requires { count ≤ MAX_ORDERS }
     ensures reads { Reads (orders_after [] count) c.old c.new result }

@@ -9,7 +9,7 @@ use base::NoMemory;
 use wire_bytes::write_u8;
 
 /// Appends the spelling of each order.
-#[tactic(auto, using(crate::specs::OrdersLemmas::writing_steps))]
+#[tactic(auto, using(crate::proofs::OrdersLemmas::writing_steps))]
 fn append_each(out: &mut Vec<u8>, orders: &[Order]) -> Result<(), NoMemory>
     ensures ok { OnOk result (out.new.items ≡ out.old.items ++ each_order orders.now) }
     ensures err { OnErr result (Extends out.old.items out.new.items) }
@@ -21,7 +21,7 @@ fn append_each(out: &mut Vec<u8>, orders: &[Order]) -> Result<(), NoMemory>
 }
 
 /// Appends the number of orders, and the spelling of each of them.
-#[tactic(auto, using(wire_bytes::specs::WriteLemmas::written), unfolding(crate::specs::OrderBytes::orders_bytes))]
+#[tactic(auto, using(wire_bytes::proofs::WriteLemmas::written), unfolding(crate::specs::OrderBytes::orders_bytes))]
 fn append_counted(out: &mut Vec<u8>, orders: &Orders) -> Result<(), NoMemory>
     ensures ok { OnOk result (out.new.items ≡ out.old.items ++ orders_bytes orders.now) }
     ensures err { OnErr result (Extends out.old.items out.new.items) }
@@ -46,7 +46,7 @@ pub fn write_orders(out: &mut Vec<u8>, orders: &Orders) -> Result<(), NoMemory>
 
 /// The orders of one client for one frame that code holds are at most [`crate::MAX_ORDERS`], and
 /// their numbers fit their fields. The call does nothing.
-#[tactic(auto, using(crate::specs::OrdersLemmas::fitting_steps))]
+#[tactic(auto, using(crate::proofs::OrdersLemmas::fitting_steps))]
 pub fn orders_fit(orders: &Orders)
     ensures { FitsOrders orders.now }
 {

@@ -10,7 +10,7 @@ use Rattle.std.proofs.lemmas.List.{append-nil}
 use Rattle.std.proofs.lemmas.List.Elements.{All-head, All-tail}
 use Rattle.wire_bytes.specs.Field.{field_bytes, field_number}
 use Rattle.wire_bytes.specs.Read.{field_at}
-use Rattle.wire_bytes.specs.ReadLemmas.{number_again}
+use Rattle.wire_bytes.proofs.ReadLemmas.{number_again}
 use Rattle.world_units.specs.declared.cell.CPos.{CPos}
 use Rattle.world_units.specs.declared.direction.TheConstants.{DIRECTIONS}
 use Rattle.world_units.specs.Directions.{leg_length_of}

@@ -7,7 +7,7 @@ use Rattle.std.proofs.lemmas.List.{length-append}
 use Rattle.std.proofs.lemmas.List.Elements.{All-head, All-tail}
 use Rattle.std.proofs.Math.Nat.{mul-le-mul}
 use Rattle.wire_bytes.specs.Field.{field_bytes}
-use Rattle.wire_bytes.specs.FieldLemmas.{field_length}
+use Rattle.wire_bytes.proofs.FieldLemmas.{field_length}
 use Rattle.activities.specs.declared.activity.Activity.{Activity}
 use Rattle.activities.specs.declared.activity.Activity.TheVariants.{Move, Attack, Harvest, Deliver}
 use Rattle.activities.specs.declared.queue.TheConstants.{MAX_ACTIVITIES}

@@ -11,7 +11,7 @@ use Rattle.wire_bytes.specs.Field.{field_bytes}
 use Rattle.world_units.specs.declared.angle.TheConstants.{FULL_TURN}
 use Rattle.world_units.specs.declared.cell.CPos.{CPos}
 use Rattle.world_units.specs.Cells.{same_cell}
-use Rattle.world_units.specs.CellLemmas.{cell_decides}
+use Rattle.world_units.proofs.CellLemmas.{cell_decides}
 use Rattle.rule_traits.specs.declared.kind.Kind.{Kind}
 use Rattle.rule_traits.specs.Rules.{kind_at}
 use Rattle.game_orders.specs.declared.limits.TheConstants.{MAX_CLIENTS, MAX_FRAMES}
@@ -22,7 +22,7 @@ use Rattle.game_model.specs.declared.world.Head.{Head}
 use Rattle.game_model.specs.declared.world.World.{World}
 use Rattle.game_model.specs.Grid.{Grid, IsOn}
 use Rattle.game_model.specs.Setup.{Setup}
-use Rattle.game_model.specs.StartLemmas.{pairs_head, pairs_tail}
+use Rattle.game_model.proofs.StartLemmas.{pairs_head, pairs_tail}
 use Rattle.game_model.specs.ValidMap.{IsOreOf, IsOwner}
 use Rattle.game_model.specs.ValidWorld.{IsBodyOf, IsHealthOf, IsSavedWorld, IsSoundActor, IsValidWorld, StepReady, IsHealthy}
 use Rattle.game_model.specs.World.{head_of, is_occupied}

@@ -10,8 +10,8 @@ use Rattle.game_model.specs.declared.actor.Actor.{Actor}
 use Rattle.game_model.specs.World.{actor_of}
 use Rattle.actor_table.specs.declared.listed.Listed.{Listed}
 use Rattle.actor_table.specs.Kinds.{is_of, ids_of_kind, listed_of, IsNextKind}
-use Rattle.game_model.specs.FoundLemmas.{IdsRise}
-use Rattle.game_model.specs.LivingLemmas.{found_at}
+use Rattle.game_model.proofs.FoundLemmas.{IdsRise}
+use Rattle.game_model.proofs.LivingLemmas.{found_at}
 use Rattle.actor_table.specs.Rising.{RisesFrom}
 use Rattle.game_tick.specs.Harvesting.{is_refinery_for, nearest_refinery}
 use Rattle.game_model.specs.Kinds.{kind_of}

@@ -19,9 +19,9 @@ use Rattle.game_model.specs.World.{actor_of}
 use Rattle.game_model.specs.Kinds.{bale_value_in, kind_of}
 use Rattle.game_tick.specs.Acts.{popped, with_first}
 use Rattle.game_tick.specs.Harvesting.{after_deliver, after_harvest, after_loading, after_search, after_unloading, is_beside, is_refinery_for, nearest_refinery, paid_to, with_load}
-use Rattle.game_tick.specs.OreLemmas.{least_holds}
+use Rattle.game_tick.proofs.OreLemmas.{least_holds}
 use Rattle.game_tick.specs.Nearest.{nearest_ore, ore_at}
-use Rattle.game_model.specs.FoundLemmas.{changed_as, changed_twice, found_id}
+use Rattle.game_model.proofs.FoundLemmas.{changed_as, changed_twice, found_id}
 use Rattle.actor_table.specs.Table.{Table, IsTable}
 use Rattle.motion.specs.Steps.{gone_by_id}
 use Rattle.harvest.specs.Steps.{IsHarvested}

@@ -3,6 +3,4 @@ pub mod PlayText
 pub mod PlayedLink
 pub mod SoloScript
 pub mod Links
-pub mod LinkLemmas
 pub mod Plays
-pub mod PlayLemmas

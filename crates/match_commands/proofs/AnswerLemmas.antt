@@ -18,7 +18,7 @@ use Rattle.command_answers.specs.declared.stop.Stop.{Stop}
 use Rattle.command_answers.specs.Answer.{reply_of}
 use Rattle.command_answers.specs.Causes.{causes_of}
 use Rattle.command_answers.specs.Contents.{Contents}
-use Rattle.command_answers.specs.CausesLemmas.{IsSettled, done_settled, file_settled, mark_settled, answered_causes, answered_changes, none_changes}
+use Rattle.command_answers.proofs.CausesLemmas.{IsSettled, done_settled, file_settled, mark_settled, answered_causes, answered_changes, none_changes}
 use Rattle.command_answers.specs.FileWrite.{name_of, OnlyChanges}
 use Rattle.command_answers.specs.Outcome.{IsAnswered}
 use Rattle.command_answers.specs.Environment.{Environment, environment}
@@ -32,7 +32,7 @@ use Rattle.compare_command.specs.Comparing.{compared_reply, saves_step, replays_
 use Rattle.compare_command.specs.Difference.{Difference}
 use Rattle.compare_command.specs.Replays.{replay_differences}
 use Rattle.compare_command.specs.Saves.{save_differences}
-use Rattle.command_answers.specs.WritingLemmas.{answered_since}
+use Rattle.command_answers.proofs.WritingLemmas.{answered_since}
 use Rattle.replay_commands.specs.Refusals.{read_step}
 use Rattle.replay_commands.specs.Replays.{game_rerun, mark_status, migrated_reply, migrate_reply, replay_reply, replayed_reply}
 use Rattle.replay_run.specs.declared.replayed.Replayed.{Replayed}

@@ -2,7 +2,7 @@
 use Rattle.std.proofs.Common.{ℕ, List, None, Result, Ok, Err, IsOk, ◌≡◌, refl, inl}
 use Rattle.drill_words.specs.declared.drill_fault.DrillFault.{DrillFault}
 use Rattle.command_answers.specs.declared.statuses.TheConstants.{DONE}
-use Rattle.command_answers.specs.CausesLemmas.{done_settled}
+use Rattle.command_answers.proofs.CausesLemmas.{done_settled}
 use Rattle.command_answers.specs.Reply.{done}
 use Rattle.command_answers.specs.Step.{replied}
 use Rattle.datagrams_command.specs.Datagrams.{answered, datagrams_step, script_text}

@@ -7,7 +7,7 @@ use Rattle.game_io.specs.DiskState.{DiskState}
 use Rattle.game_io.specs.SinkState.{SinkState}
 use Rattle.game_model.specs.Setup.{Setup}
 use Rattle.command_answers.specs.declared.stop.Stop.{Stop}
-use Rattle.command_answers.specs.CausesLemmas.{done_settled}
+use Rattle.command_answers.proofs.CausesLemmas.{done_settled}
 use Rattle.command_answers.specs.Reply.{done}
 use Rattle.command_answers.specs.Step.{Step, replied}
 use Rattle.command_answers.specs.Stop.{ReturnsStep}

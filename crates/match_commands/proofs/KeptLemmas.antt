@@ -16,7 +16,7 @@ use Rattle.command_answers.specs.declared.stop.Stop.TheVariants.{Refused, ReadFa
 use Rattle.command_answers.specs.Answer.{reply_of}
 use Rattle.command_answers.specs.Contents.{Contents, contents_of}
 use Rattle.command_answers.specs.FileWrite.{FileWrite}
-use Rattle.command_answers.specs.OptionLemmas.{map_some}
+use Rattle.command_answers.proofs.OptionLemmas.{map_some}
 use Rattle.command_answers.specs.Reply.{Reply}
 use Rattle.command_answers.specs.Step.{Step, replied}
 use Rattle.command_answers.specs.Stop.{PrintsStop, ReturnsStep}

@@ -14,9 +14,9 @@ use Rattle.command_answers.specs.Step.{Step}
 use Rattle.command_answers.specs.Stop.{IsReadStop, IsOpaqueStop, PrintsStop, ReturnsStep}
 use Rattle.command_answers.specs.WantedFiles.{WantedFiles, in_order, rules_and_map}
 use Rattle.link_commands.specs.Links.{WithLinks, with_links, Begins, EndsBefore}
-use Rattle.link_commands.specs.LinkLemmas.{IsCaused, linked_given, linked_stopped, stop_begins, stop_caused}
+use Rattle.link_commands.proofs.LinkLemmas.{IsCaused, linked_given, linked_stopped, stop_begins, stop_caused}
 use Rattle.serve_command.specs.Records.{recording_causes}
-use Rattle.serve_command.specs.RecordsLemmas.{records_caused, records_changes, widen_caused, widen_runs}
+use Rattle.serve_command.proofs.RecordsLemmas.{records_caused, records_changes, widen_caused, widen_runs}
 use Rattle.serve_command.specs.Serves.{NetFailed, IsServeDone}
 use Rattle.match_commands.specs.Serves.{served_match, invite_of, serve_step, HasRecorded, RecordsFrom, RecordsOver, RunsRecorded}
 use Rattle.match_commands.proofs.ServedReplaysLemmas.{IsRecordLaw, record_replayed}

@@ -22,9 +22,9 @@ use Rattle.command_answers.specs.Contents.{Contents, contents_of, read_after, Is
 use Rattle.match_commands.specs.Request.{wanted, written_by, answer_of, text_reply, given_reply, reply_to}
 use Rattle.match_commands.specs.Run.{RunsRequest}
 use Rattle.command_answers.specs.Stop.{IsReadStop, IsStepStop, IsOpaqueStop, ReturnsStep, PrintsStop, PrintsText}
-use Rattle.command_answers.specs.OptionLemmas.{map_some, map_none}
-use Rattle.command_answers.specs.CausesLemmas.{HasCauses, IsSettled, done_settled, file_settled, at_memory, at_write, at_read, answered_causes, none_changes}
-use Rattle.command_answers.specs.OutcomeLemmas.{printed_outcome, answered_outcome, memory_outcome}
+use Rattle.command_answers.proofs.OptionLemmas.{map_some, map_none}
+use Rattle.command_answers.proofs.CausesLemmas.{HasCauses, IsSettled, done_settled, file_settled, at_memory, at_write, at_read, answered_causes, none_changes}
+use Rattle.command_answers.proofs.OutcomeLemmas.{printed_outcome, answered_outcome, memory_outcome}
 
 -- What was printed and written for a command: the reply, the causes of the status, and the files that changed. `written` is
 -- the file that its request names to be written.

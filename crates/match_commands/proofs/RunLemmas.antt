@@ -43,7 +43,7 @@ use Rattle.command_answers.specs.Causes.{Causes, causes_of, IsQuiet}
 use Rattle.command_answers.specs.Environment.{Environment}
 use Rattle.match_commands.specs.Request.{IsFaultless, written_by, wanted, answer_of, given_reply, text_reply}
 use Rattle.match_commands.specs.Run.{ProgramRun, RunsRequest, IsAnswerStatus, IsSound, IsObservableAnswer, IsOpaqueAnswer}
-use Rattle.command_answers.specs.OptionLemmas.{map_some}
+use Rattle.command_answers.proofs.OptionLemmas.{map_some}
 
 -- A command that prints a text and has it is done.
 text_done : (step : Step (List ℕ)) → IsOk (text_reply step) → (replied (text_reply step)).status ≡ DONE

@@ -6,7 +6,7 @@ use Rattle.frame_core.specs.Match.{Match, agreed_world}
 use Rattle.game_model.specs.Setup.{Setup}
 use Rattle.replay_file.specs.declared.replay.Replay.{Replay}
 use Rattle.replay_file.specs.declared.replay_fault.ReplayFault.{ReplayFault}
-use Rattle.replay_file.specs.ReadingLemmas.{spelled_read}
+use Rattle.replay_file.proofs.ReadingLemmas.{spelled_read}
 use Rattle.replay_run.specs.declared.replayed.Replayed.{Replayed}
 use Rattle.replay_run.specs.RecordLaws.{agreed_replayed, rerun_of}
 use Rattle.replay_run.specs.Recording.{replay_of}

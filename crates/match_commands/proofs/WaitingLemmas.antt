@@ -15,19 +15,19 @@ use Rattle.command_answers.specs.declared.statuses.TheConstants.{OUT_OF_MEMORY}
 use Rattle.command_answers.specs.declared.stop.Stop.{Stop}
 use Rattle.command_answers.specs.declared.stop.Stop.TheVariants.{NoMemory, ReadFault, Refused}
 use Rattle.command_answers.specs.Causes.{Causes}
-use Rattle.command_answers.specs.CausesLemmas.{HasCauses, at_memory}
+use Rattle.command_answers.proofs.CausesLemmas.{HasCauses, at_memory}
 use Rattle.command_answers.specs.Environment.{environment}
 use Rattle.command_answers.specs.Step.{Step}
 use Rattle.command_answers.specs.Contents.{Contents, contents_of, AreContents, IsFirstThere}
 use Rattle.command_answers.specs.Stop.{IsReadStop, IsOpaqueStop, PrintsStop, ReturnsStep}
 use Rattle.command_answers.specs.WantedFiles.{WantedFiles, in_order, rules_and_map, with_script}
 use Rattle.link_commands.specs.Links.{WithLinks, with_links, Begins, EndsBefore, causes_by}
-use Rattle.link_commands.specs.LinkLemmas.{IsCaused, linked_given, linked_stopped, stop_begins, stop_caused}
+use Rattle.link_commands.proofs.LinkLemmas.{IsCaused, linked_given, linked_stopped, stop_begins, stop_caused}
 use Rattle.link_commands.specs.Plays.{LinkFailed, IsPlayDone}
-use Rattle.link_commands.specs.PlayLemmas.{plays_caused}
+use Rattle.link_commands.proofs.PlayLemmas.{plays_caused}
 use Rattle.match_commands.specs.Plays.{PlayMeans, bot_means, bot_step, play_step, terms_of, PlaysFrom, PlaysOver}
 use Rattle.serve_command.specs.Serves.{NetFailed, IsServeDone}
-use Rattle.serve_command.specs.ServeLemmas.{serves_caused}
+use Rattle.serve_command.proofs.ServeLemmas.{serves_caused}
 use Rattle.match_commands.specs.Run.{ProgramRun}
 use Rattle.match_commands.specs.Serves.{served_match, invite_of, serve_step, RunsServe, RunsServing, ServesAs, ServesFrom, ServesOver}
 use Rattle.match_commands.specs.TopCalls.{waiting}

@@ -9,7 +9,7 @@ use Rattle.frame_core.specs.Column.{Column, entry_at, column_of}
 use Rattle.order_packets.specs.declared.down.Down.{Down}
 use Rattle.order_packets.specs.declared.down.Down.TheVariants as down
 use Rattle.peer_core.specs.Faithful.{IsFaithful}
-use Rattle.peer_core.specs.FaithfulLemmas.{fresh_faithful, deliver_faithful, tick_faithful}
+use Rattle.peer_core.proofs.FaithfulLemmas.{fresh_faithful, deliver_faithful, tick_faithful}
 use Rattle.peer_core.specs.Peer.{PeerState, ticked_peer}
 use Rattle.match_net.specs.declared.stop_reason.StopReason.{StopReason}
 use Rattle.match_net.specs.declared.stop_reason.StopReason.TheVariants as stop

@@ -12,7 +12,7 @@ use Rattle.frame_core.specs.declared.ready.Ready.{Ready}
 use Rattle.frame_core.specs.declared.ready.Ready.TheVariants.{Yes, NotYet, Over}
 use Rattle.frame_core.specs.Column.{Column, after_answer, put_answer, put_column, left_column}
 use Rattle.frame_core.specs.Grows.{GrowsTo}
-use Rattle.frame_core.specs.GrowsLemmas.{put_grows, left_grows}
+use Rattle.frame_core.proofs.GrowsLemmas.{put_grows, left_grows}
 use Rattle.frame_table.specs.declared.planned.Planned.{Planned}
 use Rattle.frame_table.specs.declared.planned.Planned.TheVariants.{Free}
 use Rattle.frame_table.specs.declared.seen.Seen.{Seen}

@@ -6,15 +6,15 @@ use Rattle.std.specs.List.{flat_map}
 use Rattle.std.proofs.lemmas.List.{append-nil, length-append}
 use Rattle.game_io.specs.SourceState.{SourceState}
 use Rattle.wire_bytes.specs.Field.{field_bytes}
-use Rattle.wire_bytes.specs.FieldLemmas.{field_length}
+use Rattle.wire_bytes.proofs.FieldLemmas.{field_length}
 use Rattle.order_packets.specs.declared.feed_fault.FeedFault.{FeedFault}
 use Rattle.order_packets.specs.declared.down.Down.{Down}
 use Rattle.order_packets.specs.PacketBytes.{framed, down_payload}
 use Rattle.order_packets.specs.PacketReading.{FirstPacket, packet_at, down_at}
 use Rattle.order_packets.specs.Feed.{Fed, more_fed, Answer, answer_of, next_answer, ReadsAll}
 use Rattle.order_packets.specs.Feed.{HasGiven, given_by, IfGiven}
-use Rattle.order_packets.specs.FeedLemmas.{given_fed_if}
-use Rattle.order_packets.specs.StreamLemmas.{all_stay}
+use Rattle.order_packets.proofs.FeedLemmas.{given_fed_if}
+use Rattle.order_packets.proofs.StreamLemmas.{all_stay}
 use Rattle.match_net.specs.declared.limits.TheConstants.{MAX_PLAY_BYTES}
 use Rattle.match_net.specs.declared.coming_packet.ComingPacket.{ComingPacket}
 use Rattle.match_net.specs.declared.coming_packet.ComingPacket.TheVariants as next

@@ -12,14 +12,14 @@ use Rattle.game_orders.specs.declared.entry.Entry.{Entry as one_entry}
 use Rattle.game_orders.specs.declared.entry.Entry.TheVariants.{Play, Leave}
 use Rattle.game_orders.specs.declared.limits.TheConstants.{MAX_FRAMES}
 use Rattle.game_orders.specs.Entry.{is_play, same_entry}
-use Rattle.game_orders.specs.EntryLemmas.{entry_decides}
+use Rattle.game_orders.proofs.EntryLemmas.{entry_decides}
 use Rattle.frame_core.specs.declared.ready.Ready.{Ready}
 use Rattle.frame_core.specs.declared.ready.Ready.TheVariants as ready
 use Rattle.frame_core.specs.Input.{ready_from}
 use Rattle.frame_core.specs.Ready.{frame_of, inputs_of}
-use Rattle.frame_core.specs.AgreedLemmas.{ready_all}
+use Rattle.frame_core.proofs.AgreedLemmas.{ready_all}
 use Rattle.frame_core.specs.Fold.{folded}
-use Rattle.frame_core.specs.FoldLemmas.{folded_same, folded_step}
+use Rattle.frame_core.proofs.FoldLemmas.{folded_same, folded_step}
 use Rattle.frame_core.specs.Tick.{ticked_after, stepped}
 use Rattle.peer_core.specs.declared.arrived.Arrived.{Arrived}
 use Rattle.peer_core.specs.declared.delivered.Delivered.{Delivered}

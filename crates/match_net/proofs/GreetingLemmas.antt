@@ -6,7 +6,7 @@ use Rattle.std.specs.Prelude.{◌==◌}
 use Rattle.std.proofs.lemmas.List.{length-append, append-nil}
 use Rattle.base.specs.Cause.{Increased}
 use Rattle.game_io.specs.SourceState.{SourceState}
-use Rattle.wire_bytes.specs.FieldLemmas.{field_length}
+use Rattle.wire_bytes.proofs.FieldLemmas.{field_length}
 use Rattle.wire_bytes.specs.Field.{field_bytes}
 use Rattle.order_packets.specs.declared.up.Up.{Up}
 use Rattle.order_packets.specs.declared.up.Up.TheVariants.{Hello, Orders, Sync, Bye}

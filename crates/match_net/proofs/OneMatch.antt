@@ -10,7 +10,7 @@ use Rattle.game_io.specs.SourceState.{SourceState}
 use Rattle.game_io.specs.SinkState.{SinkState}
 use Rattle.order_packets.specs.declared.down.Down.{Down}
 use Rattle.order_packets.specs.PacketReading.{FirstPacket, packet_at, down_at}
-use Rattle.order_packets.specs.PacketLemmas.{same_first}
+use Rattle.order_packets.proofs.PacketLemmas.{same_first}
 use Rattle.order_packets.specs.Feed.{ReadsAll}
 use Rattle.match_net.specs.declared.stop_reason.StopReason.{StopReason}
 use Rattle.match_net.specs.declared.stop_reason.StopReason.TheVariants as stop

@@ -13,7 +13,7 @@ use Rattle.std.specs.Option.{option_map}
 use Rattle.base.specs.Steps.{◌>>=◌}
 use Rattle.order_packets.specs.declared.up.Up.{Up}
 use Rattle.order_packets.specs.PacketReading.{packet_at, up_at}
-use Rattle.order_packets.specs.PacketLemmas.{same_first}
+use Rattle.order_packets.proofs.PacketLemmas.{same_first}
 use Rattle.order_packets.specs.Feed.{ReadsAll}
 use Rattle.match_net.specs.declared.limits.TheConstants.{MAX_LINK_BYTES}
 use Rattle.match_net.specs.declared.ending.Ending.{Ending}

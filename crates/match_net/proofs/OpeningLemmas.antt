@@ -6,7 +6,8 @@ use Rattle.std.proofs.Common.{inl, inr}
 use Rattle.std.specs.Prelude.{OnErr}
 use Rattle.std.specs.Option.{option_map}
 use Rattle.base.specs.Cause.{Increased}
-use Rattle.base.specs.Written.{Wrote, WrotePrefix, Wrote-nil, Wrote-append}
+use Rattle.base.specs.Written.{Wrote, WrotePrefix}
+use Rattle.base.proofs.WrittenLemmas.{Wrote-nil, Wrote-append}
 use Rattle.game_io.specs.SourceState.{SourceState}
 use Rattle.game_io.specs.SinkState.{SinkState}
 use Rattle.game_orders.specs.declared.entry.Entry.{Entry as one_entry}

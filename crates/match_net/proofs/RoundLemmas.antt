@@ -3,7 +3,8 @@ use Rattle.std.proofs.Common.{◌≡◌, ◌≢◌, ℕ, ◌<◌, ◌≤◌, ◌
 use Rattle.std.specs.Prelude.{slice_set, slice_index_or}
 use Rattle.std.proofs.lemmas.List.{get_or-set_same, get_or-set_other, length-set}
 use Rattle.std.proofs.lemmas.Bool.Decides.{eqb_tells}
-use Rattle.base.specs.Written.{Wrote, Wrote-nil, Wrote-append, whole_prefix}
+use Rattle.base.specs.Written.{Wrote}
+use Rattle.base.proofs.WrittenLemmas.{Wrote-nil, Wrote-append, whole_prefix}
 use Rattle.game_io.specs.SinkState.{SinkState}
 use Rattle.game_orders.specs.declared.entry.Entry.{Entry as one_entry}
 use Rattle.frame_core.specs.Column.{Column}

@@ -1,7 +1,8 @@
 -- A whole sending: the welcome, and then the entries.
 use Rattle.std.proofs.Common.{◌≡◌, ℕ, zero, suc, ◌<◌, ◌≤◌, false, true≢false, List, [], ◌++◌, replicate, Option, Some, None, refl, sym, ap, subst, ◌∙◌, arith, append_assoc, append-nil}
 use Rattle.std.specs.Prelude.{slice_index_or}
-use Rattle.base.specs.Written.{Wrote, WrotePrefix, Wrote-nil, Wrote-append}
+use Rattle.base.specs.Written.{Wrote, WrotePrefix}
+use Rattle.base.proofs.WrittenLemmas.{Wrote-nil, Wrote-append}
 use Rattle.game_io.specs.SinkState.{SinkState}
 use Rattle.frame_table.specs.declared.seen.Seen.{Seen}
 use Rattle.frame_table.specs.declared.view.View.{View}

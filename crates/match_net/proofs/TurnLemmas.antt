@@ -12,10 +12,10 @@ use Rattle.order_packets.specs.declared.up.Up.{Up}
 use Rattle.order_packets.specs.declared.up.Up.TheVariants.{Hello}
 use Rattle.order_packets.specs.PacketBytes.{framed, up_payload}
 use Rattle.order_packets.specs.PacketReading.{FirstPacket, packet_at, up_at}
-use Rattle.order_packets.specs.PacketLemmas.{up_again}
+use Rattle.order_packets.proofs.PacketLemmas.{up_again}
 use Rattle.order_packets.specs.Feed.{Fed, more_fed, Answer, answer_of, next_answer, ReadsAll, HasGiven, given_by}
-use Rattle.order_packets.specs.FeedLemmas.{given_fed_if}
-use Rattle.order_packets.specs.StreamLemmas.{all_stay}
+use Rattle.order_packets.proofs.FeedLemmas.{given_fed_if}
+use Rattle.order_packets.proofs.StreamLemmas.{all_stay}
 use Rattle.frame_core.specs.Column.{Column}
 use Rattle.frame_table.specs.declared.view.View.{View}
 use Rattle.frame_table.specs.Part.{Part, part_of, OthersStay}

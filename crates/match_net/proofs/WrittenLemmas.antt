@@ -14,7 +14,7 @@ use Rattle.game_orders.specs.Entry.{is_play}
 use Rattle.frame_core.specs.declared.ready.Ready.{Ready}
 use Rattle.frame_core.specs.declared.ready.Ready.TheVariants as ready
 use Rattle.frame_core.specs.Fold.{folded}
-use Rattle.frame_core.specs.FoldLemmas.{folded_same}
+use Rattle.frame_core.proofs.FoldLemmas.{folded_same}
 use Rattle.frame_core.specs.Tick.{ticked_after}
 use Rattle.order_packets.specs.declared.down.Down.{Down}
 use Rattle.order_packets.specs.declared.down.Down.TheVariants as down

@@ -6,3 +6,4 @@ pub mod LocalTicks
 pub mod Splitting
 pub mod TakenFrames
 pub mod Taking
+pub mod LocalLemmas

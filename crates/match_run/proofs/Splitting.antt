@@ -17,7 +17,7 @@ use Rattle.frame_table.specs.Word.{one_if}
 use Rattle.frame_table.specs.Rule.{planned_of}
 use Rattle.frame_table.specs.Steps.{IsWithinPlan}
 use Rattle.frame_table.specs.Passes.{kept_mark, given_mark, kept_marks, kept_view, given_view, longer, joined_mark, joined_view, further, is_free, first_mark, first_view}
-use Rattle.frame_table.specs.PassesLemmas.{handed, joined_at, first_at}
+use Rattle.frame_table.proofs.PassesLemmas.{handed, joined_at, first_at}
 use Rattle.frame_table.specs.Calls.{plan_of, view_of, standing, IsPassOf}
 use Rattle.match_run.specs.declared.client_pass.ClientPass.{ClientPass}
 use Rattle.match_run.specs.Feeding.{HasFedAll}

@@ -3,4 +3,3 @@ pub mod Bots
 pub mod Passes
 pub mod Feeding
 pub mod Taken
-pub mod LocalLemmas

@@ -6,7 +6,7 @@ use Rattle.frame_table.specs.declared.pass.Pass.{Pass}
 use Rattle.frame_table.specs.declared.table.FrameTable.{FrameTable}
 use Rattle.frame_table.specs.Part.{Part, part_of, part_in, no_mark}
 use Rattle.frame_table.specs.Passes.{joined_mark, joined_view}
-use Rattle.frame_table.specs.PassesLemmas.{joined_at}
+use Rattle.frame_table.proofs.PassesLemmas.{joined_at}
 use Rattle.frame_table.specs.Calls.{plan_of, view_of, standing, IsPassOf}
 use Rattle.match_serve.specs.declared.link_seat.LinkSeat.{LinkSeat}
 use Rattle.match_serve.specs.Passes.{IsServePass}

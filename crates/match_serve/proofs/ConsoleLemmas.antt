@@ -14,7 +14,7 @@ use Rattle.game_orders.specs.declared.limits.TheConstants.{MAX_CLIENTS}
 use Rattle.base.specs.Cause.{Increased}
 use Rattle.frame_core.specs.Column.{Column, left_column}
 use Rattle.frame_core.specs.Grows.{GrowsTo}
-use Rattle.frame_core.specs.GrowsLemmas.{GrowsTo-refl}
+use Rattle.frame_core.proofs.GrowsLemmas.{GrowsTo-refl}
 use Rattle.frame_table.specs.declared.pass.Pass.{Pass}
 use Rattle.frame_table.specs.declared.view.View.{View}
 use Rattle.frame_table.specs.declared.seen.Seen.{Seen}

@@ -4,7 +4,7 @@ use native.Mathlib.Decide.{ℕ_discrete}
 use mathlib.Core.Logic.{dite}
 use Rattle.frame_core.specs.Column.{Column, no_column}
 use Rattle.frame_core.specs.Grows.{GrowsTo, Grows}
-use Rattle.frame_core.specs.GrowsLemmas.{GrowsTo-refl}
+use Rattle.frame_core.proofs.GrowsLemmas.{GrowsTo-refl}
 use Rattle.frame_table.specs.declared.view.View.{View}
 use Rattle.frame_table.specs.declared.view.Mark.{Mark}
 use Rattle.frame_table.specs.declared.pass.Pass.{Pass}

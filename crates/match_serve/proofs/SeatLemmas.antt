@@ -7,7 +7,7 @@ use Rattle.game_io.specs.SinkState.{SinkState}
 use Rattle.game_orders.specs.declared.order.Order.{Order}
 use Rattle.frame_core.specs.Column.{Column, left_column}
 use Rattle.frame_core.specs.Grows.{GrowsTo}
-use Rattle.frame_core.specs.GrowsLemmas.{GrowsTo-refl, left_grows}
+use Rattle.frame_core.proofs.GrowsLemmas.{GrowsTo-refl, left_grows}
 use Rattle.order_packets.specs.declared.up.Up.TheVariants.{Hello}
 use Rattle.order_packets.specs.PacketBytes.{FitsUp}
 use Rattle.order_packets.specs.Feed.{Fed}

@@ -1,7 +1,8 @@
 -- What was written to a link, and what its sender left of the columns.
 use Rattle.std.proofs.Common.{◌≡◌, ◌≢◌, ℕ, ◌<◌, Bool, List, [], length, Option, refl, sym, ap, ap₂, ◌∙◌, subst, inl, inr, arith}
 use Rattle.base.specs.Cause.{Increased}
-use Rattle.base.specs.Written.{Wrote, WrotePrefix, Wrote-nil, whole_prefix}
+use Rattle.base.specs.Written.{Wrote, WrotePrefix}
+use Rattle.base.proofs.WrittenLemmas.{Wrote-nil, whole_prefix}
 use Rattle.game_io.specs.SinkState.{SinkState}
 use Rattle.frame_core.specs.Column.{Column, column_of, no_column}
 use Rattle.frame_core.specs.Grows.{GrowsTo}

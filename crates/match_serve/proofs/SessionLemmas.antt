@@ -13,7 +13,7 @@ use Rattle.game_io.specs.SourceState.{SourceState}
 use Rattle.order_packets.specs.declared.up.Up.{Up}
 use Rattle.order_packets.specs.declared.up.Up.TheVariants.{Hello}
 use Rattle.order_packets.specs.PacketBytes.{FitsUp}
-use Rattle.order_packets.specs.PacketLemmas.{up_again}
+use Rattle.order_packets.proofs.PacketLemmas.{up_again}
 use Rattle.order_packets.specs.declared.feed_fault.FeedFault.{FeedFault}
 use Rattle.order_packets.specs.PacketReading.{FirstPacket, packet_at, sized_at, payload_at, behind_length, up_at}
 use Rattle.order_packets.specs.Feed.{Fed}

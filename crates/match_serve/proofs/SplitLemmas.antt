@@ -9,7 +9,7 @@ use Rattle.frame_table.specs.declared.pass.Pass.{Pass}
 use Rattle.frame_table.specs.declared.table.FrameTable.{FrameTable}
 use Rattle.frame_table.specs.Part.{Part, part_of, part_in, no_mark}
 use Rattle.frame_table.specs.Passes.{known_in, kept_mark, given_mark, kept_marks, given_marks, kept_view, given_view, first_mark, first_view}
-use Rattle.frame_table.specs.PassesLemmas.{handed, first_at}
+use Rattle.frame_table.proofs.PassesLemmas.{handed, first_at}
 use Rattle.frame_table.specs.Calls.{plan_of, view_of, standing, IsPassOf}
 use Rattle.match_serve.specs.Passes.{IsServePass, FixedNone, Feeds, IsOpening}
 

@@ -10,11 +10,11 @@ use Rattle.frame_core.specs.Input.{ready_from, input_of}
 use Rattle.frame_core.specs.declared.ready.Ready.{Ready}
 use Rattle.frame_core.specs.declared.ready.Ready.TheVariants.{Yes, Over}
 use Rattle.frame_core.specs.Agreed.{IsAt}
-use Rattle.frame_core.specs.AgreedLemmas.{opening_is_at, grow_is_at, tick_is_at}
+use Rattle.frame_core.proofs.AgreedLemmas.{opening_is_at, grow_is_at, tick_is_at}
 use Rattle.frame_core.specs.Match.{Match}
 use Rattle.server_core.specs.Board.{BoardState}
 use Rattle.server_core.specs.Served.{agreed_marks}
-use Rattle.server_core.specs.ServedLemmas.{marks_stay}
+use Rattle.server_core.proofs.ServedLemmas.{marks_stay}
 use Rattle.frame_table.specs.declared.view.View.{View}
 use Rattle.frame_table.specs.declared.view.Mark.{Mark}
 use Rattle.frame_table.specs.declared.pass.Pass.{Pass}

@@ -1,1 +1,2 @@
 pub mod StepCases
+pub mod ChangeLemmas

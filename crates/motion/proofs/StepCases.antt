@@ -23,7 +23,7 @@ use Rattle.game_tick.specs.declared.moving.Moving.{Moving}
 use Rattle.game_tick.specs.declared.moving.Moving.TheVariants.{Going, GivenUp}
 use Rattle.game_tick.specs.Moving.{Moved, after_move, gone_on, moved_by_id, moved_in, moved_into, moved_towards}
 use Rattle.game_tick.specs.Acts.{popped}
-use Rattle.game_model.specs.FoundLemmas.{changed_none, found_id}
+use Rattle.game_model.proofs.FoundLemmas.{changed_none, found_id}
 use Rattle.actor_table.specs.Table.{Table}
 use Rattle.grid_routes.specs.Routing.{Routing}
 use Rattle.grid_routes.specs.EntryCosts.{land_over}

@@ -29,7 +29,7 @@ fn read_payload<P: Packet>(payload: &[u8]) -> Result<P, FeedFault>
 /// The first fault from the left is the answer: `LengthTooLarge` exactly at a length above
 /// [`crate::MAX_PAYLOAD`]; then that of the payload, which is looked at only where all of it is
 /// there, `TrailingInPacket` exactly where the packet ends before it.
-#[tactic(auto, using(crate::specs::FirstLemmas::few_steps), unfolding(crate::specs::PacketReading::packet_at, crate::specs::PacketReading::sized_at))]
+#[tactic(auto, using(crate::proofs::FirstLemmas::few_steps), unfolding(crate::specs::PacketReading::packet_at, crate::specs::PacketReading::sized_at))]
 pub fn first_packet<P: Packet>(bytes: &[u8]) -> Result<Option<(P, usize)>, FeedFault>
     ensures reads { GivesFirst bytes.now result (packet_at P.at bytes.now) }
     ensures spelled { IfFound result (λ packet taken. bytes.now ≡ framed (P.payload packet)

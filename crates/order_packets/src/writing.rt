@@ -9,7 +9,7 @@ use game_orders::{Entry, orders_length, write_orders};
 use wire_bytes::{write_u8, write_u16, write_u32, write_u64};
 
 /// How many bytes a packet's payload has, at most 166.
-#[tactic(auto, using(crate::specs::PacketLemmas::sizes), unfolding(crate::specs::PacketBytes::up_payload))]
+#[tactic(auto, using(crate::proofs::PacketLemmas::sizes), unfolding(crate::specs::PacketBytes::up_payload))]
 fn up_length(p: &Up) -> usize
     ensures value { result ≡ length (up_payload p.now) }
     ensures limit { result ≤ 166 }
@@ -23,7 +23,7 @@ fn up_length(p: &Up) -> usize
 }
 
 /// Appends a packet's payload.
-#[tactic(auto, using(wire_bytes::specs::WriteLemmas::written), unfolding(crate::specs::PacketBytes::up_payload))]
+#[tactic(auto, using(wire_bytes::proofs::WriteLemmas::written), unfolding(crate::specs::PacketBytes::up_payload))]
 fn append_up_payload(out: &mut Vec<u8>, p: &Up) -> Result<(), NoMemory>
     ensures ok { OnOk result (out.new.items ≡ out.old.items ++ up_payload p.now) }
     ensures err { OnErr result (Extends out.old.items out.new.items) }
@@ -49,7 +49,7 @@ fn append_up_payload(out: &mut Vec<u8>, p: &Up) -> Result<(), NoMemory>
 }
 
 /// Appends the length of a packet's payload, and the payload.
-#[tactic(auto, using(wire_bytes::specs::WriteLemmas::written), unfolding(crate::specs::PacketBytes::framed))]
+#[tactic(auto, using(wire_bytes::proofs::WriteLemmas::written), unfolding(crate::specs::PacketBytes::framed))]
 fn append_up(out: &mut Vec<u8>, p: &Up) -> Result<(), NoMemory>
     ensures ok { OnOk result (out.new.items ≡ out.old.items ++ up_bytes p.now) }
     ensures err { OnErr result (Extends out.old.items out.new.items) }
@@ -72,7 +72,7 @@ pub fn write_up(out: &mut Vec<u8>, p: &Up) -> Result<(), NoMemory>
 }
 
 /// How many bytes a packet's payload has, at most 167.
-#[tactic(auto, using(crate::specs::PacketLemmas::sizes), unfolding(crate::specs::PacketBytes::down_payload))]
+#[tactic(auto, using(crate::proofs::PacketLemmas::sizes), unfolding(crate::specs::PacketBytes::down_payload))]
 fn down_length(p: &Down) -> usize
     ensures value { result ≡ length (down_payload p.now) }
     ensures limit { result ≤ 167 }
@@ -92,7 +92,7 @@ fn down_length(p: &Down) -> usize
 }
 
 /// Appends a packet's payload.
-#[tactic(auto, using(wire_bytes::specs::WriteLemmas::written), unfolding(crate::specs::PacketBytes::down_payload))]
+#[tactic(auto, using(wire_bytes::proofs::WriteLemmas::written), unfolding(crate::specs::PacketBytes::down_payload))]
 fn append_down_payload(out: &mut Vec<u8>, p: &Down) -> Result<(), NoMemory>
     ensures ok { OnOk result (out.new.items ≡ out.old.items ++ down_payload p.now) }
     ensures err { OnErr result (Extends out.old.items out.new.items) }
@@ -137,7 +137,7 @@ fn append_down_payload(out: &mut Vec<u8>, p: &Down) -> Result<(), NoMemory>
 }
 
 /// Appends the length of a packet's payload, and the payload.
-#[tactic(auto, using(wire_bytes::specs::WriteLemmas::written), unfolding(crate::specs::PacketBytes::framed))]
+#[tactic(auto, using(wire_bytes::proofs::WriteLemmas::written), unfolding(crate::specs::PacketBytes::framed))]
 fn append_down(out: &mut Vec<u8>, p: &Down) -> Result<(), NoMemory>
     ensures ok { OnOk result (out.new.items ≡ out.old.items ++ down_bytes p.now) }
     ensures err { OnErr result (Extends out.old.items out.new.items) }

@@ -14,7 +14,7 @@ use Rattle.peer_core.specs.declared.delivered.Delivered.TheVariants.{Kept, Repea
 use Rattle.peer_core.specs.Arrived.{is_of, is_left, is_after, kept_at, left_before, kept_after}
 use Rattle.peer_core.specs.Arrived.{least_of, frame_if, with_arrived, IsEnded}
 use Rattle.peer_core.specs.Delivery.{is_beyond, past_of, against, delivery_of, arrived_after}
-use Rattle.peer_core.specs.ArrivedLemmas.{all_with_arrived}
+use Rattle.peer_core.proofs.ArrivedLemmas.{all_with_arrived}
 use Rattle.peer_core.proofs.RisingLemmas.{kept_step, kept_with, other_with, elsewhere, place}
 use Rattle.peer_core.proofs.RisingLemmas.{by_answer}
 

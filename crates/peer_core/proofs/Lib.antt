@@ -9,3 +9,6 @@ pub mod LeastLemmas
 pub mod PeerLemmas
 pub mod SameLemmas
 pub mod SealLemmas
+pub mod ArrivedLemmas
+pub mod DeliveryLemmas
+pub mod FaithfulLemmas

@@ -11,7 +11,7 @@ use Rattle.game_orders.specs.declared.entry.Entry.{Entry}
 use Rattle.game_orders.specs.declared.entry.Entry.TheVariants.{Play, Leave}
 use Rattle.game_orders.specs.declared.limits.TheConstants.{MAX_FRAMES}
 use Rattle.game_orders.specs.Entry.{is_play, same_entry}
-use Rattle.game_orders.specs.EntryLemmas.{entry_decides}
+use Rattle.game_orders.proofs.EntryLemmas.{entry_decides}
 use Rattle.peer_core.specs.declared.arrived.Arrived.{Arrived}
 use Rattle.peer_core.specs.declared.delivered.Delivered.{Delivered}
 use Rattle.peer_core.specs.declared.delivered.Delivered.TheVariants.{Repeat, Conflict, Beyond}
@@ -20,7 +20,7 @@ use Rattle.peer_core.specs.Arrived.{least_of, frame_if, IsRising}
 use Rattle.peer_core.specs.Delivery.{is_beyond, past_of, against, delivery_of}
 use Rattle.peer_core.specs.Delivery.{IsInMatch, IsOutside, HasLeftAt, EndsBy, IsNextKept}
 use Rattle.peer_core.specs.Delivery.{MeansDelivery}
-use Rattle.peer_core.specs.FaithfulLemmas.{leave_of}
+use Rattle.peer_core.proofs.FaithfulLemmas.{leave_of}
 use Rattle.peer_core.proofs.RisingLemmas.{kept_step, rising_kept}
 use Rattle.peer_core.proofs.EndedLemmas.{departed}
 

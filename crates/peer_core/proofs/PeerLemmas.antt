@@ -12,7 +12,7 @@ use Rattle.frame_core.specs.declared.ready.Ready.{Ready}
 use Rattle.frame_core.specs.declared.ready.Ready.TheVariants.{Yes, NotYet as Waits, Over as Ended}
 use Rattle.frame_core.specs.declared.tick_answer.TickAnswer.TheVariants.{Ticked, NotYet, Over}
 use Rattle.frame_core.specs.Input.{input_of, MeansInput}
-use Rattle.frame_core.specs.InputLemmas.{ready_means}
+use Rattle.frame_core.proofs.InputLemmas.{ready_means}
 use Rattle.peer_core.specs.declared.arrived.Arrived.{Arrived}
 use Rattle.peer_core.specs.Arrived.{kept_at, left_before, or_left, has_of, inputs_by, ready_by}
 use Rattle.peer_core.specs.Arrived.{frame_by, IsRising, IsEnded}

@@ -15,7 +15,7 @@ use Rattle.peer_core.specs.declared.delivered.Delivered.TheVariants.{Beyond}
 use Rattle.peer_core.specs.Arrived.{is_of, kept_at, stands_before, with_arrived, IsRising}
 use Rattle.peer_core.specs.Delivery.{is_beyond, past_of, against, after_delivery, delivery_of}
 use Rattle.peer_core.specs.Delivery.{arrived_after, KeepsEntries}
-use Rattle.peer_core.specs.ArrivedLemmas.{all_with_arrived}
+use Rattle.peer_core.proofs.ArrivedLemmas.{all_with_arrived}
 
 before_trans :
     (a u v : Arrived) → stands_before a u ≡ true → stands_before u v ≡ true →

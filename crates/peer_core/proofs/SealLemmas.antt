@@ -15,7 +15,7 @@ use Rattle.peer_core.specs.declared.seal_fault.SealFault.{SealFault}
 use Rattle.peer_core.specs.declared.seal_fault.SealFault.TheVariants.{TooEarly, LeftAlready}
 use Rattle.peer_core.specs.declared.seal_fault.SealFault.TheVariants.{MatchFull}
 use Rattle.peer_core.specs.Arrived.{is_of, is_departure_of, has_left, kept_at, IsRising}
-use Rattle.peer_core.specs.FaithfulLemmas.{leave_of}
+use Rattle.peer_core.proofs.FaithfulLemmas.{leave_of}
 use Rattle.peer_core.specs.Peer.{PeerState, IsPeer, seal_answer, sealed_after, sealed_peer}
 use Rattle.peer_core.specs.Seal.{HasLeft, HasStayed, MeansSeal}
 use Rattle.peer_core.proofs.RisingLemmas.{rising_kept}

@@ -3,10 +3,7 @@ pub mod Delivery
 pub mod Receipt
 pub mod StoredOrders
 pub mod Entries
-pub mod ArrivedLemmas
 pub mod Peer
 pub mod Tick
 pub mod Faithful
-pub mod FaithfulLemmas
-pub mod DeliveryLemmas
 pub mod Seal

@@ -3,8 +3,8 @@ use Rattle.std.proofs.Common.{◌≡◌, ℕ, suc, ◌<◌, ◌==◌, ◌&&◌, 
 use Rattle.std.proofs.Common.{◌∷◌, length, get_or, Some, None, is_some, refl, sym, ap, ◌∙◌, arith}
 use Rattle.std.specs.List.{list_any}
 use Rattle.game_model.specs.declared.actor.Actor.{Actor}
-use Rattle.game_model.specs.FoundLemmas.{IdsRise}
-use Rattle.game_model.specs.LivingLemmas.{found_at, living_found}
+use Rattle.game_model.proofs.FoundLemmas.{IdsRise}
+use Rattle.game_model.proofs.LivingLemmas.{found_at, living_found}
 use Rattle.game_model.specs.World.{is_alive, living_of}
 use Rattle.game_tick.specs.Orders.{has_kind}
 use Rattle.actor_table.specs.Kinds.{is_of, listed_of}

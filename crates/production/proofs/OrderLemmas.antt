@@ -11,7 +11,7 @@ use Rattle.game_tick.specs.Orders.{Goods, own_of, produce_fits, with_produce, bu
 use Rattle.rule_traits.specs.declared.kind.Kind.{Kind}
 use Rattle.rule_traits.specs.Rules.{cost_of}
 use Rattle.game_model.specs.Kinds.{duration_in, kind_of}
-use Rattle.game_model.specs.FoundLemmas.{found_id}
+use Rattle.game_model.proofs.FoundLemmas.{found_id}
 
 remove_last : {T : Type 0} (n : ℕ) (xs : List T) → length xs ≡ suc n → remove xs n ≡ take n xs
 remove_last n [] long = absurd (omega (arith, long))

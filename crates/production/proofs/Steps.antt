@@ -15,7 +15,7 @@ use Rattle.game_model.specs.World.{actor_of, new_actor}
 use Rattle.game_model.specs.Kinds.{kind_of}
 use Rattle.game_tick.specs.Building.{Built, with_builds, exit_of, has_room, built_first}
 use Rattle.game_tick.specs.Building.{after_build}
-use Rattle.game_model.specs.FoundLemmas.{found_id}
+use Rattle.game_model.proofs.FoundLemmas.{found_id}
 use Rattle.production.specs.Exits.{exit_after}
 use Rattle.production.specs.Steps.{built_by_id}
 

@@ -9,7 +9,7 @@ use Rattle.replay_file.specs.declared.replay.Replay.{Replay}
 use Rattle.replay_file.specs.declared.replay_fault.ReplayFault.{ReplayFault}
 use Rattle.replay_file.specs.FirstFault.{Spells}
 use Rattle.replay_file.specs.Reading.{read_of}
-use Rattle.replay_file.specs.ReadingLemmas.{spelled_read}
+use Rattle.replay_file.proofs.ReadingLemmas.{spelled_read}
 use Rattle.replay_run.specs.declared.replayed.Replayed.{Replayed}
 use Rattle.replay_run.specs.Rerun.{Rerun, difference_of, migrated_over, replayed}
 use Rattle.tick_core.specs.Game.{GameState}

@@ -32,7 +32,7 @@ fn mark_status(difference: &Option<Difference>) -> u8
 }
 
 /// The opening game of a replay.
-#[tactic(auto, using(replay_file::specs::WholeLemmas::few_clients))]
+#[tactic(auto, using(replay_file::proofs::WholeLemmas::few_clients))]
 fn opening(alloc: Global, maker: &GameMaker, r: &Replay) -> Result<MarkedGame, NoMemory>
     requires { IsValidReplay r.now }
     ensures opens { IfOk result

@@ -1,12 +1,8 @@
-pub mod EntriesLemmas
 pub mod Fault
 pub mod FirstFault
-pub mod FrameLemmas
 pub mod HeaderClauses
 pub mod Frames
 pub mod Migrated
-pub mod MigratedLemmas
-pub mod OrdersLemmas
 pub mod PartBytes
 pub mod PartKind
 pub mod PartReading
@@ -14,14 +10,7 @@ pub mod PartRules
 pub mod PartStore
 pub mod ReadClauses
 pub mod Reading
-pub mod ReadingLemmas
 pub mod ReplayBytes
 pub mod ReplayLeft
-pub mod ReplayLemmas
 pub mod RuleLaws
-pub mod RuleLemmas
-pub mod SoFarLemmas
-pub mod StoreLemmas
-pub mod ValidLemmas
 pub mod ValidReplay
-pub mod WholeLemmas

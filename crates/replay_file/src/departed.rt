@@ -38,7 +38,7 @@ impl Departed {
     }
 
     /// Those who have departed in a frame.
-    #[tactic(auto, using(crate::specs::FrameLemmas::departed_more))]
+    #[tactic(auto, using(crate::proofs::FrameLemmas::departed_more))]
     pub(crate) fn in_frame(frame: &Frame) -> Departed
         ensures { result ≡ departed_in frame.now }
     {

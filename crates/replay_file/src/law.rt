@@ -5,7 +5,7 @@ ghost use Rattle.replay_file.specs.declared.replay_fault.ReplayFault.{ReplayFaul
 ghost use Rattle.replay_file.specs.FirstFault.{IsFirstFault, Spells};
 ghost use Rattle.replay_file.specs.Frames.{frames_of, marks_of};
 ghost use Rattle.replay_file.specs.Migrated.{migrated};
-ghost use Rattle.replay_file.specs.MigratedLemmas.{anew};
+ghost use Rattle.replay_file.proofs.MigratedLemmas.{anew};
 ghost use Rattle.replay_file.specs.PartRules.{greatest_tag, is_known, most_clients, most_frames};
 ghost use Rattle.replay_file.specs.Reading.{read_of};
 ghost use Rattle.replay_file.specs.RuleLaws.{HasKnownOrders, ObeysRules};
@@ -15,7 +15,7 @@ ghost use Rattle.replay_file.specs.ValidReplay.{IsValidReplay};
 /// for each client and a play, in which who has departed stays departed, and marks of which none
 /// stands directly after another, and all its orders are of its version; and a replay of a known
 /// version and so many clients of which this holds is valid. The call does nothing.
-#[tactic(auto, using(crate::specs::ValidLemmas::rule_laws))]
+#[tactic(auto, using(crate::proofs::ValidLemmas::rule_laws))]
 pub fn the_rules_are_these()
     ensures whole { (r : Replay) → IsValidReplay r →
         ObeysRules r.clients (most_frames r.version) r.parts }
@@ -27,7 +27,7 @@ pub fn the_rules_are_these()
 {}
 
 /// A law of replays as bytes: bytes spell at most one replay. The call does nothing.
-#[tactic(auto, using(crate::specs::WholeLemmas::one_replay))]
+#[tactic(auto, using(crate::proofs::WholeLemmas::one_replay))]
 pub fn bytes_spell_one_replay()
     ensures { (here : ℕ) (bytes : List ℕ) (r q : Replay) → Spells here bytes r →
         Spells here bytes q → r ≡ q }
@@ -35,7 +35,7 @@ pub fn bytes_spell_one_replay()
 
 /// A law of faults: bytes that spell a replay have none, and others at most one first fault. The
 /// call does nothing.
-#[tactic(auto, using(crate::specs::WholeLemmas::fault_laws))]
+#[tactic(auto, using(crate::proofs::WholeLemmas::fault_laws))]
 pub fn bytes_have_one_first_fault()
     ensures none { (here : ℕ) (bytes : List ℕ) (r : Replay) (fault : ReplayFault) →
         Spells here bytes r → IsFirstFault here bytes fault → ⊥ }
@@ -45,7 +45,7 @@ pub fn bytes_have_one_first_fault()
 
 /// A law of reading: bytes that spell a replay are read as it, and those with a first fault as that
 /// fault. The call does nothing.
-#[tactic(auto, using(crate::specs::ReadingLemmas::reading_laws))]
+#[tactic(auto, using(crate::proofs::ReadingLemmas::reading_laws))]
 pub fn bytes_are_read_as_they_spell()
     ensures replay { (here : ℕ) (bytes : List ℕ) (r : Replay) → Spells here bytes r →
         read_of here bytes ≡ Ok r }
@@ -55,7 +55,7 @@ pub fn bytes_are_read_as_they_spell()
 
 /// A law of migrated replays: they are valid, with the same frames, and with marks at the same
 /// places that have the new hashes. The call does nothing.
-#[tactic(auto, using(crate::specs::MigratedLemmas::migrated_laws))]
+#[tactic(auto, using(crate::proofs::MigratedLemmas::migrated_laws))]
 pub fn a_migrated_replay_is_valid()
     ensures valid { (hash_after : ℕ → ℕ) (r : Replay) → IsValidReplay r →
         IsValidReplay (migrated hash_after r) }

@@ -15,7 +15,7 @@ fn entry_fits(entry: &Entry)
 }
 
 /// The numbers of a frame that code holds fit their fields. The call does nothing.
-#[tactic(auto, using(crate::specs::FrameLemmas::entry_fits_too))]
+#[tactic(auto, using(crate::proofs::FrameLemmas::entry_fits_too))]
 pub(crate) fn frame_fits(frame: &Frame)
     ensures fits { AllByRecursion FitsEntry frame.now }
     ensures few { length frame.now ≤ MAX_CLIENTS }

@@ -24,7 +24,7 @@ use game_orders::{Entry, Frame, MAX_FRAMES, MAX_ORDERS, Order, Orders, read_orde
 use wire_bytes::Cursor;
 
 /// Reads an order whose tag is at most the greatest of the version.
-#[tactic(auto, using(crate::specs::OrdersLemmas::first_tag), unfolding(crate::specs::PartReading::order_in))]
+#[tactic(auto, using(crate::proofs::OrdersLemmas::first_tag), unfolding(crate::specs::PartReading::order_in))]
 fn read_order_in(c: &mut Cursor<'_>, greatest: u8) -> Result<Order, PartFault>
     ensures reads { Reads (order_in greatest) c.old c.new result }
     ensures spelled { IfOk result (λ o. c.old ≡ order_bytes o ++ c.new) }
@@ -40,7 +40,7 @@ fn read_order_in(c: &mut Cursor<'_>, greatest: u8) -> Result<Order, PartFault>
 }
 
 /// Reads so many orders, at most [`MAX_ORDERS`], one after the other, in the place of these.
-#[tactic(auto, using(crate::specs::OrdersLemmas::reading_steps))]
+#[tactic(auto, using(crate::proofs::OrdersLemmas::reading_steps))]
 fn read_each(
     c: &mut Cursor<'_>,
     greatest: u8,
@@ -131,7 +131,7 @@ fn push_entry(frame: &mut Frame, plays: bool, orders: &Orders)
 /// flag says that it has not departed before, a play of orders with tags up to `greatest`. The first
 /// fault from the left is the answer: `Short` exactly where a field runs past the end, else `Bad`.
 /// Then some bytes may be taken, and the frame has some of the entries.
-#[tactic(auto, using(crate::specs::EntriesLemmas::reading_steps))]
+#[tactic(auto, using(crate::proofs::EntriesLemmas::reading_steps))]
 pub fn read_entries(
     c: &mut Cursor<'_>,
     greatest: u8,
@@ -155,7 +155,7 @@ pub fn read_entries(
 }
 
 /// True where a client plays.
-#[tactic(auto, using(crate::specs::FrameLemmas::play_steps))]
+#[tactic(auto, using(crate::proofs::FrameLemmas::play_steps))]
 fn has_play(frame: &Frame) -> bool
     ensures { result ≡ list_any is_play frame.now }
 {

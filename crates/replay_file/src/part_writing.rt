@@ -12,7 +12,7 @@ use game_orders::{Entry, Frame, write_orders};
 use wire_bytes::{write_u8, write_u64};
 
 /// Appends the entry of one client.
-#[tactic(auto, using(wire_bytes::specs::WriteLemmas::written))]
+#[tactic(auto, using(wire_bytes::proofs::WriteLemmas::written))]
 fn append_entry(out: &mut Vec<u8>, entry: &Entry) -> Result<(), NoMemory>
     ensures ok { OnOk result (out.new.items ≡ out.old.items ++ entry_bytes entry.now) }
     ensures err { OnErr result (Extends out.old.items out.new.items) }
@@ -27,7 +27,7 @@ fn append_entry(out: &mut Vec<u8>, entry: &Entry) -> Result<(), NoMemory>
 }
 
 /// Appends the entries of a frame.
-#[tactic(auto, using(crate::specs::FrameLemmas::writing_steps))]
+#[tactic(auto, using(crate::proofs::FrameLemmas::writing_steps))]
 fn append_entries(out: &mut Vec<u8>, frame: &Frame) -> Result<(), NoMemory>
     ensures ok { OnOk result (out.new.items ≡ out.old.items ++ entries_bytes frame.now) }
     ensures err { OnErr result (Extends out.old.items out.new.items) }
@@ -42,7 +42,7 @@ fn append_entries(out: &mut Vec<u8>, frame: &Frame) -> Result<(), NoMemory>
 }
 
 /// Appends a frame as it stands in a replay.
-#[tactic(auto, using(wire_bytes::specs::WriteLemmas::written), unfolding(crate::specs::PartBytes::part_bytes))]
+#[tactic(auto, using(wire_bytes::proofs::WriteLemmas::written), unfolding(crate::specs::PartBytes::part_bytes))]
 pub(crate) fn append_frame(out: &mut Vec<u8>, frame: &Frame) -> Result<(), NoMemory>
     ensures ok { OnOk result
         (out.new.items ≡ out.old.items ++ part_bytes (part.Frame frame.now)) }
@@ -53,7 +53,7 @@ pub(crate) fn append_frame(out: &mut Vec<u8>, frame: &Frame) -> Result<(), NoMem
 }
 
 /// Appends a mark.
-#[tactic(auto, using(wire_bytes::specs::WriteLemmas::written))]
+#[tactic(auto, using(wire_bytes::proofs::WriteLemmas::written))]
 pub(crate) fn append_mark(out: &mut Vec<u8>, hash: u64) -> Result<(), NoMemory>
     ensures ok { OnOk result (out.new.items ≡ out.old.items ++ (field_bytes 1 2
         ++ field_bytes 8 hash)) }
@@ -64,7 +64,7 @@ pub(crate) fn append_mark(out: &mut Vec<u8>, hash: u64) -> Result<(), NoMemory>
 }
 
 /// Appends a part of this kind as it stands in a replay.
-#[tactic(auto, using(wire_bytes::specs::WriteLemmas::written), unfolding(crate::specs::PartBytes::part_bytes))]
+#[tactic(auto, using(wire_bytes::proofs::WriteLemmas::written), unfolding(crate::specs::PartBytes::part_bytes))]
 pub(crate) fn append_part(out: &mut Vec<u8>, kind: PartKind, frame: &Frame) -> Result<(), NoMemory>
     ensures ok { OnOk result (out.new.items ≡ out.old.items ++ part_bytes (part_of kind frame.now)) }
     ensures err { OnErr result (Extends out.old.items out.new.items) }
@@ -76,7 +76,7 @@ pub(crate) fn append_part(out: &mut Vec<u8>, kind: PartKind, frame: &Frame) -> R
 }
 
 /// Appends a frame as it is stored, with the number of its entries.
-#[tactic(auto, using(wire_bytes::specs::WriteLemmas::written), unfolding(crate::specs::PartStore::stored_bytes))]
+#[tactic(auto, using(wire_bytes::proofs::WriteLemmas::written), unfolding(crate::specs::PartStore::stored_bytes))]
 fn append_stored_frame(out: &mut Vec<u8>, frame: &Frame) -> Result<(), NoMemory>
     ensures ok { OnOk result (out.new.items ≡ out.old.items ++ stored_bytes (part.Frame frame.now)) }
     ensures err { OnErr result (Extends out.old.items out.new.items) }

@@ -77,7 +77,7 @@ fn read_parts(
 }
 
 /// Reads a header, and the parts up to the end of the bytes.
-#[tactic(auto, using(crate::specs::WholeLemmas::reading_steps))]
+#[tactic(auto, using(crate::proofs::WholeLemmas::reading_steps))]
 fn read_whole(alloc: Global, bytes: &[u8], here: u64) -> Result<Replay, ReplayFault>
     ensures { AnswersTo here bytes.now result }
 {
@@ -104,7 +104,7 @@ fn read_whole(alloc: Global, bytes: &[u8], here: u64) -> Result<Replay, ReplayFa
 /// mark, an entry that is neither 0 nor 1, a play of a departed client, a number of orders above
 /// `MAX_ORDERS`, an order's bad tag or flag, and after the last entry a frame without a play. Last
 /// `TrailingBytes`, at the first byte after the end. Out of memory may take the place of any answer.
-#[tactic(auto, using(crate::specs::WholeLemmas::only_reading, crate::specs::ReadingLemmas::answer_read))]
+#[tactic(auto, using(crate::proofs::WholeLemmas::only_reading, crate::proofs::ReadingLemmas::answer_read))]
 pub fn read_replay(alloc: Global, bytes: &[u8], here: u64) -> Result<Replay, ReplayFault>
     ensures value { ReturnsRead result (read_of here bytes.now) }
     ensures accepted { IfOk result (Spells here bytes.now) }

@@ -15,7 +15,7 @@ use std::alloc::Global;
 use wire_bytes::{write_u8, write_u16, write_u32, write_u64};
 
 /// Appends the header of a replay.
-#[tactic(auto, using(wire_bytes::specs::WriteLemmas::written), unfolding(crate::specs::ReplayBytes::header_bytes))]
+#[tactic(auto, using(wire_bytes::proofs::WriteLemmas::written), unfolding(crate::specs::ReplayBytes::header_bytes))]
 pub(crate) fn append_header(
     out: &mut Vec<u8>,
     version: u16,
@@ -34,7 +34,7 @@ pub(crate) fn append_header(
 }
 
 /// Appends parts one after the other.
-#[tactic(auto, using(crate::specs::ReplayLemmas::writing_step))]
+#[tactic(auto, using(crate::proofs::ReplayLemmas::writing_step))]
 fn append_parts(out: &mut Vec<u8>, parts: &Parts) -> Result<(), NoMemory>
     ensures { OnOk result (out.new.items ≡ out.old.items ++ parts_bytes parts.now) }
 {

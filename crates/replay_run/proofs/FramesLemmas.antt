@@ -11,7 +11,7 @@ use Rattle.replay_file.specs.declared.replay.Replay.{Replay}
 use Rattle.replay_file.specs.Frames.{frames_of, marks_after}
 use Rattle.replay_run.specs.Playing.{after_frame, TakesFrame}
 use Rattle.replay_run.specs.Rerun.{frame_count}
-use Rattle.replay_run.specs.RerunLemmas.{next_frame}
+use Rattle.replay_run.proofs.RerunLemmas.{next_frame}
 use Rattle.replay_run.specs.Skipping.{IsSkipped}
 
 -- No mark that has `from` frames before it stands before the next frame.

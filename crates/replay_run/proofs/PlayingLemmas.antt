@@ -4,17 +4,17 @@ use Rattle.std.specs.Prelude.{Option, unwrap_or}
 use Rattle.std.specs.List.{AllByRecursion}
 use Rattle.std.proofs.Common.{sym, ap, ap₂, subst, ◌∙◌, arith}
 use Rattle.game_orders.specs.declared.entry.Entry.{Entry}
-use Rattle.frame_core.specs.FoldLemmas.{folded_step}
+use Rattle.frame_core.proofs.FoldLemmas.{folded_step}
 use Rattle.replay_file.specs.declared.part.Part.{Part}
 use Rattle.replay_file.specs.declared.replay.Replay.{Replay}
 use Rattle.replay_file.specs.Frames.{frames_of}
 use Rattle.replay_file.specs.RuleLaws.{IsFrameOf}
-use Rattle.replay_file.specs.ValidLemmas.{valid_obeys}
+use Rattle.replay_file.proofs.ValidLemmas.{valid_obeys}
 use Rattle.replay_file.specs.ValidReplay.{IsValidReplay}
 use Rattle.replay_run.specs.Playing.{playback_of, played, FitsPlayback, IsPlayback, PlaybackState}
 use Rattle.replay_run.specs.Playing.{PlaysOn, TakesFrame, taken_frame}
 use Rattle.replay_run.specs.Rerun.{frame_in}
-use Rattle.replay_run.specs.RerunLemmas.{few_in_all, next_frame}
+use Rattle.replay_run.proofs.RerunLemmas.{few_in_all, next_frame}
 
 -- Where a frame was taken it is the first of those that were left.
 pub took_frame :

@@ -7,21 +7,21 @@ use Rattle.std.proofs.Common.{refl, sym, ap, ap₂, subst, ◌∙◌, arith, inl
 use Rattle.std.proofs.lemmas.Bool.Decides.{nat_tests}
 use Rattle.game_orders.specs.declared.entry.Entry.{Entry}
 use Rattle.frame_core.specs.Column.{Column}
-use Rattle.frame_core.specs.FoldLemmas.{folded_same}
+use Rattle.frame_core.proofs.FoldLemmas.{folded_same}
 use Rattle.frame_core.specs.Match.{Match, agreed_world}
 use Rattle.frame_core.specs.Ready.{frame_at}
 use Rattle.replay_file.specs.declared.part.Part.{Part}
 use Rattle.replay_file.specs.declared.part.Part.TheVariants.{Frame, Mark}
 use Rattle.replay_file.specs.declared.replay.Replay.{Replay}
 use Rattle.replay_file.specs.Frames.{frames_of, marks_after, marks_of}
-use Rattle.replay_file.specs.MigratedLemmas.{anew, migrated_frames, migrated_marks}
+use Rattle.replay_file.proofs.MigratedLemmas.{anew, migrated_frames, migrated_marks}
 use Rattle.replay_run.specs.declared.difference.Difference.{Difference}
 use Rattle.replay_run.specs.RecordLaws.{AllAgree, IsLeastDifference, agreed_replayed, rerun_of}
 use Rattle.replay_run.specs.Recording.{hash_after_frame, recorded, replay_of}
 use Rattle.replay_run.specs.Rerun.{Rerun, differs, difference_at, difference_of, first_difference}
 use Rattle.replay_run.specs.Rerun.{marks_from}
 use Rattle.replay_run.specs.Rerun.{frame_count, frame_in, hash_in, migrated_over, replayed, world_in}
-use Rattle.replay_run.specs.RerunLemmas.{kept_marks, same_replayed}
+use Rattle.replay_run.proofs.RerunLemmas.{kept_marks, same_replayed}
 
 -- ---- the least difference
 

@@ -13,7 +13,7 @@ use Rattle.replay_run.specs.Rerun.{Rerun, differs, first_difference, frame_count
 use Rattle.replay_run.specs.Rerun.{frame_in, hash_from, hash_in, mark_hash, marks_before}
 use Rattle.replay_run.specs.Rerun.{replayed, replayed_from, replayed_late, resumed_at, world_from}
 use Rattle.replay_run.specs.Rerun.{world_in}
-use Rattle.replay_run.specs.RerunLemmas.{same_differences, same_replayed}
+use Rattle.replay_run.proofs.RerunLemmas.{same_differences, same_replayed}
 
 -- A fold over the first frames, and on over the others.
 folded_on :

@@ -5,7 +5,7 @@ use Rattle.std.specs.List.{AllByRecursion, filter}
 use Rattle.std.proofs.Common.{refl, sym, ap, ap₂, subst, ◌∙◌, arith, add-one}
 use Rattle.std.proofs.lemmas.Bool.Decides.{nat_tests}
 use Rattle.game_orders.specs.declared.entry.Entry.{Entry}
-use Rattle.frame_core.specs.FoldLemmas.{folded_step}
+use Rattle.frame_core.proofs.FoldLemmas.{folded_step}
 use Rattle.replay_file.specs.declared.part.Part.{Part}
 use Rattle.replay_file.specs.declared.part.Part.TheVariants.{Frame, Mark}
 use Rattle.replay_file.specs.declared.replay.Replay.{Replay}
@@ -17,8 +17,8 @@ use Rattle.replay_run.specs.Passing.{compared, first_of, passed, FitsPass}
 use Rattle.replay_run.specs.Playing.{FitsPlayback}
 use Rattle.replay_run.specs.Rerun.{Rerun, first_difference, frame_count, frame_in, hash_in}
 use Rattle.replay_run.specs.Rerun.{mark_hash, marks_before, replayed, world_in}
-use Rattle.replay_run.specs.RerunLemmas.{difference_cons, first_of_assoc, first_of_none}
-use Rattle.replay_run.specs.RerunLemmas.{same_replayed}
+use Rattle.replay_run.proofs.RerunLemmas.{difference_cons, first_of_assoc, first_of_none}
+use Rattle.replay_run.proofs.RerunLemmas.{same_replayed}
 use Rattle.replay_run.specs.Stepping.{from_frame, has_frame, head_marks, past_marks, replayed_to}
 use Rattle.replay_run.specs.Stepping.{stepped, stepped_by, stepped_to, FitsSteps, StepState, StepsFrom}
 use Rattle.replay_run.proofs.PlayingLemmas.{begins_fit as playback_fits}

@@ -1,12 +1,9 @@
 pub mod Migrating
-pub mod MigratingLemmas
 pub mod Passing
 pub mod Playing
 pub mod RecordLaws
 pub mod Recording
-pub mod RecordingLemmas
 pub mod Rerun
-pub mod RerunLemmas
 pub mod Shown
 pub mod Skipping
 pub mod Stepping

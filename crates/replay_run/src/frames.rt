@@ -23,7 +23,7 @@ pub(crate) fn next_frame(left: &mut PartCursor<'_>, frame: &mut Frame) -> bool
 }
 
 /// The number of frames of a valid replay, at most `MAX_FRAMES`.
-#[tactic(auto, using(crate::specs::RerunLemmas::few_in_all))]
+#[tactic(auto, using(crate::proofs::RerunLemmas::few_in_all))]
 pub fn frame_count(r: &Replay) -> u32
     requires { IsValidReplay r.now }
     ensures { result ≡ frame_count r.now }

@@ -60,7 +60,7 @@ fn write_anew<S: Sim>(
 /// Runs a valid replay over an opening world of its clients, which has made no step, and writes it
 /// in the version that is written, with the same frames and with the world's hash at each mark.
 /// It ends at the first mark that differs. Out of memory is the only error.
-#[tactic(auto, using(crate::specs::RerunLemmas::replay_steps, crate::specs::MigratingLemmas::migrate_steps))]
+#[tactic(auto, using(crate::proofs::RerunLemmas::replay_steps, crate::proofs::MigratingLemmas::migrate_steps))]
 pub fn migrate<S: FirstHash>(alloc: Global, world: S, r: &Replay) -> Result<Migration, NoMemory>
     requires valid { IsValidReplay r.now }
     requires clients { S.clients_of world ≡ r.now.clients }

@@ -9,7 +9,7 @@ use game_orders::Frame;
 use replay_file::Replay;
 
 /// Runs a valid replay over an opening world of its clients, which has made no step.
-#[tactic(auto, using(crate::specs::RerunLemmas::from_start))]
+#[tactic(auto, using(crate::proofs::RerunLemmas::from_start))]
 pub fn run_replay<S: FirstHash>(world: S, r: &Replay) -> Replayed<S>
     requires valid { IsValidReplay r.now }
     requires clients { S.clients_of world ≡ r.now.clients }
@@ -23,7 +23,7 @@ pub fn run_replay<S: FirstHash>(world: S, r: &Replay) -> Replayed<S>
 /// Runs the frames of a valid replay from `from` on, over a world of its clients that has made
 /// `from` steps, as after the first `from` frames of a replay. The replay has so many. The frames
 /// before are skipped, and the marks that have fewer frames before them; all frames count.
-#[tactic(auto, using(crate::specs::RerunLemmas::replay_steps))]
+#[tactic(auto, using(crate::proofs::RerunLemmas::replay_steps))]
 pub fn run_replay_from<S: FirstHash>(world: S, from: u32, r: &Replay) -> Replayed<S>
     requires valid { IsValidReplay r.now }
     requires clients { S.clients_of world ≡ r.now.clients }

@@ -6,7 +6,7 @@ use Rattle.game_model.specs.declared.world.World.{World}
 use Rattle.game_model.specs.Setup.{Setup}
 use Rattle.game_model.specs.World.{clients_of, start_of}
 use Rattle.game_orders.specs.declared.entry.Entry.{Entry}
-use Rattle.game_tick.specs.KeepsLemmas.{tick_keeps}
+use Rattle.game_tick.proofs.KeepsLemmas.{tick_keeps}
 use Rattle.frame_core.specs.Fold.{folded}
 use Rattle.replay_file.specs.declared.replay.Replay.{Replay}
 use Rattle.replay_run.specs.Rerun.{frame_in}

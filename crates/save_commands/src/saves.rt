@@ -46,7 +46,7 @@ fn save_of(alloc: Global, number: u64, game: &Game) -> Result<Vec<u8>, NoMemory>
 }
 
 /// The save of the world after the first `frames` frames of a replay, which has so many.
-#[tactic(auto, using(replay_file::specs::WholeLemmas::few_clients))]
+#[tactic(auto, using(replay_file::proofs::WholeLemmas::few_clients))]
 fn save_after(
     alloc: Global,
     frames: u32,

@@ -7,7 +7,7 @@ use Rattle.std.proofs.lemmas.Bool.{leb-true, ltb-false, ltb-true}
 use Rattle.std.proofs.lemmas.List.{append-nil, get_or-drop, take-append-drop, length-append}
 use Rattle.base.specs.Steps.{◌>>=◌}
 use Rattle.wire_bytes.specs.Field.{field_bytes, field_number, AreBytes}
-use Rattle.wire_bytes.specs.FieldLemmas.{field_bytes_back}
+use Rattle.wire_bytes.proofs.FieldLemmas.{field_bytes_back}
 use Rattle.wire_bytes.specs.Read.{field_at, with_fault}
 use Rattle.game_save.specs.declared.save_fault.SaveFault.{SaveFault}
 use Rattle.game_save.specs.declared.save_fault.SaveFault.TheVariants.{BadWorld}

@@ -1,1 +1,3 @@
 pub mod ClosedLemmas
+pub mod RecordsLemmas
+pub mod ServeLemmas

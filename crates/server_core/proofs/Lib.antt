@@ -1,1 +1,4 @@
 pub mod ServerLemmas
+pub mod AlarmLemmas
+pub mod BoardLemmas
+pub mod ServedLemmas

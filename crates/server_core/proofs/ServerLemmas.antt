@@ -2,7 +2,7 @@
 use Rattle.std.proofs.Common.{◌≡◌, ℕ, suc, List, [], ◌∷◌, length, refl, ap, sym, ◌∙◌}
 use Rattle.frame_core.specs.Column.{Column}
 use Rattle.frame_core.specs.Grows.{Grows}
-use Rattle.frame_core.specs.AgreedLemmas.{AreReady-grow}
+use Rattle.frame_core.proofs.AgreedLemmas.{AreReady-grow}
 use Rattle.server_core.specs.Server.{ServerState, IsServer}
 
 -- Columns that grow stay as many.

@@ -59,7 +59,7 @@ impl Board {
     /// Takes a report of client `c` that its world has hash `h` after frame `n`. `Beyond` exactly
     /// where `n` is `MAX_FRAMES` or more. Else `Repeat` exactly where a report of the client for
     /// the frame is kept, which stays. Else `Kept`, and no other answer changes anything.
-    #[tactic(auto, using(crate::specs::BoardLemmas::keeps_first))]
+    #[tactic(auto, using(crate::proofs::BoardLemmas::keeps_first))]
     pub fn reported(&mut self, c: u8, n: u32, h: u64) -> Result<Reported, NoMemory>
         requires { c < length self.old.reports }
         ensures answer { IfOk result (λ answer.
@@ -89,7 +89,7 @@ impl Board {
 
     /// The least frame for which a report of client `c` is kept and a hash is wanted that differ,
     /// with both hashes. None exactly where there is no such frame.
-    #[tactic(auto, using(crate::specs::AlarmLemmas::least_alarm))]
+    #[tactic(auto, using(crate::proofs::AlarmLemmas::least_alarm))]
     pub fn alarm(&self, c: u8) -> Option<Alarm>
         requires { c < length self.now.reports }
         ensures value { result ≡ alarm_of (reports_of self.now.reports c) self.now.wanted }

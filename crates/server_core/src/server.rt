@@ -65,7 +65,7 @@ impl<S: Sim> Model for Server<S> {
 impl<S: Sim> Server<S> {
     /// The server of a match of 1 to `MAX_CLIENTS` clients, over a world of as many clients that
     /// has made no step.
-    #[tactic(auto, using(frame_core::specs::AgreedLemmas::no_frames_ready))]
+    #[tactic(auto, using(frame_core::proofs::AgreedLemmas::no_frames_ready))]
     pub fn create(alloc: Global, clients: u8, sim: S) -> Result<Server<S>, NoMemory>
         requires least { 1 ≤ clients }
         requires most { clients ≤ MAX_CLIENTS }
@@ -123,7 +123,7 @@ impl<S: Sim> Server<S> {
     /// it. `Over` exactly where all have left by then. Only `Ticked` changes anything: the world
     /// makes one step by the agreed frame, the count grows by one, and the world's hash is the next
     /// mark.
-    #[tactic(auto, using(frame_core::specs::AgreedLemmas::one_more_ready))]
+    #[tactic(auto, using(frame_core::proofs::AgreedLemmas::one_more_ready))]
     pub fn tick(&mut self) -> Result<TickAnswer, NoMemory>
         ensures answer { IfOk result (λ answer.
             answer ≡ tick_answer (ready_at self.old.columns self.old.ticked) self.old.ticked) }

@@ -4,3 +4,5 @@ mod ChangeLemmas
 mod RowLemmas
 mod TallyLemmas
 mod ShownLemmas
+pub mod GridsLemmas
+pub mod LawsLemmas

@@ -11,7 +11,7 @@ use Rattle.game_model.specs.Grid.{Grid, IsOn}
 use Rattle.shroud.specs.declared.spot.Spot.{Spot}
 use Rattle.shroud.specs.declared.viewer.Viewer.{Viewer}
 use Rattle.shroud.specs.Grids.{flag_of, grids_of}
-use Rattle.shroud.specs.GridsLemmas.{flag_is, same_grids}
+use Rattle.shroud.proofs.GridsLemmas.{flag_is, same_grids}
 use Rattle.shroud.specs.ShroudState.{ShroudState, explored_by, nowhere, shrouded, updated}
 use Rattle.shroud.specs.Sights.{is_seen, sees}
 use Rattle.shroud.specs.Spots.{dark, place_in, spot_at, SpotState}

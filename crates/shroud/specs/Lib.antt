@@ -1,10 +1,8 @@
 pub mod Explored
 pub mod Grids
-pub mod GridsLemmas
 pub mod Sights
 pub mod ShroudState
 pub mod Laws
-pub mod LawsLemmas
 pub mod Viewers
 pub mod Discs
 pub mod Spots

@@ -86,7 +86,7 @@ impl Shroud {
     }
 
     /// Whether a client sees a cell of the map now.
-    #[tactic(auto, using(crate::specs::GridsLemmas::flag_is))]
+    #[tactic(auto, using(crate::proofs::GridsLemmas::flag_is))]
     pub fn seen(&self, c: u8, p: CPos) -> bool
         requires client { c < self.now.clients }
         requires cell { IsOn self.now.width self.now.height p }
@@ -97,7 +97,7 @@ impl Shroud {
     }
 
     /// Whether a client ever saw a cell of the map: in one of the updates so far.
-    #[tactic(auto, using(crate::specs::GridsLemmas::flag_is))]
+    #[tactic(auto, using(crate::proofs::GridsLemmas::flag_is))]
     pub fn explored(&self, c: u8, p: CPos) -> bool
         requires client { c < self.now.clients }
         requires cell { IsOn self.now.width self.now.height p }

@@ -7,11 +7,11 @@ use Rattle.std.proofs.lemmas.Bool.Decides.{nat_tests}
 use Rattle.std.proofs.lemmas.List.Elements.{All-from_recursion, All-head, All-tail, recursion_from_All}
 use Rattle.std.proofs.lemmas.List.Sorted.{All-permutation, IsPermutation-sym}
 use Rattle.wire_bytes.specs.Field.{field_bytes}
-use Rattle.wire_bytes.specs.FieldLemmas.{field_length}
+use Rattle.wire_bytes.proofs.FieldLemmas.{field_length}
 use Rattle.world_units.specs.declared.cell.CPos.{CPos}
 use Rattle.game_model.specs.declared.actor.Actor.{Actor}
 use Rattle.game_model.specs.declared.world.World.{World}
-use Rattle.game_model.specs.StartLemmas.{pairs_head, pairs_tail}
+use Rattle.game_model.proofs.StartLemmas.{pairs_head, pairs_tail}
 use Rattle.game_model.specs.World.{head_of, world_with}
 use Rattle.sync_hash.specs.AnyOrder.{AreComparable, IsNoActorOf, header_of}
 use Rattle.sync_hash.specs.FitsFields.{ActorFits}

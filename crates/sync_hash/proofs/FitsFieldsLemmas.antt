@@ -5,7 +5,7 @@ use Rattle.std.proofs.lemmas.List.{append_assoc, append_cancel_left}
 use Rattle.std.proofs.lemmas.List.Elements.{recursion_from_All}
 use Rattle.std.specs.List.{AllByRecursion, zip, flat_map}
 use Rattle.wire_bytes.specs.Field.{field_bytes, field_number}
-use Rattle.wire_bytes.specs.FieldLemmas.{field_reads_back}
+use Rattle.wire_bytes.proofs.FieldLemmas.{field_reads_back}
 use Rattle.std.proofs.lemmas.Nat.{div-add-mod'}
 use Rattle.std.proofs.lemmas.Bool.Decides.{nat_tests}
 use Rattle.world_units.specs.declared.cell.CPos.{CPos}

@@ -3,3 +3,4 @@ pub mod NumbersLemmas
 pub mod SumLemmas
 pub mod FitsFieldsLemmas
 pub mod AnyOrderLemmas
+pub mod KeptLemmas

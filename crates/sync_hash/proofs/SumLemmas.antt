@@ -7,7 +7,7 @@ use Rattle.game_model.specs.Grid.{Grid}
 use Rattle.game_model.specs.World.{head_of}
 use Rattle.sync_hash.specs.Fnv.{fnv_of}
 use Rattle.sync_hash.specs.HashedBytes.{header_bytes, header_bytes_1}
-use Rattle.sync_hash.specs.KeptLemmas.{kept_hash, kept_hash_1, parts_sum}
+use Rattle.sync_hash.proofs.KeptLemmas.{kept_hash, kept_hash_1, parts_sum}
 use Rattle.sync_hash.specs.WorldHash.{hash_of, hash_of_1, IsLent}
 use Rattle.sync_hash.specs.Kept.{Kept, IsKeptOf, cell_numbers, hash_with, hash_with_1, parts_number, sum_of}
 

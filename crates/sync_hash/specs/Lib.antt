@@ -3,5 +3,4 @@ pub mod HashedBytes
 pub mod WorldHash
 pub mod AnyOrder
 pub mod Kept
-pub mod KeptLemmas
 pub mod FitsFields

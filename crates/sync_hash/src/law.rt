@@ -30,7 +30,7 @@ pub fn parts_tell_the_world_in_any_order()
 
 /// A law of hashers: one that keeps the numbers of a world's actors and cells gives the hash of
 /// that world, asked with its head.
-#[tactic(auto, using(crate::specs::KeptLemmas::kept_hash))]
+#[tactic(auto, using(crate::proofs::KeptLemmas::kept_hash))]
 pub fn kept_numbers_give_the_hash()
     ensures { (kept : Kept) (w : World) → IsKeptOf kept w.actors w.ore →
         hash_with kept (head_of w) ≡ hash_of w }

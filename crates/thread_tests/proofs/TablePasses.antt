@@ -16,7 +16,7 @@ use Rattle.frame_table.specs.Passes.{kept_mark, given_marks, kept_view, given_vi
 use Rattle.frame_table.specs.Steps.{MayEnd, loaded}
 use Rattle.frame_table.specs.Calls.{plan_of, view_of, IsPassOf, MayPut, MayPutPlay, MayLeaveBy, Acted, IsLater, IsLaterPart}
 use Rattle.thread_tests.specs.Tables.{IsFreePass, IsFeedingPass}
-use Rattle.frame_table.specs.PassesLemmas.{first_at, handed}
+use Rattle.frame_table.proofs.PassesLemmas.{first_at, handed}
 
 pub free_may_put : (p : Part) (n : ℕ) (e : Entry) → p.planned ≡ Free → p.feeds ≡ true → MayPut p n e
 free_may_put p n (Play orders) free feeds = subst (λ q. MayPutPlay q p n orders) (sym free) (inl feeds)

@@ -7,11 +7,11 @@ use Rattle.std.proofs.lemmas.Bool.Decides.{nat_tests}
 use Rattle.std.proofs.lemmas.List.Elements.{All-nil, All-cons, All-head, All-tail, All-weaker, All-filter, filter-append}
 use Rattle.std.proofs.lemmas.Option.{get_or_from_slice_get, slice_get_within}
 use Rattle.game_model.specs.declared.actor.Actor.{Actor}
-use Rattle.game_model.specs.StartLemmas.{pairs_head, pairs_tail}
+use Rattle.game_model.proofs.StartLemmas.{pairs_head, pairs_tail}
 use Rattle.game_model.specs.World.{is_alive}
 use Rattle.sync_hash.specs.declared.actor_number.ActorNumber.{ActorNumber}
 use Rattle.sync_hash.specs.Kept.{Kept, numbered, without_number}
-use Rattle.sync_hash.specs.KeptLemmas.{without_numbered}
+use Rattle.sync_hash.proofs.KeptLemmas.{without_numbered}
 use Rattle.tick_core.specs.Burial.{without_dead}
 use Rattle.tick_core.proofs.TickLemmas.{drop_at}
 

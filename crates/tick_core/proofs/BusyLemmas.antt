@@ -24,20 +24,20 @@ use Rattle.game_model.specs.ValidMap.{IsSetup}
 use Rattle.game_model.specs.ValidWorld.{IsActivityOf}
 use Rattle.game_model.specs.Kinds.{capacity_in, load_delay_in, unload_delay_in, kind_of}
 use Rattle.game_model.specs.World.{actor_of, clients_of, ids_of, is_alive, living_of}
-use Rattle.game_tick.specs.ActorsLemmas.{step_actors}
+use Rattle.game_tick.proofs.ActorsLemmas.{step_actors}
 use Rattle.game_tick.specs.Building.{after_build}
 use Rattle.game_tick.specs.Harvesting.{Harvested, after_deliver, after_harvest, after_search, is_beside, nearest_refinery, delivered_to}
-use Rattle.game_tick.specs.StepKeepsLemmas.{dead_stay, step_keeps, steps_keep}
-use Rattle.game_tick.specs.IdleLemmas.{idle_stays, living_changed}
+use Rattle.game_tick.proofs.StepKeepsLemmas.{dead_stay, step_keeps, steps_keep}
+use Rattle.game_tick.proofs.IdleLemmas.{idle_stays, living_changed}
 use Rattle.game_tick.specs.Nearest.{nearest_ore, ore_at}
 use Rattle.game_tick.specs.Turn.{after_first, after_step, after_steps, after_turn, after_way, blocks_of, buried, harvest_of, reloaded, with_build, with_reload, with_way}
-use Rattle.game_tick.specs.TurnLemmas.{length-ids_of, living_steps}
-use Rattle.game_tick.specs.SoundLemmas.{body_of}
-use Rattle.game_model.specs.FoundLemmas.{IdsRise}
-use Rattle.game_model.specs.LivingLemmas.{found_at, living_actor, living_found}
+use Rattle.game_tick.proofs.TurnLemmas.{length-ids_of, living_steps}
+use Rattle.game_tick.proofs.SoundLemmas.{body_of}
+use Rattle.game_model.proofs.FoundLemmas.{IdsRise}
+use Rattle.game_model.proofs.LivingLemmas.{found_at, living_actor, living_found}
 use Rattle.sync_hash.specs.declared.actor_number.ActorNumber.{ActorNumber}
 use Rattle.sync_hash.specs.Kept.{IsKeptOf, Kept, cell_number, cell_numbers, numbered}
-use Rattle.sync_hash.specs.KeptLemmas.{ore_numbered}
+use Rattle.sync_hash.proofs.KeptLemmas.{ore_numbered}
 use Rattle.tick_core.specs.Live.{Standing}
 use Rattle.tick_core.specs.Scene.{HasNoBuilds, IsActing, IsLoaded, prepared, prepared_if}
 use Rattle.actor_table.specs.Idle.{IsIdle}

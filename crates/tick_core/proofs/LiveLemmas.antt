@@ -8,8 +8,8 @@ use Rattle.std.proofs.lemmas.List.Elements.{All-cons, All-head, All-nil, All-tai
 use Rattle.rule_traits.specs.declared.kind.Kind.{Kind}
 use Rattle.rule_traits.specs.Rules.{kind_at}
 use Rattle.game_model.specs.declared.actor.Actor.{Actor}
-use Rattle.game_model.specs.FoundLemmas.{IdsRise}
-use Rattle.game_model.specs.LivingLemmas.{found_at}
+use Rattle.game_model.proofs.FoundLemmas.{IdsRise}
+use Rattle.game_model.proofs.LivingLemmas.{found_at}
 use Rattle.game_model.specs.ValidWorld.{IsHealthOf, IsHealthy}
 use Rattle.game_model.specs.World.{actor_of, is_alive}
 use Rattle.game_tick.specs.Turn.{buried}

@@ -20,13 +20,13 @@ use Rattle.game_model.specs.Grid.{Grid}
 use Rattle.game_model.specs.Setup.{Setup}
 use Rattle.game_model.specs.World.{living_of}
 use Rattle.game_model.specs.Kinds.{kind_of}
-use Rattle.game_tick.specs.ChangesLemmas.{id_of_living}
+use Rattle.game_tick.proofs.ChangesLemmas.{id_of_living}
 use Rattle.game_tick.specs.Nearest.{cell_of}
 use Rattle.game_tick.specs.Orders.{Doing, Goods, after_donation, after_order, attacking, cancelled, changed_if, donation_fits, goods_of, harvesting, last_of, moving, own_of, pace_fits, produce_fits, produced, stopping, with_cancel, with_produce}
-use Rattle.game_tick.specs.OrdersLemmas.{order_valid}
-use Rattle.game_tick.specs.OwnActorLemmas.{owned_living}
+use Rattle.game_tick.proofs.OrdersLemmas.{order_valid}
+use Rattle.game_tick.proofs.OwnActorLemmas.{owned_living}
 use Rattle.game_tick.specs.Turn.{blocks_of, dice_of}
-use Rattle.game_tick.specs.TurnLemmas.{mid_from_valid}
+use Rattle.game_tick.proofs.TurnLemmas.{mid_from_valid}
 use Rattle.actor_table.specs.Table.{Table}
 use Rattle.grid_routes.specs.Routing.{Routing}
 use Rattle.sync_hash.specs.declared.actor_number.ActorNumber.{ActorNumber}

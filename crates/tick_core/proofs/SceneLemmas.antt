@@ -15,21 +15,21 @@ use Rattle.game_model.specs.declared.actor.Leg.{Leg}
 use Rattle.game_model.specs.declared.world.World.{World}
 use Rattle.game_model.specs.Grid.{Grid, IsOn}
 use Rattle.game_model.specs.Setup.{Setup}
-use Rattle.game_tick.specs.ValidWorldLemmas.{filter_ready}
+use Rattle.game_tick.proofs.ValidWorldLemmas.{filter_ready}
 use Rattle.game_model.specs.ValidWorld.{IsActivityOf, IsLegOf}
 use Rattle.game_model.specs.World.{actor_of, clients_of, is_alive, living_of}
 use Rattle.game_model.specs.Kinds.{kind_of}
-use Rattle.game_tick.specs.BlocksLemmas.{build_blocks, reload_blocks, way_blocks}
+use Rattle.game_tick.proofs.BlocksLemmas.{build_blocks, reload_blocks, way_blocks}
 use Rattle.game_tick.specs.Attacking.{Fought, after_attack, fought_with, is_in_range}
 use Rattle.game_tick.specs.Building.{Built, after_build}
-use Rattle.game_tick.specs.ChangesLemmas.{id_of_living}
+use Rattle.game_tick.proofs.ChangesLemmas.{id_of_living}
 use Rattle.game_tick.specs.Harvesting.{Harvested}
 use Rattle.game_tick.specs.MidTurn.{IsHurt, IsMidTurn}
 use Rattle.game_tick.specs.Moving.{after_leg}
-use Rattle.game_tick.specs.SoundLemmas.{body_of}
+use Rattle.game_tick.proofs.SoundLemmas.{body_of}
 use Rattle.game_tick.specs.Turn.{after_activity, after_first, after_way, blocks_of, buried, dice_of, harvest_of, with_build, with_harvested, with_reload, with_way}
-use Rattle.game_tick.specs.TurnLemmas.{build_mid, living_steps, reload_mid, way_mid}
-use Rattle.game_model.specs.LivingLemmas.{living_actor}
+use Rattle.game_tick.proofs.TurnLemmas.{build_mid, living_steps, reload_mid, way_mid}
+use Rattle.game_model.proofs.LivingLemmas.{living_actor}
 use Rattle.actor_table.specs.Table.{Table}
 use Rattle.grid_routes.specs.Routing.{AreSized, IsSameSight, LooksAt, Routing}
 use Rattle.combat.specs.Attacks as combat

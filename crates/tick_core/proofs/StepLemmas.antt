@@ -29,7 +29,7 @@ use Rattle.game_tick.specs.declared.moving.Moving.TheVariants.{Going, GivenUp}
 use Rattle.game_tick.specs.Acts.{popped, with_first}
 use Rattle.game_tick.specs.Attacking.{Fought, after_attack, fought_with, hit_by, is_in_range, points_of, reloading}
 use Rattle.game_tick.specs.Building.{Built, after_build, built_first, came_out, exit_of, finished, has_room}
-use Rattle.game_tick.specs.ChangesLemmas.{id_of_living}
+use Rattle.game_tick.proofs.ChangesLemmas.{id_of_living}
 use Rattle.game_tick.specs.Harvesting.{Harvested, after_deliver, after_harvest, after_loading, after_search, after_unloading, delivered_to, is_beside, nearest_refinery}
 use Rattle.game_tick.specs.Moving.{Moved, after_move, gone_on, gone_towards, moved_in, moved_into, moved_towards, set_out}
 use Rattle.game_tick.specs.Nearest.{nearest_ore, ore_at}

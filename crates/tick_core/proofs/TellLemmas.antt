@@ -9,10 +9,10 @@ use Rattle.game_model.specs.declared.limits.TheConstants.{MAX_ACTORS}
 use Rattle.game_model.specs.declared.world.World.{World}
 use Rattle.game_model.specs.Grid.{Grid}
 use Rattle.game_model.specs.World.{actor_of, is_alive}
-use Rattle.game_model.specs.FoundLemmas.{found_id, IdsRise}
+use Rattle.game_model.proofs.FoundLemmas.{found_id, IdsRise}
 use Rattle.actor_table.specs.Rising.{RisesFrom}
 use Rattle.sync_hash.specs.Kept.{IsKeptOf, Kept, actor_number, has_id, kept_of, numbered, with_number}
-use Rattle.sync_hash.specs.KeptLemmas.{kept_begins}
+use Rattle.sync_hash.proofs.KeptLemmas.{kept_begins}
 use Rattle.tick_core.specs.Burial.{AreNumberedIf, without_dead_if}
 use Rattle.sync_hash.specs.declared.actor_number.ActorNumber.{ActorNumber}
 use Rattle.tick_core.proofs.TouchedLemmas.{has_place, told, untold}

@@ -11,15 +11,15 @@ use Rattle.game_orders.specs.declared.entry.Entry.{Entry}
 use Rattle.game_orders.specs.declared.entry.Entry.TheVariants.{Play, Leave}
 use Rattle.game_model.specs.declared.actor.Actor.{Actor}
 use Rattle.game_model.specs.declared.world.World.{World}
-use Rattle.game_tick.specs.KeepsLemmas.{entry_keeps, order_keeps}
+use Rattle.game_tick.proofs.KeepsLemmas.{entry_keeps, order_keeps}
 use Rattle.game_model.specs.World.{clients_of, ids_of}
 use Rattle.game_tick.specs.Orders.{after_order, after_orders}
 use Rattle.game_tick.specs.Tick.{after_entry, after_entries, after_turns, with_orders}
 use Rattle.game_tick.specs.Turn.{after_turn}
 use Rattle.tick_core.specs.Departures.{departed_by}
-use Rattle.game_tick.specs.StepKeepsLemmas.{steps_keep}
-use Rattle.game_tick.specs.OrdersLemmas.{order_valid}
-use Rattle.game_tick.specs.TickLemmas.{entry_valid}
+use Rattle.game_tick.proofs.StepKeepsLemmas.{steps_keep}
+use Rattle.game_tick.proofs.OrdersLemmas.{order_valid}
+use Rattle.game_tick.proofs.TickLemmas.{entry_valid}
 use Rattle.game_model.specs.declared.limits.TheConstants.{MAX_ACTORS}
 use Rattle.game_model.specs.Setup.{Setup}
 use Rattle.game_tick.specs.Departures.{gone_by, gone_after}

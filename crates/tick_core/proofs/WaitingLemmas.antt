@@ -10,13 +10,13 @@ use Rattle.game_model.specs.declared.actor.Actor.{Actor}
 use Rattle.game_model.specs.declared.actor.Leg.{Leg}
 use Rattle.game_model.specs.declared.builds.Build.{Build}
 use Rattle.game_model.specs.declared.world.World.{World}
-use Rattle.game_model.specs.FoundLemmas.{IdsRise, changed_as}
+use Rattle.game_model.proofs.FoundLemmas.{IdsRise, changed_as}
 use Rattle.game_model.specs.Kinds.{kind_of}
-use Rattle.game_model.specs.LivingLemmas.{living_actor}
+use Rattle.game_model.proofs.LivingLemmas.{living_actor}
 use Rattle.game_model.specs.Setup.{Setup}
 use Rattle.game_model.specs.World.{actor_of, living_of}
 use Rattle.game_tick.specs.Building.{Built, after_build, built_first, came_out, exit_of, finished, has_room, with_builds}
-use Rattle.game_tick.specs.ChangesLemmas.{id_of_living}
+use Rattle.game_tick.proofs.ChangesLemmas.{id_of_living}
 use Rattle.game_tick.specs.Turn.{after_first, after_way, reloaded, with_build, with_reload, with_way}
 use Rattle.tick_core.specs.Scene.{prepared, prepared_if}
 use Rattle.tick_core.specs.Waiting.{IsFirstBuilt, IsWaiting}

@@ -10,16 +10,16 @@ use Rattle.replay_file.specs.declared.replay.Replay.{Replay}
 use Rattle.replay_run.specs.Playing.{IsPlayback, PlaybackState, PlaysOn, played}
 use Rattle.replay_run.specs.Rerun.{frame_count}
 use Rattle.shroud.specs.Grids.{flag_of, grids_of}
-use Rattle.shroud.specs.GridsLemmas.{flag_is}
+use Rattle.shroud.proofs.GridsLemmas.{flag_is}
 use Rattle.shroud.specs.Explored.{is_explored}
 use Rattle.shroud.specs.Laws.{HasExplored}
-use Rattle.shroud.specs.LawsLemmas.{goes_on, last_one, nothing_explored}
+use Rattle.shroud.proofs.LawsLemmas.{goes_on, last_one, nothing_explored}
 use Rattle.shroud.specs.ShroudState.{ShroudState, shrouded, updated}
 use Rattle.shroud.specs.Sights.{is_seen}
 use Rattle.tick_core.specs.Game.{GameState, game_after, game_start}
 use Rattle.drill.specs.Text.{end_line}
 use Rattle.view_command.specs.ViewText.{cell_at, view_line, view_lines}
-use Rattle.view_command.specs.ViewTextLemmas.{same_rows}
+use Rattle.view_command.proofs.ViewTextLemmas.{same_rows}
 use Rattle.view_command.specs.Views.{view_text, world_after, worlds_to}
 use Rattle.view_command.specs.Watching.{HasWatched}
 

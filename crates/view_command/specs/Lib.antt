@@ -1,4 +1,3 @@
 pub mod ViewText
-pub mod ViewTextLemmas
 pub mod Views
 pub mod Watching

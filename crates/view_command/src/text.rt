@@ -37,7 +37,7 @@ fn add_letter(text: &mut String, shroud: &Shroud, client: u8, cell: CPos) -> Res
 }
 
 /// Adds the line of a row.
-#[tactic(auto, using(crate::specs::ViewTextLemmas::more_letters, crate::specs::ViewTextLemmas::ends_row))]
+#[tactic(auto, using(crate::proofs::ViewTextLemmas::more_letters, crate::proofs::ViewTextLemmas::ends_row))]
 fn add_row(text: &mut String, shroud: &Shroud, client: u8, width: u8, y: u8) -> Result<(), NoMemory>
     requires client { client < shroud.now.clients }
     requires width { width ≡ shroud.now.width }
@@ -52,7 +52,7 @@ fn add_row(text: &mut String, shroud: &Shroud, client: u8, width: u8, y: u8) -> 
 }
 
 /// Adds a line for each row of the map.
-#[tactic(auto, using(crate::specs::ViewTextLemmas::more_rows))]
+#[tactic(auto, using(crate::proofs::ViewTextLemmas::more_rows))]
 fn add_rows(
     text: &mut String,
     shroud: &Shroud,

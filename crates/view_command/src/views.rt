@@ -32,7 +32,7 @@ fn follow(shroud: &mut Shroud, game: &Game)
 }
 
 /// The opening game of a replay.
-#[tactic(auto, using(replay_file::specs::WholeLemmas::few_clients))]
+#[tactic(auto, using(replay_file::proofs::WholeLemmas::few_clients))]
 fn opening(alloc: Global, maker: &GameMaker, r: &Replay) -> Result<Game, NoMemory>
     requires { IsValidReplay r.now }
     ensures opens { IfOk result (λ game. game ≡ game_start maker.now r.now.seed r.now.clients) }

@@ -1,6 +1,3 @@
 pub mod Field
-pub mod FieldLemmas
 pub mod Read
-pub mod ReadLemmas
 pub mod Write
-pub mod WriteLemmas

@@ -2,3 +2,4 @@ mod ActorTellingLemmas
 mod FieldLemmas
 pub mod TellingLemmas
 mod WorldLemmas
+pub mod PrintingLemmas

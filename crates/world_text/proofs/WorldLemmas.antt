@@ -8,7 +8,7 @@ use Rattle.game_model.specs.declared.world.World.{World}
 use Rattle.game_model.specs.Grid.{Grid}
 use Rattle.game_model.specs.World.{head_of, world_with}
 use Rattle.world_text.specs.Printing.{PrintState, Prints, PrintsBut}
-use Rattle.world_text.specs.PrintingLemmas.{prints_last, prints_next, prints_none, prints_nothing}
+use Rattle.world_text.proofs.PrintingLemmas.{prints_last, prints_next, prints_none, prints_nothing}
 use Rattle.world_text.specs.WorldText.{actor_text, head_text, ore_at, ore_from, ore_text}
 use Rattle.world_text.specs.WorldText.{world_end, world_text}
 

@@ -1,5 +1,5 @@
 //! Words that are kept back, and written once they are a piece.
-#![tactic(auto, using(crate::specs::PrintingLemmas::printing_steps))]
+#![tactic(auto, using(crate::proofs::PrintingLemmas::printing_steps))]
 
 ghost use Rattle.std.specs.Prelude.{◌≡◌, ℕ, List, [], string_bytes, IsNone};
 ghost use Rattle.game_io.specs.SinkState.{SinkState};
@@ -93,7 +93,7 @@ pub(crate) fn give_up(kept: &mut KeptText)
 }
 
 /// Writes what is kept back last of all.
-#[tactic(auto, using(crate::specs::PrintingLemmas::printing_ends))]
+#[tactic(auto, using(crate::proofs::PrintingLemmas::printing_ends))]
 pub(crate) fn write_last<K: Sink>(kept: &KeptText, out: &mut K) -> Result<(), PrintFault>
     requires { IsNone kept.now.fault }
     ensures { (first : SinkState) (whole : List ℕ) →

@@ -5,7 +5,7 @@
 //! tells every field: [`text_tells_the_world`] is the law that two worlds of one size with the same
 //! text are equal, and [`numbers_are_held`] that it holds of all worlds of code. What printing is
 //! stands in `specs/Printing.antt`; what is printed piece by piece joins by
-//! `specs/PrintingLemmas.antt`.
+//! `proofs/PrintingLemmas.antt`.
 #![tactic(auto)]
 
 mod held;

@@ -14,7 +14,7 @@ use std::alloc::Global;
 impl Printer {
     /// A printer that keeps nothing back. Room for a piece of text is taken here; out of memory is
     /// the only error.
-    #[tactic(auto, using(crate::specs::PrintingLemmas::begins_printing))]
+    #[tactic(auto, using(crate::proofs::PrintingLemmas::begins_printing))]
     pub fn create(alloc: Global) -> Result<Printer, NoMemory>
         ensures { IfOk result (λ printer. (first : SinkState) (whole : List ℕ) →
             IsPrinted first (state_of printer first) whole whole) }
@@ -57,7 +57,7 @@ impl Printer {
     }
 
     /// Writes what is kept back. `Err` where a write failed, now or before, or memory ran out.
-    #[tactic(auto, using(crate::specs::PrintingLemmas::ends_early))]
+    #[tactic(auto, using(crate::proofs::PrintingLemmas::ends_early))]
     pub fn finish<K: Sink>(self, out: &mut K) -> Result<(), PrintFault>
         ensures { (first : SinkState) (whole : List ℕ) →
             IsPrinted first (state_of self (K.state out.old)) [] whole →

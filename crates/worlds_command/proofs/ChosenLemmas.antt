@@ -3,14 +3,14 @@ use Rattle.std.proofs.Common.{◌≡◌, ◌<◌, ◌≤◌, ℕ, suc, ◌+◌, 
 use Rattle.std.proofs.Common.{refl, ap, subst, ◌∙◌, arith}
 use Rattle.game_orders.specs.declared.limits.TheConstants.{MAX_FRAMES}
 use Rattle.replay_file.specs.declared.replay.Replay.{Replay}
-use Rattle.replay_file.specs.SoFarLemmas.{few_frames}
-use Rattle.replay_file.specs.ValidLemmas.{valid_obeys}
+use Rattle.replay_file.proofs.SoFarLemmas.{few_frames}
+use Rattle.replay_file.proofs.ValidLemmas.{valid_obeys}
 use Rattle.replay_file.specs.ValidReplay.{IsValidReplay}
 use Rattle.replay_run.specs.Playing.{played, PlaybackState, IsPlayback, PlaysOn}
 use Rattle.replay_run.specs.Rerun.{frame_count}
 use Rattle.tick_core.specs.Game.{GameState, game_after}
 use Rattle.world_text.specs.Printing.{PrintState, Prints, PrintsBut}
-use Rattle.world_text.specs.PrintingLemmas.{prints_nothing, prints_whole}
+use Rattle.world_text.proofs.PrintingLemmas.{prints_nothing, prints_whole}
 use Rattle.worlds_command.specs.Chosen.{count_from, count_if_chosen, is_chosen, text_if_chosen}
 use Rattle.worlds_command.specs.Chosen.{texts_from}
 use Rattle.worlds_command.specs.declared.chosen.Chosen.{Chosen}

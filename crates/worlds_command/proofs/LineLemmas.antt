@@ -9,7 +9,7 @@ use Rattle.rule_traits.specs.declared.kind.Kind.{Kind}
 use Rattle.world_text.specs.declared.print_fault.PrintFault.{PrintFault}
 use Rattle.world_text.specs.declared.print_fault.PrintFault.TheVariants.{Write, NoMemory}
 use Rattle.world_text.specs.Printing.{PrintState, printing, IsPrinted, Prints, PrintsBut}
-use Rattle.world_text.specs.PrintingLemmas.{prints_last, prints_next, prints_none}
+use Rattle.world_text.proofs.PrintingLemmas.{prints_last, prints_next, prints_none}
 use Rattle.worlds_command.specs.SetupLines.{kind_line, kind_lines, letter_at, letters_from}
 use Rattle.worlds_command.specs.SetupLines.{map_lines, row_line, rows_from, setup_lines}
 

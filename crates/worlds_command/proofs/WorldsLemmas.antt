@@ -1,7 +1,8 @@
 -- The whole text, and what its end says.
 use Rattle.std.proofs.Common.{◌≡◌, ◌≤◌, ℕ, ◌+◌, List, [], ◌++◌, Option, Some, None, IsNone, Result, Ok, Err, inl, inr}
 use Rattle.std.proofs.Common.{refl, sym, subst, append-nil}
-use Rattle.base.specs.Written.{WrotePrefix, nothing_yet, prefix_of}
+use Rattle.base.specs.Written.{WrotePrefix}
+use Rattle.base.proofs.WrittenLemmas.{nothing_yet, prefix_of}
 use Rattle.base.specs.Steps.{◌>>=◌}
 use Rattle.game_io.specs.SinkState.{SinkState}
 use Rattle.command_answers.specs.declared.statuses.TheConstants.{OUT_OF_MEMORY}

@@ -82,7 +82,7 @@ fn print_replay<K: Sink>(
 }
 
 /// A printer, and the opening game of a replay.
-#[tactic(auto, using(replay_file::specs::WholeLemmas::few_clients))]
+#[tactic(auto, using(replay_file::proofs::WholeLemmas::few_clients))]
 fn opening(alloc: Global, maker: &GameMaker, r: &Replay) -> Result<(Printer, Game), NoMemory>
     requires { IsValidReplay r.now }
     ensures prints { IfOk result (λ made. (first : SinkState) (whole : List ℕ) →

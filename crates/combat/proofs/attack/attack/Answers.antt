@@ -1,8 +1,8 @@
 use Rattle.std.proofs.Common.{◌≡◌, Some, sym, ◌∙◌}
 use Rattle.game_model.specs.Grid.{IsOn}
 use Rattle.game_model.specs.Setup.{setup_in}
-use Rattle.game_model.specs.FoundLemmas.{found_id}
-use Rattle.motion.specs.ChangeLemmas.{found_on}
+use Rattle.game_model.proofs.FoundLemmas.{found_id}
+use Rattle.motion.proofs.ChangeLemmas.{found_on}
 use Rattle.motion.specs.Ground.{built_in}
 use Rattle.combat.proofs.AttackCases.{attack_ends, attack_fires, attack_waits, attack_goes, attack_stays}
 use Rattle.combat.proofs.attack.attack.Goals as goal

@@ -1,4 +1,4 @@
-use Rattle.motion.specs.ChangeLemmas.{table_same}
+use Rattle.motion.proofs.ChangeLemmas.{table_same}
 use Rattle.combat.proofs.shot.begin_reloading.Goals as goal
 
 pub returns-in_default : goal.returns-in_default

@@ -1,5 +1,5 @@
 use Rattle.std.proofs.Common.{refl, sym, ◌∙◌, arith}
-use Rattle.datagram_link.specs.WindowLemmas.{run_le, moved_none}
+use Rattle.datagram_link.proofs.WindowLemmas.{run_le, moved_none}
 use Rattle.datagram_link.proofs.window.move_on.Goals as goal
 
 pub loop-payload-init : goal.loop-payload-init

@@ -1,5 +1,5 @@
 use Rattle.std.proofs.Common.{◌≡◌, ◌∷◌, Some}
-use Rattle.datagram_link.specs.WindowLemmas.{first_taken}
+use Rattle.datagram_link.proofs.WindowLemmas.{first_taken}
 use Rattle.datagram_link.proofs.window.take_first.Goals as goal
 
 pub returns-in-Some-Some : goal.returns-in-Some-Some

@@ -1,4 +1,4 @@
-use Rattle.datagram_schedule.specs.FollowsLemmas.{follows_all, follows_event}
+use Rattle.datagram_schedule.proofs.FollowsLemmas.{follows_all, follows_event}
 use Rattle.datagram_schedule.proofs.law.each_outcome_is_that_of_the_schedule.Goals as goal
 
 pub returns : goal.returns

@@ -1,4 +1,4 @@
-use Rattle.datagram_schedule.specs.FollowsLemmas.{follows_all, never_far, never_unsent}
+use Rattle.datagram_schedule.proofs.FollowsLemmas.{follows_all, never_far, never_unsent}
 use Rattle.datagram_schedule.proofs.law.nothing_comes_from_the_future.Goals as goal
 
 pub returns-clause-near : goal.returns-clause-near

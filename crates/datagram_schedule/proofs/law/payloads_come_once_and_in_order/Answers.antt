@@ -1,4 +1,4 @@
-use Rattle.datagram_schedule.specs.FollowsLemmas.{follows_all, ready_is, ready_begins}
+use Rattle.datagram_schedule.proofs.FollowsLemmas.{follows_all, ready_is, ready_begins}
 use Rattle.datagram_schedule.proofs.law.payloads_come_once_and_in_order.Goals as goal
 
 pub returns-clause-delivered : goal.returns-clause-delivered

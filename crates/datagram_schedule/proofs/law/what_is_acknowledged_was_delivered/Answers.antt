@@ -1,4 +1,4 @@
-use Rattle.datagram_schedule.specs.FollowsLemmas.{follows_all, acknowledged_below}
+use Rattle.datagram_schedule.proofs.FollowsLemmas.{follows_all, acknowledged_below}
 use Rattle.datagram_schedule.proofs.law.what_is_acknowledged_was_delivered.Goals as goal
 
 pub returns : goal.returns

@@ -1,4 +1,4 @@
-use Rattle.drill_words.specs.TextLemmas.{event_line-back, match_line-back, drill_text-back}
+use Rattle.drill_words.proofs.TextLemmas.{event_line-back, match_line-back, drill_text-back}
 use Rattle.drill_words.proofs.law.lines_read_back.Goals as goal
 
 pub returns-clause-event : goal.returns-clause-event

@@ -1,4 +1,4 @@
-use Rattle.game_orders.specs.OrdersLemmas.{all_counted}
+use Rattle.game_orders.proofs.OrdersLemmas.{all_counted}
 use Rattle.game_orders.proofs.order_length.orders_length.Goals as goal
 
 pub returns-clause-value : goal.returns-clause-value

@@ -1,7 +1,7 @@
 use Rattle.std.proofs.Common.{arith, [], ◌∷◌}
 use Rattle.std.proofs.lemmas.List.{length-append}
 use Rattle.game_orders.specs.OrderReading.{orders_after}
-use Rattle.game_orders.specs.OrdersLemmas.{next_is_held, each_spelled}
+use Rattle.game_orders.proofs.OrdersLemmas.{next_is_held, each_spelled}
 use Rattle.game_orders.proofs.orders_reading.read_each.Goals as goal
 
 pub loop-preserved : goal.loop-preserved

@@ -1,4 +1,4 @@
-use Rattle.game_tick.specs.StepKeepsLemmas.{dead_stay}
+use Rattle.game_tick.proofs.StepKeepsLemmas.{dead_stay}
 use Rattle.game_tick.proofs.law.dead_make_no_step.Goals as goal
 
 pub returns : goal.returns

@@ -1,4 +1,4 @@
-use Rattle.game_tick.specs.ShotsLemmas.{step_shots}
+use Rattle.game_tick.proofs.ShotsLemmas.{step_shots}
 use Rattle.game_tick.proofs.law.draws_are_shots.Goals as goal
 
 pub returns : goal.returns

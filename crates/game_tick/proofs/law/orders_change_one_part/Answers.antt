@@ -1,4 +1,4 @@
-use Rattle.game_tick.specs.OrderPartsLemmas.{order_parts}
+use Rattle.game_tick.proofs.OrderPartsLemmas.{order_parts}
 use Rattle.game_tick.proofs.law.orders_change_one_part.Goals as goal
 
 pub returns : goal.returns

@@ -1,4 +1,4 @@
-use Rattle.game_tick.specs.OwnLemmas.{order_only}
+use Rattle.game_tick.proofs.OwnLemmas.{order_only}
 use Rattle.game_tick.proofs.law.orders_change_only_own.Goals as goal
 
 pub returns : goal.returns

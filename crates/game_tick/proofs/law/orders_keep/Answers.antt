@@ -1,4 +1,4 @@
-use Rattle.game_tick.specs.KeepsLemmas.{order_keeps}
+use Rattle.game_tick.proofs.KeepsLemmas.{order_keeps}
 use Rattle.game_tick.proofs.law.orders_keep.Goals as goal
 
 pub returns : goal.returns

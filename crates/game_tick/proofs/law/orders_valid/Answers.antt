@@ -1,6 +1,6 @@
 use Rattle.std.proofs.Common.{◌*◌}
 use Rattle.game_model.specs.declared.limits.TheConstants.{MAX_DRAWS, MAX_PACE}
-use Rattle.game_tick.specs.OrdersLemmas.{order_valid}
+use Rattle.game_tick.proofs.OrdersLemmas.{order_valid}
 use Rattle.game_tick.proofs.law.orders_valid.Goals as goal
 
 pub returns : goal.returns

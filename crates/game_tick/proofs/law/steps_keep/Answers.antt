@@ -1,4 +1,4 @@
-use Rattle.game_tick.specs.StepKeepsLemmas.{step_keeps}
+use Rattle.game_tick.proofs.StepKeepsLemmas.{step_keeps}
 use Rattle.game_tick.proofs.law.steps_keep.Goals as goal
 
 pub returns : goal.returns

@@ -1,4 +1,4 @@
-use Rattle.game_tick.specs.ActorsLemmas.{step_actors}
+use Rattle.game_tick.proofs.ActorsLemmas.{step_actors}
 use Rattle.game_tick.proofs.law.steps_keep_actors.Goals as goal
 
 pub returns : goal.returns

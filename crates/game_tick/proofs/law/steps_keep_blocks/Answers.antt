@@ -1,4 +1,4 @@
-use Rattle.game_tick.specs.BlocksLemmas.{steps_blocks}
+use Rattle.game_tick.proofs.BlocksLemmas.{steps_blocks}
 use Rattle.game_tick.proofs.law.steps_keep_blocks.Goals as goal
 
 pub returns : goal.returns

@@ -1,4 +1,4 @@
-use Rattle.game_tick.specs.TurnLemmas.{step_mid}
+use Rattle.game_tick.proofs.TurnLemmas.{step_mid}
 use Rattle.game_tick.proofs.law.steps_keep_mid_turn.Goals as goal
 
 pub returns : goal.returns

@@ -1,4 +1,4 @@
-use Rattle.game_tick.specs.CountLemmas.{tick_count}
+use Rattle.game_tick.proofs.CountLemmas.{tick_count}
 use Rattle.game_tick.proofs.law.ticks_count_turns.Goals as goal
 
 pub returns : goal.returns

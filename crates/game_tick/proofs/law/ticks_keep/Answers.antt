@@ -1,4 +1,4 @@
-use Rattle.game_tick.specs.KeepsLemmas.{tick_keeps}
+use Rattle.game_tick.proofs.KeepsLemmas.{tick_keeps}
 use Rattle.game_tick.proofs.law.ticks_keep.Goals as goal
 
 pub returns : goal.returns

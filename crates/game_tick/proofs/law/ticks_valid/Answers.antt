@@ -1,4 +1,4 @@
-use Rattle.game_tick.specs.TickLemmas.{tick_valid}
+use Rattle.game_tick.proofs.TickLemmas.{tick_valid}
 use Rattle.game_tick.proofs.law.ticks_valid.Goals as goal
 
 pub returns : goal.returns

@@ -1,4 +1,4 @@
-use Rattle.game_tick.specs.TurnEndsLemmas.{turn_ends}
+use Rattle.game_tick.proofs.TurnEndsLemmas.{turn_ends}
 use Rattle.game_tick.proofs.law.turns_bury_the_dead.Goals as goal
 
 pub returns : goal.returns

@@ -1,4 +1,4 @@
-use Rattle.game_tick.specs.StepKeepsLemmas.{turn_ore}
+use Rattle.game_tick.proofs.StepKeepsLemmas.{turn_ore}
 use Rattle.game_tick.proofs.law.turns_make_no_ore.Goals as goal
 
 pub returns : goal.returns

@@ -1,4 +1,4 @@
-use Rattle.game_tick.specs.TurnLemmas.{mid_from_valid}
+use Rattle.game_tick.proofs.TurnLemmas.{mid_from_valid}
 use Rattle.game_tick.proofs.law.valid_worlds_are_in_mid_turn.Goals as goal
 
 pub returns : goal.returns

@@ -1,4 +1,4 @@
-use Rattle.game_tick.specs.IdleLemmas.{idle_stays}
+use Rattle.game_tick.proofs.IdleLemmas.{idle_stays}
 use Rattle.game_tick.proofs.step_law.idle_actors_stay.Goals as goal
 
 pub returns : goal.returns

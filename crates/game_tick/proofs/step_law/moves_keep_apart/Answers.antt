@@ -1,4 +1,4 @@
-use Rattle.game_tick.specs.IdleLemmas.{moves_apart}
+use Rattle.game_tick.proofs.IdleLemmas.{moves_apart}
 use Rattle.game_tick.proofs.step_law.moves_keep_apart.Goals as goal
 
 pub returns : goal.returns

@@ -2,7 +2,7 @@ use Rattle.std.proofs.Common.{◌≡◌, true, false, Some, sym, ◌∙◌, arit
 use Rattle.std.specs.Prelude.{nat_lt}
 use Rattle.std.proofs.lemmas.Bool.Decides.{nat_tests}
 use Rattle.game_model.specs.Grid.{IsOn}
-use Rattle.motion.specs.ChangeLemmas.{found_on}
+use Rattle.motion.proofs.ChangeLemmas.{found_on}
 use Rattle.harvest.proofs.StepCases.{search_turns, search_delivers, search_ends}
 use Rattle.harvest.proofs.harvest.search.Goals as goal
 

@@ -1,4 +1,4 @@
-use Rattle.motion.specs.ChangeLemmas.{table_same}
+use Rattle.motion.proofs.ChangeLemmas.{table_same}
 use Rattle.harvest.proofs.load.set_load.Goals as goal
 
 pub returns-in_default : goal.returns-in_default

@@ -1,5 +1,5 @@
 use Rattle.std.proofs.Common.{inl, inr}
-use Rattle.link_commands.specs.LinkLemmas.{made_prints}
+use Rattle.link_commands.proofs.LinkLemmas.{made_prints}
 use Rattle.link_commands.specs.PlayText.{link_fault, played_reply}
 use Rattle.link_commands.proofs.printing.play_orders_over.Goals as goal
 

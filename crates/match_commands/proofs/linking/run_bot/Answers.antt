@@ -3,7 +3,7 @@ use Rattle.command_words.specs.RequestPlain.{plain_bot}
 use Rattle.command_answers.specs.Given.{given_contents}
 use Rattle.command_answers.specs.WantedFiles.{rules_and_map}
 use Rattle.link_commands.specs.Links.{with_links}
-use Rattle.link_commands.specs.LinkLemmas.{linked_given, linked_stopped}
+use Rattle.link_commands.proofs.LinkLemmas.{linked_given, linked_stopped}
 use Rattle.link_commands.specs.Plays.{LinkFailed, IsPlayDone}
 use Rattle.rule_commands.specs.Numbers.{numbered_setup_step}
 use Rattle.match_commands.specs.Plays.{bot_means, bot_step, PlaysOver}

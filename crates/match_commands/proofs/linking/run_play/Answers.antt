@@ -3,7 +3,7 @@ use Rattle.command_words.specs.RequestPlain.{plain_match}
 use Rattle.command_answers.specs.Given.{script_contents}
 use Rattle.command_answers.specs.WantedFiles.{rules_and_map, with_script}
 use Rattle.link_commands.specs.Links.{with_links}
-use Rattle.link_commands.specs.LinkLemmas.{linked_given, linked_stopped}
+use Rattle.link_commands.proofs.LinkLemmas.{linked_given, linked_stopped}
 use Rattle.link_commands.specs.Plays.{LinkFailed, IsPlayDone}
 use Rattle.match_commands.specs.Plays.{play_means, play_step, PlaysOver}
 use Rattle.match_commands.proofs.WaitingLemmas.{play_begins, play_caused}

@@ -1,6 +1,6 @@
 use Rattle.std.proofs.Common.{refl, inl, inr, arith}
 use Rattle.drill_words.specs.Drill.{plain_of}
-use Rattle.command_answers.specs.WritingLemmas.{writes_outcome}
+use Rattle.command_answers.proofs.WritingLemmas.{writes_outcome}
 use Rattle.match_commands.specs.Drills.{drill_report, recording_reply}
 use Rattle.match_commands.proofs.recording.run_recorded.Goals as goal
 

@@ -2,7 +2,7 @@ use Rattle.std.proofs.Common.{ap, sym, subst, arith, IfOk}
 use Rattle.frame_core.specs.Agreed.{AreReady}
 use Rattle.replay_file.specs.FirstFault.{Spells}
 use Rattle.replay_run.specs.Recording.{replay_of}
-use Rattle.replay_run.specs.RecordingLemmas.{record_returns}
+use Rattle.replay_run.proofs.RecordingLemmas.{record_returns}
 use Rattle.server_core.specs.Served.{agreed_marks}
 use Rattle.match_record.specs.Matches.{match_from}
 use Rattle.match_record.proofs.recording.record_bytes.Goals as goal

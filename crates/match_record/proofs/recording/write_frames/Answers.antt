@@ -1,13 +1,13 @@
 use Rattle.std.proofs.Common.{◌≡◌, ◌∙◌, ap, ap₂, sym, arith}
 use Rattle.std.specs.Prelude.{◌+◌, slice_index_or}
 use Rattle.std.proofs.lemmas.Option.{get_or_from_slice_get}
-use Rattle.frame_core.specs.FoldLemmas.{folded_step}
+use Rattle.frame_core.proofs.FoldLemmas.{folded_step}
 use Rattle.frame_core.specs.Ready.{frame_at}
 use Rattle.frame_core.specs.World.{world_at}
 use Rattle.replay_run.specs.Recording.{hash_after_frame}
-use Rattle.replay_run.specs.RecordingLemmas.{frame_fits_too, frame_written}
+use Rattle.replay_run.proofs.RecordingLemmas.{frame_fits_too, frame_written}
 use Rattle.server_core.specs.Served.{agreed_marks}
-use Rattle.server_core.specs.ServedLemmas.{agreed_mark}
+use Rattle.server_core.proofs.ServedLemmas.{agreed_mark}
 use Rattle.match_record.specs.Matches.{match_from}
 use Rattle.match_record.proofs.recording.write_frames.Goals as goal
 

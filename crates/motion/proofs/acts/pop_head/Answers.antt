@@ -1,5 +1,5 @@
 use Rattle.game_tick.specs.Acts.{popped}
-use Rattle.motion.specs.ChangeLemmas.{table_same}
+use Rattle.motion.proofs.ChangeLemmas.{table_same}
 use Rattle.motion.proofs.acts.pop_head.Goals as goal
 
 pub returns-in_default : goal.returns-in_default

@@ -1,5 +1,5 @@
 use Rattle.game_tick.specs.Acts.{with_first}
-use Rattle.motion.specs.ChangeLemmas.{table_same}
+use Rattle.motion.proofs.ChangeLemmas.{table_same}
 use Rattle.motion.proofs.acts.set_head.Goals as goal
 
 pub returns-in_default : goal.returns-in_default

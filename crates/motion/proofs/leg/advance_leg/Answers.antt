@@ -1,4 +1,4 @@
-use Rattle.motion.specs.ChangeLemmas.{table_same, table_part}
+use Rattle.motion.proofs.ChangeLemmas.{table_same, table_part}
 use Rattle.motion.proofs.leg.advance_leg.Goals as goal
 
 pub returns-in_default : goal.returns-in_default

@@ -3,8 +3,8 @@ use Rattle.world_units.specs.Angles.{dir_angle_of}
 use Rattle.game_model.specs.Grid.{IsOn}
 use Rattle.game_model.specs.Kinds.{kind_of}
 use Rattle.game_model.specs.Setup.{setup_in}
-use Rattle.game_model.specs.FoundLemmas.{found_id}
-use Rattle.motion.specs.ChangeLemmas.{found_on}
+use Rattle.game_model.proofs.FoundLemmas.{found_id}
+use Rattle.motion.proofs.ChangeLemmas.{found_on}
 use Rattle.motion.specs.Ground.{built_in}
 use Rattle.motion.proofs.StepCases.{stepped, turns, faces, entered_on_table}
 use Rattle.motion.proofs.towards.move_step_on_current_ground.Goals as goal

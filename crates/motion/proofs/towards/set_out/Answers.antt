@@ -1,5 +1,5 @@
 use Rattle.std.proofs.Common.{◌≡◌, Some, refl, ◌∙◌}
-use Rattle.motion.specs.ChangeLemmas.{found_moved, table_part_moved}
+use Rattle.motion.proofs.ChangeLemmas.{found_moved, table_part_moved}
 use Rattle.motion.proofs.towards.set_out.Goals as goal
 
 pub set_leg-requires : goal.set_leg-requires

@@ -1,5 +1,5 @@
 use Rattle.std.proofs.Common.{◌≡◌, Some, ◌∙◌}
-use Rattle.motion.specs.ChangeLemmas.{table_part_body}
+use Rattle.motion.proofs.ChangeLemmas.{table_part_body}
 use Rattle.motion.proofs.towards.turn.Goals as goal
 
 pub returns : goal.returns

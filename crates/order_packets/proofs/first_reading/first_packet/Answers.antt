@@ -2,7 +2,7 @@ use Rattle.std.proofs.Common.{rules, ◌≡◌, ◌≤◌, ◌++◌, ℕ, length
 use Rattle.wire_bytes.specs.Field.{field_bytes}
 use Rattle.wire_bytes.specs.Read.{field_at}
 use Rattle.order_packets.specs.PacketReading.{payload_at}
-use Rattle.order_packets.specs.FirstLemmas.{first_found, first_within, first_spelled}
+use Rattle.order_packets.proofs.FirstLemmas.{first_found, first_within, first_spelled}
 use Rattle.order_packets.proofs.first_reading.first_packet.Goals as goal
 
 pub returns-clause-reads : goal.returns-clause-reads

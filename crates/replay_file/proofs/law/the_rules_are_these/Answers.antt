@@ -1,4 +1,4 @@
-use Rattle.replay_file.specs.ValidLemmas.{valid_obeys}
+use Rattle.replay_file.proofs.ValidLemmas.{valid_obeys}
 use Rattle.replay_file.proofs.law.the_rules_are_these.Goals as goal
 
 pub returns-clause-whole : goal.returns-clause-whole

@@ -1,7 +1,7 @@
 use Rattle.std.proofs.Common.{arith, ◌≡◌, []}
 use Rattle.replay_file.specs.PartKind.{part_of}
 use Rattle.replay_file.specs.PartStore.{parts_in}
-use Rattle.replay_file.specs.StoreLemmas.{none_left, never_bad, part_taken}
+use Rattle.replay_file.proofs.StoreLemmas.{none_left, never_bad, part_taken}
 use Rattle.replay_file.proofs.part_cursor.take_first.Goals as goal
 
 pub returns-then-left-eq0-clause-taken : goal.returns-then-left-eq0-clause-taken

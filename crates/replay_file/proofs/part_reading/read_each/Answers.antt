@@ -1,7 +1,7 @@
 use Rattle.std.proofs.Common.{arith, [], ◌∷◌}
 use Rattle.std.proofs.lemmas.List.{length-append}
-use Rattle.game_orders.specs.OrdersLemmas.{each_spelled}
-use Rattle.replay_file.specs.OrdersLemmas.{next_is_held, all_added}
+use Rattle.game_orders.proofs.OrdersLemmas.{each_spelled}
+use Rattle.replay_file.proofs.OrdersLemmas.{next_is_held, all_added}
 use Rattle.replay_file.specs.PartReading.{orders_after}
 use Rattle.replay_file.specs.PartRules.{HasTagUpTo}
 use Rattle.replay_file.proofs.part_reading.read_each.Goals as goal

@@ -1,7 +1,7 @@
 use Rattle.std.proofs.Common.{arith, [], ◌∷◌}
 use Rattle.std.proofs.lemmas.List.{length-append}
-use Rattle.replay_file.specs.EntriesLemmas.{entry_is_held, entries_spelled, one_more_stays}
-use Rattle.replay_file.specs.EntriesLemmas.{one_more_known}
+use Rattle.replay_file.proofs.EntriesLemmas.{entry_is_held, entries_spelled, one_more_stays}
+use Rattle.replay_file.proofs.EntriesLemmas.{one_more_known}
 use Rattle.replay_file.specs.PartKind.{entry_by}
 use Rattle.replay_file.specs.PartReading.{entries_after}
 use Rattle.replay_file.proofs.part_reading.read_entries.Goals as goal

@@ -1,6 +1,6 @@
 use Rattle.std.proofs.Common.{◌≡◌, ap, sym, ◌∙◌, Ok, arith}
 use Rattle.wire_bytes.specs.Read.{field_at}
-use Rattle.replay_file.specs.OrdersLemmas.{first_tag}
+use Rattle.replay_file.proofs.OrdersLemmas.{first_tag}
 use Rattle.replay_file.proofs.part_reading.read_order_in.Goals as goal
 
 pub returns-clause-known : goal.returns-clause-known

@@ -1,5 +1,5 @@
 use Rattle.std.proofs.Common.{sym}
-use Rattle.replay_file.specs.FrameLemmas.{entry_written}
+use Rattle.replay_file.proofs.FrameLemmas.{entry_written}
 use Rattle.replay_file.proofs.part_writing.append_entries.Goals as goal
 
 pub loop-client-preserved : goal.loop-client-preserved

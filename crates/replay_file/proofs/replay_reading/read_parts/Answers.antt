@@ -1,6 +1,6 @@
 use Rattle.std.proofs.Common.{ap}
 use Rattle.replay_file.specs.PartKind.{next_of, part_of}
-use Rattle.replay_file.specs.SoFarLemmas.{read_step, step_shrinks}
+use Rattle.replay_file.proofs.SoFarLemmas.{read_step, step_shrinks}
 use Rattle.replay_file.proofs.replay_reading.read_parts.Goals as goal
 
 pub loop-frame-smaller : goal.loop-frame-smaller

@@ -1,6 +1,6 @@
 use Rattle.std.proofs.Common.{List, ℕ, subst}
 use Rattle.replay_file.specs.HeaderClauses.{IsHeader}
-use Rattle.replay_file.specs.WholeLemmas.{whole_read}
+use Rattle.replay_file.proofs.WholeLemmas.{whole_read}
 use Rattle.replay_file.proofs.replay_reading.read_whole.Goals as goal
 
 pub returns : goal.returns

@@ -3,10 +3,10 @@ use Rattle.std.specs.Prelude.{None}
 use Rattle.replay_file.specs.declared.limits.TheConstants.{VERSION}
 use Rattle.replay_file.specs.PartKind.{part_of}
 use Rattle.replay_file.specs.ReplayBytes.{header_bytes}
-use Rattle.replay_run.specs.MigratingLemmas.{all_written, difference_found, written_begins}
-use Rattle.replay_run.specs.MigratingLemmas.{written_step}
+use Rattle.replay_run.proofs.MigratingLemmas.{all_written, difference_found, written_begins}
+use Rattle.replay_run.proofs.MigratingLemmas.{written_step}
 use Rattle.replay_run.specs.Rerun.{rerun_over}
-use Rattle.replay_run.specs.RerunLemmas.{IsSoFar, begins, part_step, skips_none}
+use Rattle.replay_run.proofs.RerunLemmas.{IsSoFar, begins, part_step, skips_none}
 use Rattle.replay_run.proofs.migration.migrate.Goals as goal
 
 pub loop-kind-init : goal.loop-kind-init

@@ -3,9 +3,9 @@ use Rattle.std.proofs.Common.{◌≡◌, length}
 use Rattle.std.specs.Prelude.{None}
 use Rattle.replay_file.specs.declared.limits.TheConstants.{VERSION}
 use Rattle.replay_file.specs.ReplayBytes.{header_bytes}
-use Rattle.replay_run.specs.MigratingLemmas.{IsWritten}
+use Rattle.replay_run.proofs.MigratingLemmas.{IsWritten}
 use Rattle.replay_run.specs.Rerun.{rerun_over}
-use Rattle.replay_run.specs.RerunLemmas.{IsSoFar}
+use Rattle.replay_run.proofs.RerunLemmas.{IsSoFar}
 use Rattle.replay_run.proofs.migration.migrate.Given as goal
 
 abbrev pub invariant-loop-kind : goal.invariant-loop-kind

@@ -1,7 +1,7 @@
 use Rattle.std.proofs.Common.{ap, subst, ◌∙◌, List, length, arith}
 use Rattle.frame_core.specs.Agreed.{AreReady}
 use Rattle.frame_core.specs.Column.{Column}
-use Rattle.replay_run.specs.RecordingLemmas.{record_returns}
+use Rattle.replay_run.proofs.RecordingLemmas.{record_returns}
 use Rattle.replay_run.proofs.recording.record_of.Goals as goal
 
 pub returns : goal.returns

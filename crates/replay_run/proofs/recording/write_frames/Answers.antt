@@ -2,7 +2,7 @@ use Rattle.std.proofs.Common.{ap, ◌∙◌, List, ℕ}
 use Rattle.std.specs.Prelude.{slice_index_or}
 use Rattle.frame_core.specs.Column.{Column}
 use Rattle.frame_core.specs.Ready.{frame_at}
-use Rattle.replay_run.specs.RecordingLemmas.{frame_fits_too, frame_written}
+use Rattle.replay_run.proofs.RecordingLemmas.{frame_fits_too, frame_written}
 use Rattle.replay_run.proofs.recording.write_frames.Goals as goal
 
 pub loop-n-preserved : goal.loop-n-preserved

@@ -1,5 +1,5 @@
 use Rattle.std.proofs.Common.{refl, ◌∙◌}
-use Rattle.replay_run.specs.RerunLemmas.{begins, part_step}
+use Rattle.replay_run.proofs.RerunLemmas.{begins, part_step}
 use Rattle.replay_run.proofs.rerun.run_replay_from.Goals as goal
 
 pub loop-kind-init : goal.loop-kind-init

@@ -1,7 +1,7 @@
 -- The parts so far were gone over.
 use Rattle.std.proofs.Common.{◌≡◌, length}
 use Rattle.replay_run.specs.Rerun.{rerun_over}
-use Rattle.replay_run.specs.RerunLemmas.{IsSoFar}
+use Rattle.replay_run.proofs.RerunLemmas.{IsSoFar}
 use Rattle.replay_run.proofs.rerun.run_replay_from.Given as goal
 
 abbrev pub invariant-loop-kind : goal.invariant-loop-kind

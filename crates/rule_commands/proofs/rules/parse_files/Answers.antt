@@ -1,6 +1,6 @@
 -- A file with a fault in its lines.
 use Rattle.std.proofs.Common.{◌+◌, ap, ◌∙◌, drop, map}
-use Rattle.command_answers.specs.ListLemmas.{left_is}
+use Rattle.command_answers.proofs.ListLemmas.{left_is}
 use Rattle.rule_commands.proofs.StopLemmas.{parse_stops}
 use Rattle.rule_commands.proofs.rules.parse_files.Goals as goal
 

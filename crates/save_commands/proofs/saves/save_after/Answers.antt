@@ -1,6 +1,6 @@
 use Rattle.std.proofs.Common.{ap, ◌∙◌, ◌≡◌, arith}
 use Rattle.replay_run.specs.Playing.{played}
-use Rattle.replay_run.specs.RerunLemmas.{few_in_all}
+use Rattle.replay_run.proofs.RerunLemmas.{few_in_all}
 use Rattle.game_model.specs.Setup.{Setup}
 use Rattle.tick_core.specs.Game.{GameState, game_after, game_start}
 use Rattle.save_commands.specs.Saves.{game_at}

@@ -1,5 +1,5 @@
 use Rattle.std.proofs.Common.{inl, inr}
-use Rattle.link_commands.specs.LinkLemmas.{made_prints}
+use Rattle.link_commands.proofs.LinkLemmas.{made_prints}
 use Rattle.link_commands.specs.PlayText.{link_fault}
 use Rattle.match_serve.specs.Passes.{columns_of}
 use Rattle.serve_command.specs.ServeText.{served_reply}

@@ -1,6 +1,6 @@
 use Rattle.std.proofs.Common.{Some, refl, inl, inr}
 use Rattle.command_answers.specs.Answer.{reply_of}
-use Rattle.command_answers.specs.WritingLemmas.{writes_outcome}
+use Rattle.command_answers.proofs.WritingLemmas.{writes_outcome}
 use Rattle.match_record.specs.Matches.{match_from}
 use Rattle.serve_command.specs.Records.{served_record}
 use Rattle.serve_command.proofs.recorded.print_recorded.Goals as goal

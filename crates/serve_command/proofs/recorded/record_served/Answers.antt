@@ -1,7 +1,7 @@
 use Rattle.std.proofs.Common.{◌≡◌, ◌∙◌, Some, ap₂, subst, sym, refl, inr}
 use Rattle.frame_core.specs.Agreed.{AreReady}
 use Rattle.command_answers.specs.declared.statuses.TheConstants.{OUT_OF_MEMORY}
-use Rattle.command_answers.specs.OutcomeLemmas.{memory_outcome}
+use Rattle.command_answers.proofs.OutcomeLemmas.{memory_outcome}
 use Rattle.command_answers.specs.Writing.{AnswersReply}
 use Rattle.match_run.specs.Local.{longest}
 use Rattle.match_serve.specs.Passes.{columns_of}

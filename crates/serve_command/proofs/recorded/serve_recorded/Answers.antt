@@ -1,9 +1,9 @@
 use Rattle.std.proofs.Common.{inl, inr, refl, subst, sym}
 use Rattle.frame_core.specs.Agreed.{AreReady}
-use Rattle.link_commands.specs.LinkLemmas.{made_prints}
+use Rattle.link_commands.proofs.LinkLemmas.{made_prints}
 use Rattle.link_commands.specs.PlayText.{link_fault}
 use Rattle.match_serve.specs.Passes.{columns_of}
-use Rattle.serve_command.specs.RecordsLemmas.{greatest_longest}
+use Rattle.serve_command.proofs.RecordsLemmas.{greatest_longest}
 use Rattle.serve_command.proofs.recorded.serve_recorded.Goals as goal
 
 -- All frames of the columns were ticked.

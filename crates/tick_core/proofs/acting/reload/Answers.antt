@@ -1,6 +1,6 @@
 use Rattle.std.proofs.Common.{arith}
 use Rattle.game_tick.specs.Turn.{reloaded}
-use Rattle.motion.specs.ChangeLemmas.{table_same, table_part}
+use Rattle.motion.proofs.ChangeLemmas.{table_same, table_part}
 use Rattle.tick_core.proofs.BusyLemmas.{not_reloading}
 use Rattle.tick_core.proofs.acting.reload.Goals as goal
 

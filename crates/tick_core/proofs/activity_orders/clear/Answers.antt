@@ -1,6 +1,6 @@
 use Rattle.std.proofs.Common.{[]}
 use Rattle.game_tick.specs.Acts.{with_acts}
-use Rattle.motion.specs.ChangeLemmas.{table_same, table_changed}
+use Rattle.motion.proofs.ChangeLemmas.{table_same, table_changed}
 use Rattle.tick_core.proofs.activity_orders.clear.Goals as goal
 
 pub returns-in_default : goal.returns-in_default

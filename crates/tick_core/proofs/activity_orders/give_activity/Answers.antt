@@ -1,5 +1,5 @@
 use Rattle.game_tick.specs.Orders.{told}
-use Rattle.motion.specs.ChangeLemmas.{table_same, table_changed}
+use Rattle.motion.proofs.ChangeLemmas.{table_same, table_changed}
 use Rattle.tick_core.proofs.activity_orders.give_activity.Goals as goal
 
 pub returns-in_default : goal.returns-in_default

@@ -1,4 +1,4 @@
-use Rattle.world_text.specs.PrintingLemmas.{nothing_then}
+use Rattle.world_text.proofs.PrintingLemmas.{nothing_then}
 use Rattle.world_text.proofs.keeping.add_words.Goals as goal
 
 pub returns-then-words-gt-LINE_ROOM : goal.returns-then-words-gt-LINE_ROOM

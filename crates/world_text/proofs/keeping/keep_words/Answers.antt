@@ -1,4 +1,4 @@
-use Rattle.world_text.specs.PrintingLemmas.{keeps_words, then_nothing}
+use Rattle.world_text.proofs.PrintingLemmas.{keeps_words, then_nothing}
 use Rattle.world_text.proofs.keeping.keep_words.Goals as goal
 
 pub returns-in-Ok : goal.returns-in-Ok

@@ -1,8 +1,8 @@
 use Rattle.std.proofs.Common.{arith, ap, sym, ◌∙◌, rules}
 use Rattle.std.specs.Option.{option_copied}
 use Rattle.std.specs.List.{flat_map}
-use Rattle.world_text.specs.PrintingLemmas.{is_there, item_here, next_item, none_left, prints_none}
-use Rattle.world_text.specs.PrintingLemmas.{prints_whole}
+use Rattle.world_text.proofs.PrintingLemmas.{is_there, item_here, next_item, none_left, prints_none}
+use Rattle.world_text.proofs.PrintingLemmas.{prints_whole}
 use Rattle.world_text.specs.WorldText.{actor_text}
 use Rattle.world_text.proofs.worlds.print_actors.Goals as goal
 

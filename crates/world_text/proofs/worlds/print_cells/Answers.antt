@@ -1,5 +1,5 @@
 use Rattle.std.proofs.Common.{rules}
-use Rattle.world_text.specs.PrintingLemmas.{item_at, none_left, prints_none, prints_whole}
+use Rattle.world_text.proofs.PrintingLemmas.{item_at, none_left, prints_none, prints_whole}
 use Rattle.world_text.proofs.WorldLemmas.{next_cell, none_after}
 use Rattle.world_text.proofs.worlds.print_cells.Goals as goal
 

@@ -1,5 +1,5 @@
 use Rattle.std.proofs.Common.{rules, ap, sym, ◌∙◌, ◌+◌, ◌∷◌, drop}
-use Rattle.world_text.specs.PrintingLemmas.{item_at, none_left, prints_none, prints_whole}
+use Rattle.world_text.proofs.PrintingLemmas.{item_at, none_left, prints_none, prints_whole}
 use Rattle.worlds_command.proofs.LineLemmas.{next_kind, no_kinds}
 use Rattle.worlds_command.proofs.setup_lines.print_kinds.Goals as goal
 

@@ -1,5 +1,5 @@
 use Rattle.std.proofs.Common.{arith}
-use Rattle.world_text.specs.PrintingLemmas.{prints_whole}
+use Rattle.world_text.proofs.PrintingLemmas.{prints_whole}
 use Rattle.worlds_command.proofs.LineLemmas.{prints_all, prints_step, rows_all, rows_end, rows_next}
 use Rattle.worlds_command.proofs.setup_lines.print_rows.Goals as goal
 

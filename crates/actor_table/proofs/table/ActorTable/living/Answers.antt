@@ -1,7 +1,7 @@
 use Rattle.std.proofs.Common.{◌≡◌, true, false, sym, arith}
 use Rattle.std.proofs.lemmas.Bool.Decides.{nat_tests}
 use Rattle.game_model.specs.World.{is_alive}
-use Rattle.game_model.specs.LivingLemmas.{living_found, living_none}
+use Rattle.game_model.proofs.LivingLemmas.{living_found, living_none}
 use Rattle.actor_table.proofs.table.ActorTable.living.Goals as goal
 
 pub returns-in_default-clause-living : goal.returns-in_default-clause-living

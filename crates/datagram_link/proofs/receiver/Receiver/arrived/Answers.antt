@@ -1,7 +1,7 @@
 use Rattle.std.proofs.Common.{◌≡◌, false, sym, ◌∙◌, arith}
 use Rattle.datagram_link.specs.Receiver.{IsReceiver, is_too_far}
-use Rattle.datagram_link.specs.ReceiverLemmas.{near_number, receiver_filled, receiver_bound}
-use Rattle.datagram_link.specs.ReceiverLemmas.{receiver_moved}
+use Rattle.datagram_link.proofs.ReceiverLemmas.{near_number, receiver_filled, receiver_bound}
+use Rattle.datagram_link.proofs.ReceiverLemmas.{receiver_moved}
 use Rattle.datagram_link.proofs.receiver.Receiver.arrived.Goals as goal
 
 pub overflow_add-self : goal.overflow_add-self

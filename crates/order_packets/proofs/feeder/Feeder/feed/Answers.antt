@@ -1,4 +1,4 @@
-use Rattle.order_packets.specs.FeedLemmas.{given_fed_if}
+use Rattle.order_packets.proofs.FeedLemmas.{given_fed_if}
 use Rattle.order_packets.proofs.feeder.Feeder.feed.Goals as goal
 
 pub returns-clause-stream : goal.returns-clause-stream

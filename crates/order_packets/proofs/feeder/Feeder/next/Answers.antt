@@ -1,4 +1,4 @@
-use Rattle.order_packets.specs.FeedLemmas.{given_next}
+use Rattle.order_packets.proofs.FeedLemmas.{given_next}
 use Rattle.order_packets.proofs.feeder.Feeder.next.Goals as goal
 
 pub returns-clause-stream : goal.returns-clause-stream

@@ -1,6 +1,6 @@
 use Rattle.std.proofs.Common.{ap, sym, subst, ◌∙◌, ℕ, List}
 use Rattle.replay_file.specs.PartStore.{parts_in, IsCountedStore}
-use Rattle.replay_file.specs.StoreLemmas.{count_begins, no_parts}
+use Rattle.replay_file.proofs.StoreLemmas.{count_begins, no_parts}
 use Rattle.replay_file.proofs.parts.Parts.new.Goals as goal
 
 pub invariant_of-result : goal.invariant_of-result

@@ -1,7 +1,7 @@
 use Rattle.std.proofs.Common.{sym, subst, ℕ, List}
 use Rattle.replay_file.specs.declared.part.Part.TheVariants.{Frame}
 use Rattle.replay_file.specs.PartStore.{IsCountedStore}
-use Rattle.replay_file.specs.StoreLemmas.{frame_counted, parts_grow, room_for_frame}
+use Rattle.replay_file.proofs.StoreLemmas.{frame_counted, parts_grow, room_for_frame}
 use Rattle.replay_file.proofs.parts.Parts.push_frame.Goals as goal
 
 pub invariant_of-self : goal.invariant_of-self

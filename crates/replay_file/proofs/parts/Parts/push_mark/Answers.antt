@@ -1,6 +1,6 @@
 use Rattle.std.proofs.Common.{arith}
 use Rattle.replay_file.specs.declared.part.Part.TheVariants.{Mark}
-use Rattle.replay_file.specs.StoreLemmas.{mark_counted, parts_after}
+use Rattle.replay_file.proofs.StoreLemmas.{mark_counted, parts_after}
 use Rattle.replay_file.proofs.parts.Parts.push_mark.Goals as goal
 
 pub invariant_of-self : goal.invariant_of-self

@@ -2,7 +2,7 @@ use Rattle.std.proofs.Common.{◌≡◌, ◌+◌, ◌≤◌, ◌<◌, ◌⊎◌,
 use Rattle.std.proofs.Common.{length, get_or, drop}
 use Rattle.std.specs.Prelude.{None, is_some}
 use Rattle.server_core.specs.Alarm.{alarm_here, alarm_from}
-use Rattle.server_core.specs.AlarmLemmas.{alarm_step, none_here, some_here, alarm_end, read_at}
+use Rattle.server_core.proofs.AlarmLemmas.{alarm_step, none_here, some_here, alarm_end, read_at}
 use Rattle.server_core.proofs.client_reports.ClientReports.alarm.Goals as goal
 
 pub loop-n-preserved : goal.loop-n-preserved

@@ -1,4 +1,4 @@
-use Rattle.frame_core.specs.GrowsLemmas.{Grows-refl}
+use Rattle.frame_core.proofs.GrowsLemmas.{Grows-refl}
 use Rattle.server_core.proofs.ServerLemmas.{grow_is_server}
 use Rattle.server_core.proofs.server.Server.up.Goals as goal
 

@@ -1,5 +1,5 @@
 use Rattle.game_model.specs.Setup.{Setup}
-use Rattle.game_model.specs.StartLemmas.{start_valid}
+use Rattle.game_model.proofs.StartLemmas.{start_valid}
 use Rattle.tick_core.proofs.ReadyLemmas.{ready_valid}
 use Rattle.tick_core.proofs.game.Game.begin.Goals as goal
 

@@ -1,6 +1,6 @@
 use Rattle.std.proofs.Common.{arith}
-use Rattle.game_tick.specs.KeepsLemmas.{tick_keeps}
-use Rattle.game_tick.specs.TickLemmas.{tick_valid}
+use Rattle.game_tick.proofs.KeepsLemmas.{tick_keeps}
+use Rattle.game_tick.proofs.TickLemmas.{tick_valid}
 use Rattle.tick_core.proofs.ReadyLemmas.{ready_valid}
 use Rattle.tick_core.proofs.game.GameSim.step.Goals as goal
 

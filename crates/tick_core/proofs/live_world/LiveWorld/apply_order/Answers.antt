@@ -1,5 +1,5 @@
 use Rattle.std.proofs.Common.{[], rules, subst, sym}
-use Rattle.game_tick.specs.OrdersLemmas.{order_valid}
+use Rattle.game_tick.proofs.OrdersLemmas.{order_valid}
 use Rattle.tick_core.specs.Live.{Standing}
 use Rattle.tick_core.specs.Ordered.{IsReady}
 use Rattle.tick_core.proofs.LiveLemmas.{healthy_live}

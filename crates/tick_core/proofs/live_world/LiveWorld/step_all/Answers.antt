@@ -2,7 +2,7 @@ use Rattle.std.proofs.Common.{◌≡◌, ◌<◌, ℕ, Some, length, get_or, ap,
 use Rattle.std.specs.Prelude.{slice_get}
 use Rattle.std.proofs.lemmas.Option.{slice_get-get_or}
 use Rattle.game_model.specs.World.{ids_of}
-use Rattle.game_tick.specs.TurnLemmas.{length-ids_of}
+use Rattle.game_tick.proofs.TurnLemmas.{length-ids_of}
 use Rattle.tick_core.specs.Live.{Standing}
 use Rattle.tick_core.proofs.BusyLemmas.{stepped_all, stepped_next}
 use Rattle.tick_core.proofs.live_world.LiveWorld.step_all.Goals as goal

@@ -1,4 +1,4 @@
-use Rattle.game_tick.specs.DeparturesLemmas.{departures_valid}
+use Rattle.game_tick.proofs.DeparturesLemmas.{departures_valid}
 use Rattle.tick_core.proofs.live_world.LiveWorld.tick.Goals as goal
 
 pub apply_plays-requires-clause-ready : goal.apply_plays-requires-clause-ready

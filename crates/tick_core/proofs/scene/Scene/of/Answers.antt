@@ -2,7 +2,7 @@ use Rattle.std.proofs.Common.{◌≡◌, ◌∙◌, Bool, ℕ, ap, refl}
 use Rattle.game_model.specs.declared.map.Map.{Map}
 use Rattle.game_model.specs.Grid.{Grid}
 use Rattle.game_model.specs.Setup.{Setup}
-use Rattle.game_tick.specs.TurnLemmas.{mid_from_valid}
+use Rattle.game_tick.proofs.TurnLemmas.{mid_from_valid}
 use Rattle.actor_table.specs.Table.{Table}
 use Rattle.tick_core.specs.Scene.{IsActing}
 use Rattle.tick_core.proofs.scene.Scene.of.Goals as goal

@@ -1,5 +1,5 @@
 use Rattle.wire_bytes.specs.Field.{field_number}
-use Rattle.wire_bytes.specs.ReadLemmas.{reads_enough}
+use Rattle.wire_bytes.proofs.ReadLemmas.{reads_enough}
 use Rattle.wire_bytes.proofs.cursor.Cursor.read_u32.Goals as goal
 
 pub returns : goal.returns

@@ -1,6 +1,6 @@
 use Rattle.std.proofs.Common.{arith, get_or}
 use Rattle.wire_bytes.specs.Field.{field_number}
-use Rattle.wire_bytes.specs.ReadLemmas.{reads_enough}
+use Rattle.wire_bytes.proofs.ReadLemmas.{reads_enough}
 use Rattle.wire_bytes.proofs.cursor.Cursor.read_u8.Goals as goal
 
 pub returns : goal.returns

@@ -1,0 +1,4 @@
+pub mod ArrivalLemmas
+pub mod FollowsLemmas
+pub mod NumberLemmas
+pub mod SendingLemmas

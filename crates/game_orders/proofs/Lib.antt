@@ -1,0 +1,4 @@
+pub mod EntryLemmas
+pub mod OrderBytesLemmas
+pub mod OrderLemmas
+pub mod OrdersLemmas

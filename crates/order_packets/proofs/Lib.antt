@@ -1,0 +1,5 @@
+pub mod FeedLemmas
+pub mod FirstLemmas
+pub mod PacketLemmas
+pub mod StreamLemmas
+pub mod UpLemmas

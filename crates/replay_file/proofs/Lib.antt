@@ -1,0 +1,11 @@
+pub mod EntriesLemmas
+pub mod FrameLemmas
+pub mod MigratedLemmas
+pub mod OrdersLemmas
+pub mod ReadingLemmas
+pub mod ReplayLemmas
+pub mod RuleLemmas
+pub mod SoFarLemmas
+pub mod StoreLemmas
+pub mod ValidLemmas
+pub mod WholeLemmas
