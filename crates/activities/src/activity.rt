@@ -41,7 +41,7 @@ pub enum Activity {
 impl PartialEq for Activity {
     ghost use Rattle.std.specs.Cmp.{decided, partial_equiv_from_equiv};
     ghost use Rattle.activities.specs.Activity.{same_activity};
-    ghost use Rattle.activities.proofs.ActivityLemmas.{activity_decides};
+    ghost use Rattle.activities.specs.ActivityEquality.{activity_decides};
 
     ghost eq = { same_activity };
 
@@ -90,7 +90,7 @@ impl PartialEq for Activity {
 impl Eq for Activity {
     ghost use Rattle.std.specs.Cmp.{decided};
     ghost use Rattle.activities.specs.Activity.{same_activity};
-    ghost use Rattle.activities.proofs.ActivityLemmas.{activity_decides};
+    ghost use Rattle.activities.specs.ActivityEquality.{activity_decides};
 
     ghost laws = { decided same_activity activity_decides };
 }

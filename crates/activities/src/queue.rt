@@ -118,7 +118,7 @@ impl Queue {
 impl PartialEq for Queue {
     ghost use Rattle.std.specs.Cmp.{decided, partial_equiv_from_equiv};
     ghost use Rattle.activities.specs.Activity.{same_queue};
-    ghost use Rattle.activities.proofs.ActivityLemmas.{queue_decides};
+    ghost use Rattle.activities.specs.ActivityEquality.{queue_decides};
 
     ghost eq = { same_queue };
 
@@ -132,7 +132,7 @@ impl PartialEq for Queue {
 impl Eq for Queue {
     ghost use Rattle.std.specs.Cmp.{decided};
     ghost use Rattle.activities.specs.Activity.{same_queue};
-    ghost use Rattle.activities.proofs.ActivityLemmas.{queue_decides};
+    ghost use Rattle.activities.specs.ActivityEquality.{queue_decides};
 
     ghost laws = { decided same_queue queue_decides };
 }

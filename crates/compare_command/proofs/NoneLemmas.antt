@@ -7,11 +7,11 @@ use Rattle.std.proofs.lemmas.Bool.Decides.{Decides-and, Decides-eqb}
 use Rattle.std.proofs.lemmas.List.{same_lists}
 use Rattle.std.proofs.lemmas.Option.{slice_get-get_or}
 use Rattle.std.proofs.lemmas.Slice.Eq.{slice_eq-Decides}
-use Rattle.world_units.proofs.CellLemmas.{cell_decides}
-use Rattle.activities.proofs.ActivityLemmas.{queue_decides}
+use Rattle.world_units.specs.CellEquality.{cell_decides}
+use Rattle.activities.specs.ActivityEquality.{queue_decides}
 use Rattle.game_model.specs.declared.actor.Leg.{Leg}
 use Rattle.game_model.specs.declared.builds.Build.{Build}
-use Rattle.game_orders.proofs.EntryLemmas.{entry_decides}
+use Rattle.game_orders.specs.EntryEquality.{entry_decides}
 use Rattle.compare_command.specs.declared.subject.Subject.{Subject}
 use Rattle.compare_command.specs.Difference.{Difference, Values, Differs, Numbers, Flags, Cells}
 use Rattle.compare_command.specs.Difference.{Legs, Acts, Builds, Entries, Hashes, are_same, compared}

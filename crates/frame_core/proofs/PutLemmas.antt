@@ -10,7 +10,7 @@ use Rattle.game_orders.specs.declared.entry.Entry.{Entry}
 use Rattle.game_orders.specs.declared.entry.Entry.TheVariants.{Play, Leave}
 use Rattle.game_orders.specs.declared.limits.TheConstants.{MAX_FRAMES}
 use Rattle.game_orders.specs.Entry.{is_play, same_entry}
-use Rattle.game_orders.proofs.EntryLemmas.{entry_decides}
+use Rattle.game_orders.specs.EntryEquality.{entry_decides}
 use Rattle.frame_core.specs.Column.{Column, length_of, entry_from, entry_at, put_by, put_answer}
 use Rattle.frame_core.specs.Column.{with_entry, after_answer, put_column, no_column, column_of}
 use Rattle.frame_core.specs.Column.{left_column}

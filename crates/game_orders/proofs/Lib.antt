@@ -1,4 +1,2 @@
-pub mod EntryLemmas
 pub mod OrderBytesLemmas
-pub mod OrderLemmas
 pub mod OrdersLemmas

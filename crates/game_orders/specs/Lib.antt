@@ -3,3 +3,5 @@ pub mod Entry
 pub mod HeldOrders
 pub mod OrderBytes
 pub mod OrderReading
+pub mod EntryEquality
+pub mod OrderEquality

@@ -37,7 +37,7 @@ impl Entry {
 
 impl PartialEq for Entry {
     ghost use Rattle.game_orders.specs.Entry.{same_entry};
-    ghost use Rattle.game_orders.proofs.EntryLemmas.{entry_decides};
+    ghost use Rattle.game_orders.specs.EntryEquality.{entry_decides};
     ghost use Rattle.std.specs.Cmp.{decided, partial_equiv_from_equiv};
 
     ghost eq = { same_entry };
@@ -55,7 +55,7 @@ impl PartialEq for Entry {
 
 impl Eq for Entry {
     ghost use Rattle.game_orders.specs.Entry.{same_entry};
-    ghost use Rattle.game_orders.proofs.EntryLemmas.{entry_decides};
+    ghost use Rattle.game_orders.specs.EntryEquality.{entry_decides};
     ghost use Rattle.std.specs.Cmp.{decided};
 
     ghost laws = { decided same_entry entry_decides };

@@ -108,7 +108,7 @@ impl Order {
 
 impl PartialEq for Order {
     ghost use Rattle.game_orders.specs.Order.{same_order};
-    ghost use Rattle.game_orders.proofs.OrderLemmas.{order_decides};
+    ghost use Rattle.game_orders.specs.OrderEquality.{order_decides};
     ghost use Rattle.std.specs.Cmp.{decided, partial_equiv_from_equiv};
 
     ghost eq = { same_order };
@@ -122,7 +122,7 @@ impl PartialEq for Order {
 
 impl Eq for Order {
     ghost use Rattle.game_orders.specs.Order.{same_order};
-    ghost use Rattle.game_orders.proofs.OrderLemmas.{order_decides};
+    ghost use Rattle.game_orders.specs.OrderEquality.{order_decides};
     ghost use Rattle.std.specs.Cmp.{decided};
 
     ghost laws = { decided same_order order_decides };

@@ -198,7 +198,7 @@ fn extend(room: &mut ArrayVec<Order, ORDERS_ROOM>, orders: &[Order])
 
 impl PartialEq for Orders {
     ghost use Rattle.game_orders.specs.Order.{same_orders};
-    ghost use Rattle.game_orders.proofs.OrderLemmas.{orders_decides};
+    ghost use Rattle.game_orders.specs.OrderEquality.{orders_decides};
     ghost use Rattle.std.specs.Cmp.{decided, partial_equiv_from_equiv};
 
     ghost eq = { same_orders };
@@ -212,7 +212,7 @@ impl PartialEq for Orders {
 
 impl Eq for Orders {
     ghost use Rattle.game_orders.specs.Order.{same_orders};
-    ghost use Rattle.game_orders.proofs.OrderLemmas.{orders_decides};
+    ghost use Rattle.game_orders.specs.OrderEquality.{orders_decides};
     ghost use Rattle.std.specs.Cmp.{decided};
 
     ghost laws = { decided same_orders orders_decides };

@@ -7,7 +7,7 @@ use Rattle.std.proofs.lemmas.List.Elements.{All-nil, All-push}
 use Rattle.std.proofs.lemmas.List.Quantifiers.{all_pairs_push}
 use Rattle.world_units.specs.declared.cell.CPos.{CPos}
 use Rattle.world_units.specs.Cells.{same_cell}
-use Rattle.world_units.proofs.CellLemmas.{cell_decides}
+use Rattle.world_units.specs.CellEquality.{cell_decides}
 use Rattle.rule_traits.specs.declared.kind.Kind.{Kind}
 use Rattle.rule_traits.specs.Rules.{kind_at}
 use Rattle.game_model.specs.declared.actor.Actor.{Actor}

@@ -10,7 +10,7 @@ use Rattle.world_units.specs.declared.direction.TheConstants.{DIRECTIONS}
 use Rattle.world_units.specs.declared.cell.CPos.{CPos}
 use Rattle.world_units.specs.Cells.{same_cell}
 use Rattle.world_units.specs.Directions.{step_of}
-use Rattle.world_units.proofs.CellLemmas.{cell_decides}
+use Rattle.world_units.specs.CellEquality.{cell_decides}
 use Rattle.rule_traits.specs.declared.kind.Kind.{Kind}
 use Rattle.game_model.specs.declared.actor.Actor.{Actor}
 use Rattle.game_model.specs.declared.map.Map.{Map}

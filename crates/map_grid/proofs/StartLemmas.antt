@@ -19,7 +19,7 @@ use Rattle.yaml_lines.specs.Trees.{Trees}
 use Rattle.world_units.specs.declared.angle.TheConstants.{FULL_TURN}
 use Rattle.world_units.specs.declared.cell.CPos.{CPos}
 use Rattle.world_units.specs.Cells.{same_cell}
-use Rattle.world_units.proofs.CellLemmas.{cell_decides}
+use Rattle.world_units.specs.CellEquality.{cell_decides}
 use Rattle.game_orders.specs.declared.limits.TheConstants.{MAX_CLIENTS}
 use Rattle.game_model.specs.Grid.{IsOn, is_on}
 use Rattle.game_model.specs.ValidMap.{IsOwner}

@@ -12,7 +12,7 @@ use Rattle.game_orders.specs.declared.entry.Entry.{Entry as one_entry}
 use Rattle.game_orders.specs.declared.entry.Entry.TheVariants.{Play, Leave}
 use Rattle.game_orders.specs.declared.limits.TheConstants.{MAX_FRAMES}
 use Rattle.game_orders.specs.Entry.{is_play, same_entry}
-use Rattle.game_orders.proofs.EntryLemmas.{entry_decides}
+use Rattle.game_orders.specs.EntryEquality.{entry_decides}
 use Rattle.frame_core.specs.declared.ready.Ready.{Ready}
 use Rattle.frame_core.specs.declared.ready.Ready.TheVariants as ready
 use Rattle.frame_core.specs.Input.{ready_from}

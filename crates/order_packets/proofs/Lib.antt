@@ -2,4 +2,3 @@ pub mod FeedLemmas
 pub mod FirstLemmas
 pub mod PacketLemmas
 pub mod StreamLemmas
-pub mod UpLemmas

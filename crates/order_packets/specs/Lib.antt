@@ -3,3 +3,4 @@ pub mod PacketBytes
 pub mod PacketReading
 pub mod First
 pub mod Feed
+pub mod UpEquality

@@ -55,7 +55,7 @@ impl Up {
 
 impl PartialEq for Up {
     ghost use Rattle.order_packets.specs.Up.{same_up};
-    ghost use Rattle.order_packets.proofs.UpLemmas.{up_decides};
+    ghost use Rattle.order_packets.specs.UpEquality.{up_decides};
     ghost use Rattle.std.specs.Cmp.{decided, partial_equiv_from_equiv};
 
     ghost eq = { same_up };
@@ -93,7 +93,7 @@ impl PartialEq for Up {
 
 impl Eq for Up {
     ghost use Rattle.order_packets.specs.Up.{same_up};
-    ghost use Rattle.order_packets.proofs.UpLemmas.{up_decides};
+    ghost use Rattle.order_packets.specs.UpEquality.{up_decides};
     ghost use Rattle.std.specs.Cmp.{decided};
 
     ghost laws = { decided same_up up_decides };

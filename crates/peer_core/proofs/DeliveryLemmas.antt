@@ -11,7 +11,7 @@ use Rattle.std.proofs.lemmas.Option.{slice_get_cases}
 use Rattle.game_orders.specs.declared.order.Order.{Order}
 use Rattle.game_orders.specs.declared.entry.Entry.{Entry}
 use Rattle.game_orders.specs.declared.entry.Entry.TheVariants.{Play, Leave}
-use Rattle.game_orders.proofs.EntryLemmas.{entry_decides}
+use Rattle.game_orders.specs.EntryEquality.{entry_decides}
 use Rattle.frame_core.specs.Column.{Column, length_of, entry_from, entry_at, column_of}
 use Rattle.frame_core.specs.Column.{IsWithinFrames}
 use Rattle.peer_core.specs.declared.arrived.Arrived.{Arrived}

@@ -11,7 +11,7 @@ use Rattle.game_orders.specs.declared.entry.Entry.{Entry}
 use Rattle.game_orders.specs.declared.entry.Entry.TheVariants.{Play, Leave}
 use Rattle.game_orders.specs.declared.limits.TheConstants.{MAX_FRAMES}
 use Rattle.game_orders.specs.Entry.{is_play, same_entry}
-use Rattle.game_orders.proofs.EntryLemmas.{entry_decides}
+use Rattle.game_orders.specs.EntryEquality.{entry_decides}
 use Rattle.peer_core.specs.declared.arrived.Arrived.{Arrived}
 use Rattle.peer_core.specs.declared.delivered.Delivered.{Delivered}
 use Rattle.peer_core.specs.declared.delivered.Delivered.TheVariants.{Repeat, Conflict, Beyond}

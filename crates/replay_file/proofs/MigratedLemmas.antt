@@ -10,7 +10,7 @@ use Rattle.replay_file.specs.declared.replay.Replay.{Replay}
 use Rattle.replay_file.specs.declared.standing.Standing.{Standing}
 use Rattle.replay_file.proofs.EntriesLemmas.{entries_known}
 use Rattle.replay_file.specs.Frames.{frames_of, marks_after, marks_of, marked_anew}
-use Rattle.replay_file.specs.Migrated.{migrated}
+use Rattle.replay_file.specs.Migrated.{anew, migrated}
 use Rattle.replay_file.specs.PartRules.{after_part, opening, EachMayFollow}
 use Rattle.replay_file.proofs.SoFarLemmas.{few_frames}
 use Rattle.replay_file.specs.ValidReplay.{IsValidReplay}
@@ -53,9 +53,6 @@ frames_anew hash_after frames (Mark hash ∷ parts) = frames_anew hash_after fra
 pub migrated_frames : (hash_after : ℕ → ℕ) (r : Replay) →
     frames_of (migrated hash_after r).parts ≡ frames_of r.parts
 migrated_frames hash_after r = frames_anew hash_after 0 r.parts
-
-abbrev pub anew : (ℕ → ℕ) → ℕ × ℕ → ℕ × ℕ
-anew hash_after mark = (mark.0, hash_after mark.0)
 
 marks_anew : (hash_after : ℕ → ℕ) (frames : ℕ) (parts : List Part) →
     marks_after frames (marked_anew hash_after frames parts)

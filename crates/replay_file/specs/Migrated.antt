@@ -15,3 +15,7 @@ migrated hash_after r =
       clients = r.clients;
       parts = marked_anew hash_after 0 r.parts;
     }
+
+-- A mark with its new hash.
+abbrev pub anew : (ℕ → ℕ) → ℕ × ℕ → ℕ × ℕ
+anew hash_after mark = (mark.0, hash_after mark.0)

@@ -5,7 +5,7 @@ use Rattle.std.specs.List.{fold}
 use Rattle.std.proofs.lemmas.Bool.{cases_lt}
 use Rattle.world_units.specs.declared.cell.CPos.{CPos}
 use Rattle.world_units.specs.Cells.{same_cell}
-use Rattle.world_units.proofs.CellLemmas.{cell_decides}
+use Rattle.world_units.specs.CellEquality.{cell_decides}
 use Rattle.world_units.specs.Directions.{step_of}
 use Rattle.game_model.specs.Walks.{Land, IsStep, IsWalk, IsDistance, HasNoWalk, step_cost_of}
 use Rattle.game_model.specs.BestDirection.{directions, lesser, least_of, by_step_cost, by_step, by_direction, least_within}

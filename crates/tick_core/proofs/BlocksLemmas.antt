@@ -9,7 +9,7 @@ use Rattle.std.proofs.lemmas.Option.{get_or_from_slice_get, slice_get_within}
 use Rattle.std.proofs.Common.{get_or}
 use Rattle.world_units.specs.declared.cell.CPos.{CPos}
 use Rattle.world_units.specs.Cells.{same_cell}
-use Rattle.world_units.proofs.CellLemmas.{cell_decides}
+use Rattle.world_units.specs.CellEquality.{cell_decides}
 use Rattle.rule_traits.specs.declared.kind.Kind.{Kind}
 use Rattle.game_model.specs.declared.actor.Actor.{Actor}
 use Rattle.game_model.specs.Buildings.{has_building, is_building}

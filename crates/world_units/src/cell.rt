@@ -13,7 +13,7 @@ pub struct CPos {
 impl PartialEq for CPos {
     ghost use Rattle.std.specs.Cmp.{decided, partial_equiv_from_equiv};
     ghost use Rattle.world_units.specs.Cells.{same_cell};
-    ghost use Rattle.world_units.proofs.CellLemmas.{cell_decides};
+    ghost use Rattle.world_units.specs.CellEquality.{cell_decides};
 
     ghost eq = { same_cell };
 
@@ -27,7 +27,7 @@ impl PartialEq for CPos {
 impl Eq for CPos {
     ghost use Rattle.std.specs.Cmp.{decided};
     ghost use Rattle.world_units.specs.Cells.{same_cell};
-    ghost use Rattle.world_units.proofs.CellLemmas.{cell_decides};
+    ghost use Rattle.world_units.specs.CellEquality.{cell_decides};
 
     ghost laws = { decided same_cell cell_decides };
 }

@@ -1,6 +1,6 @@
 use Rattle.std.proofs.Common.{◌≡◌, true, false}
 use Rattle.world_units.specs.Cells.{same_cell}
-use Rattle.world_units.proofs.CellLemmas.{cell_decides}
+use Rattle.world_units.specs.CellEquality.{cell_decides}
 use Rattle.game_model.specs.Walks.{land_of}
 use Rattle.rule_commands.proofs.RouteLemmas.{at_goal_none, walk_is}
 use Rattle.rule_commands.proofs.routes.find_route.Goals as goal

@@ -4,7 +4,7 @@ use Rattle.std.specs.Bool.{Decides}
 use Rattle.std.proofs.Common.{refl, ap}
 use Rattle.game_orders.specs.declared.entry.Entry.{Entry}
 use Rattle.game_orders.specs.declared.entry.Entry.TheVariants.{Play, Leave}
-use Rattle.game_orders.proofs.OrderLemmas.{orders_decides}
+use Rattle.game_orders.specs.OrderEquality.{orders_decides}
 use Rattle.game_orders.specs.Entry.{same_entry}
 
 pub entry_decides : (a b : Entry) → Decides (same_entry a b) (a ≡ b)

@@ -4,7 +4,7 @@ use Rattle.std.specs.Bool.{Decides}
 use Rattle.std.proofs.Common.{refl, ap₂}
 use Rattle.std.proofs.lemmas.Bool.Decides.{Decides-and, Decides-eqb}
 use Rattle.game_orders.specs.Order.{same_orders}
-use Rattle.game_orders.proofs.OrderLemmas.{orders_decides}
+use Rattle.game_orders.specs.OrderEquality.{orders_decides}
 use Rattle.order_packets.specs.declared.up.Up.{Up}
 use Rattle.order_packets.specs.declared.up.Up.TheVariants.{Hello, Orders, Sync, Bye}
 use Rattle.order_packets.specs.Up.{same_up}
