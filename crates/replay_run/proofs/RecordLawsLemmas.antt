@@ -14,7 +14,8 @@ use Rattle.replay_file.specs.declared.part.Part.{Part}
 use Rattle.replay_file.specs.declared.part.Part.TheVariants.{Frame, Mark}
 use Rattle.replay_file.specs.declared.replay.Replay.{Replay}
 use Rattle.replay_file.specs.Frames.{frames_of, marks_after, marks_of}
-use Rattle.replay_file.proofs.MigratedLemmas.{anew, migrated_frames, migrated_marks}
+use Rattle.replay_file.specs.Migrated.{anew}
+use Rattle.replay_file.proofs.MigratedLemmas.{migrated_frames, migrated_marks}
 use Rattle.replay_run.specs.declared.difference.Difference.{Difference}
 use Rattle.replay_run.specs.RecordLaws.{AllAgree, IsLeastDifference, agreed_replayed, rerun_of}
 use Rattle.replay_run.specs.Recording.{hash_after_frame, recorded, replay_of}
